@@ -1,0 +1,10 @@
+-- What the crate's contracts cite, each file a rule of document 01.
+pub mod Refusal
+pub mod Outcome
+pub mod Division
+pub mod Note
+pub mod Pitch
+pub mod Powers
+pub mod Measure
+pub mod Nearest
+pub mod Answers

@@ -1,0 +1,28 @@
+// Division of a signed number by an unsigned one, rounded down.
+
+ghost use mathlib.Core.Path.{_≡_};
+ghost use Prim.Native.Nat.{_<_};
+ghost use Rattle.arithmetic.specs.Division.{quotient, remainder};
+
+// The quotient, rounded down. The machine's quotient is cut toward zero, one too high where a negative number leaves a rest.
+pub(crate) fn i32_div_u(numer: i32, denom: u32) -> i32
+    requires { ⌜ 0 < denom ⌝ }
+    ensures { λ r. ⌜ r ≡ quotient numer denom ⌝ }
+{
+    let n = numer as i64;
+    let d = denom as i64;
+    let cut = n / d;
+    let down = if n % d < 0 { cut - 1 } else { cut };
+    down as i32
+}
+
+// The remainder, from 0 to denom - 1. The machine's remainder has the sign of `numer`.
+pub(crate) fn i32_rem_u(numer: i32, denom: u32) -> u32
+    requires { ⌜ 0 < denom ⌝ }
+    ensures { λ r. ⌜ r ≡ remainder numer denom ⌝ }
+{
+    let d = denom as i64;
+    let rest = numer as i64 % d;
+    let up = if rest < 0 { rest + d } else { rest };
+    up as u32
+}

@@ -1,0 +1,212 @@
+// The usual tuning, twelve equal semitones to an octave and A4 at 440 Hz: the pitch of a note, and the note nearest to a pitch.
+
+ghost use mathlib.Core.Path.{_≡_};
+ghost use mathlib.Core.Bool.{true};
+ghost use Prim.Native.Nat.{_<_};
+ghost use lib.IntN.{pos, negsuc, _+ℤ_};
+ghost use lib.Signed.{_≤ℤ_};
+ghost use mir.Syntax.{w32};
+ghost use mir.Val.{SFits};
+ghost use Rattle.arithmetic.specs.Note.{isNote};
+ghost use Rattle.arithmetic.specs.Pitch.{octavePitch, factor, pitchOf, pitchRule, detuningRule};
+ghost use Rattle.arithmetic.specs.Nearest.{semitones, nearestRule};
+ghost use Rattle.arithmetic.specs.Answers.{pitchAnswer, ratioAnswer, approximation};
+use crate::math::i32_div_u;
+use crate::math::i32_rem_u;
+use crate::note::A4;
+use crate::note::is_note;
+use crate::pitch::Measured;
+use crate::pitch::Pitch;
+use crate::pitch::Ratio;
+use crate::refusal::NOTE_OUT_OF_RANGE;
+use crate::refusal::PITCH_OUT_OF_RANGE;
+
+pub enum PitchAnswer {
+    Hz(f64),
+    // 4.
+    Refused(u8),
+}
+
+pub enum RatioAnswer {
+    Value(f64),
+    // 1 or 4.
+    Refused(u8),
+}
+
+// The note nearest to a pitch, and the ratio of the pitch to the note's.
+pub enum Approximation {
+    Nearest(i32, f64),
+    // 1.
+    Refused(u8),
+}
+
+const A4_HZ: f64 = 440.0;
+
+// Half a semitone in steps of the measure times 12.
+const HALF_SEMITONE: i64 = 8388608;
+
+// A pitch so little above the middle of two notes goes to the lower one: 1.000001 as a ratio.
+const ROUND_TO_LOWER_STEP: i64 = 290;
+
+// 440 Hz times 2^j, j from -31 to 35.
+const OCTAVE_PITCHES: [f64; 67] = [
+    2.0489096641540527e-07,
+    4.0978193283081055e-07,
+    8.195638656616211e-07,
+    1.6391277313232422e-06,
+    3.2782554626464844e-06,
+    6.556510925292969e-06,
+    1.3113021850585938e-05,
+    2.6226043701171875e-05,
+    5.245208740234375e-05,
+    0.0001049041748046875,
+    0.000209808349609375,
+    0.00041961669921875,
+    0.0008392333984375,
+    0.001678466796875,
+    0.00335693359375,
+    0.0067138671875,
+    0.013427734375,
+    0.02685546875,
+    0.0537109375,
+    0.107421875,
+    0.21484375,
+    0.4296875,
+    0.859375,
+    1.71875,
+    3.4375,
+    6.875,
+    13.75,
+    27.5,
+    55.0,
+    110.0,
+    220.0,
+    440.0,
+    880.0,
+    1760.0,
+    3520.0,
+    7040.0,
+    14080.0,
+    28160.0,
+    56320.0,
+    112640.0,
+    225280.0,
+    450560.0,
+    901120.0,
+    1802240.0,
+    3604480.0,
+    7208960.0,
+    14417920.0,
+    28835840.0,
+    57671680.0,
+    115343360.0,
+    230686720.0,
+    461373440.0,
+    922746880.0,
+    1845493760.0,
+    3690987520.0,
+    7381975040.0,
+    14763950080.0,
+    29527900160.0,
+    59055800320.0,
+    118111600640.0,
+    236223201280.0,
+    472446402560.0,
+    944892805120.0,
+    1889785610240.0,
+    3779571220480.0,
+    7559142440960.0,
+    15118284881920.0,
+];
+
+// R[k]: the factors of 0 to 11 semitones.
+const SEMITONE_FACTORS: [f64; 12] = [
+    1.0,
+    1.0594630943592953,
+    1.122462048309373,
+    1.189207115002721,
+    1.2599210498948732,
+    1.3348398541700344,
+    1.4142135623730951,
+    1.4983070768766815,
+    1.5874010519681996,
+    1.681792830507429,
+    1.7817974362806785,
+    1.887748625363387,
+];
+
+// The pitch of a note, in Hz. Refuses 4.
+pub fn pitch_of(note: i32) -> PitchAnswer
+    ensures { λ r. ⌜ pitchAnswer r ≡ pitchRule note ⌝ }
+{
+    if !is_note(note) {
+        return PitchAnswer::Refused(NOTE_OUT_OF_RANGE);
+    }
+    PitchAnswer::Hz(note_pitch(note).as_hz())
+}
+
+// The ratio of a pitch to a note's. Refuses 1, then 4.
+pub fn detuning(pitch: Pitch, note: i32) -> RatioAnswer
+    ensures { λ r. ⌜ ratioAnswer r ≡ detuningRule (pitch .hz) note ⌝ }
+{
+    if !pitch.is_in_range() {
+        return RatioAnswer::Refused(PITCH_OUT_OF_RANGE);
+    }
+    if !is_note(note) {
+        return RatioAnswer::Refused(NOTE_OUT_OF_RANGE);
+    }
+    RatioAnswer::Value(Ratio::between_pitches(note_pitch(note), pitch).as_float())
+}
+
+// The nearest note, by the measure of the ratio to A4, and the ratio to its pitch. Refuses 1.
+pub fn find_by_pitch(pitch: Pitch) -> Approximation
+    ensures { λ r. ⌜ approximation r ≡ nearestRule (pitch .hz) ⌝ }
+{
+    if !pitch.is_in_range() {
+        return Approximation::Refused(PITCH_OUT_OF_RANGE);
+    }
+    let above_a4 = Ratio::between_pitches(Pitch::from_hz(A4_HZ), pitch);
+    let Measured::Measure(l) = above_a4.measure() else {
+        // A pitch over 440 Hz is always measured.
+        return Approximation::Refused(PITCH_OUT_OF_RANGE);
+    };
+    let note = A4 + semitones(l);
+    let deviation = Ratio::between_pitches(note_pitch(note), pitch);
+    Approximation::Nearest(note, deviation.as_float())
+}
+
+// How many semitones above A4 the nearest note is, from the measure of the ratio to A4. The shift rounds down.
+fn semitones(l: i64) -> i32
+    requires { ⌜ SFits w32 l ⌝ }
+    ensures { λ r. ⌜ r ≡ semitones l ⌝ }
+{
+    ((l * 12 + HALF_SEMITONE - ROUND_TO_LOWER_STEP) >> 24) as i32
+}
+
+// The pitch of a note: that of A4, moved by whole octaves and then by up to 11 semitones.
+fn note_pitch(note: i32) -> Pitch
+    requires { ⌜ isNote note ≡ true ⌝ }
+    ensures { λ r. ⌜ r .hz ≡ pitchOf note ⌝ }
+{
+    let above_a4 = note - A4;
+    let octaves = i32_div_u(above_a4, 12);
+    let semitones = i32_rem_u(above_a4, 12);
+    Pitch::from_hz(octave_pitch(octaves) * semitone_factor(semitones))
+}
+
+// 440 Hz times 2^j.
+fn octave_pitch(j: i32) -> f64
+    requires { ⌜ (negsuc 30 ≤ℤ j) × (j ≤ℤ pos 35) ⌝ }
+    ensures { λ r. ⌜ r ≡ octavePitch j ⌝ }
+{
+    let at = (j + 31) as usize;
+    OCTAVE_PITCHES[at]
+}
+
+fn semitone_factor(k: u32) -> f64
+    requires { ⌜ k < 12 ⌝ }
+    ensures { λ r. ⌜ r ≡ factor k ⌝ }
+{
+    let at = k as usize;
+    SEMITONE_FACTORS[at]
+}
