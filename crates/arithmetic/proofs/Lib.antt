@@ -12,3 +12,5 @@ pub mod Scaled
 pub mod Fields
 pub mod Steps
 pub mod Nearest
+pub mod Octaves
+pub mod Refusals
