@@ -94,6 +94,11 @@ pub mul-parts : (a : ℤ) (n : ℕ) → plus (a *ℤ pos n) + less a * n ≡ les
 mul-parts (pos a) n = omega (arith, zero-mul n)
 mul-parts (negsuc a) n = omega (arith, neg-parts (pos (suc a * n)), zero-mul n)
 
+-- only one part of an integer is not 0
+pub one-sided : (z : ℤ) (a b : ℕ) → plus z ≤ less z + a → less z ≤ plus z + b → (plus z ≤ a) × (less z ≤ b)
+one-sided (pos n) a b h k = (let l : n ≤ a = omega arith in l, zero-le)
+one-sided (negsuc n) a b h k = (zero-le, let l : suc n ≤ b = omega arith in l)
+
 -- from its parts, an integer lies between two
 pub between-parts : (a b : ℕ) (z : ℤ) → plus z ≤ a → less z ≤ suc b → (negsuc b ≤ℤ z) × (z ≤ℤ pos a)
 between-parts a b (pos n) h k = (leZ-yes tt, leZ-yes (le→leb n a h))

@@ -10,6 +10,7 @@ pub mod Bounds
 pub mod Measure
 pub mod Scaled
 pub mod Fields
+pub mod Range
 pub mod Steps
 pub mod Nearest
 pub mod Octaves

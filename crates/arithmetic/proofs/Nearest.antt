@@ -30,7 +30,7 @@ use Rattle.arithmetic.proofs.Steps.{two-side, value-side, nearest-law}
 use Rattle.arithmetic.proofs.Measure.{measure-law}
 use Rattle.arithmetic.proofs.FloatDivision.{div-mono}
 use Rattle.arithmetic.proofs.Bounds.{pitch-positive, detuning-positive}
-use Rattle.arithmetic.proofs.Integers.{plus, less, same, add-parts, sub-parts-ℤ, mul-parts, small-by, small-parts, fits-parts, fits-by, between-parts}
+use Rattle.arithmetic.proofs.Integers.{plus, less, same, add-parts, sub-parts-ℤ, mul-parts, small-by, small-parts, fits-parts, fits-by, one-sided, between-parts}
 
 -- a number below 2 ^ 40 shifted by 24 places fits an i32
 shifted-fits : (z : ℤ) → mag z < 2 ^ 40 → SFits w32 (quotient z (2 ^ 24))
@@ -124,17 +124,6 @@ module _ (x : Float) (h : T (isPitch x)) where
 
   pub ratio-positive : T (positive (overA4 x))
   ratio-positive = between lowRatio (overA4 x) highRatio (low-ratio .0) (high-ratio .0) at-low at-high
-
--- only one part of an integer is not 0
-one-sided : (z : ℤ) (a b : ℕ) → plus z ≤ less z + a → less z ≤ plus z + b → (plus z ≤ a) × (less z ≤ b)
-one-sided (pos n) a b h k = (h', zero-le)
-  where
-    h' : n ≤ a
-    h' = omega arith
-one-sided (negsuc n) a b h k = (zero-le, k')
-  where
-    k' : suc n ≤ b
-    k' = omega arith
 
 -- the measure of a pitch over 440, from the measure's law
 pub measure-range : (x : Float) → T (isPitch x) → (plus (measure (overA4 x)) ≤ 524287999) × (less (measure (overA4 x)) ≤ 482944148)
