@@ -1,0 +1,4 @@
+-- Laws of the definitions, and the theorems about them.
+pub mod Arrays
+pub mod Pigeonhole
+pub mod ChannelLists

@@ -1,0 +1,3 @@
+-- What the crate's contracts cite, each file a rule of document 01.
+pub mod Entries
+pub mod ChannelList
