@@ -2,3 +2,7 @@
 pub mod Arrays
 pub mod Pigeonhole
 pub mod ChannelLists
+pub mod Queues
+pub mod Tables
+pub mod HeldKeys
+pub mod Pools

@@ -23,6 +23,11 @@ listFrom before (c ∷ cs) =
 unfoldable pub listRule : List ℕ → Outcome (List ℕ)
 listRule cs = listFrom [] cs
 
+-- The channels present: a model or tuner that is opened with a refused list has none.
+abbrev pub present : Outcome (List ℕ) → List ℕ
+present (value cs) = cs
+present (refused n) = []
+
 -- The entries as they are stored: at most sixteen digits to base 16, entry 0 the lowest, so that each is a MIDI channel.
 unfoldable pub digits : ℕ → ℕ → List ℕ
 digits zero x = []

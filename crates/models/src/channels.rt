@@ -4,7 +4,7 @@ ghost use mathlib.Core.Path.{_≡_};
 ghost use mathlib.Core.List.{[]};
 ghost use Prim.Native.Nat.{ℕ, _≤_, _<_};
 ghost use lib.ListN.{length, getD, getElem?};
-ghost use Rattle.models.specs.ChannelList.{entries, listRule, channelsAnswer, entryAnswer};
+ghost use Rattle.models.specs.ChannelList.{entries, listRule, present, channelsAnswer, entryAnswer};
 use crate::lists::listed;
 use arithmetic::refusal::CHANNEL_OVER_15;
 use arithmetic::refusal::CHANNEL_TWICE;
@@ -32,6 +32,16 @@ pub enum EntryAnswer {
     Channel(u8),
     // The list is shorter.
     NoEntry,
+}
+
+// The channels present: the entries listed, and none where the list was refused.
+pub(crate) fn present(answer: ChannelsAnswer) -> ChannelList
+    ensures { λ r. ⌜ entries r ≡ present (channelsAnswer answer) ⌝ }
+{
+    match answer {
+        ChannelsAnswer::Listed(list) => list,
+        ChannelsAnswer::Refused(_) => ChannelList::none(),
+    }
 }
 
 impl ChannelList {

@@ -1,3 +1,6 @@
 // Models over arithmetic's contracts (document 01): channel lists, and pools of channels handed out while somebody plays.
 pub mod channels;
+pub mod jit;
+pub mod keys;
 mod lists;
+pub mod queue;
