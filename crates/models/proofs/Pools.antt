@@ -1,19 +1,22 @@
 -- Laws of the pool rules where a function of `jit` stands. Assumes nothing.
 use Prim.Native.Nat.{ℕ, _+_, _<_}
 use mathlib.Core.Path.{_≡_, refl, sym, ap, _∙_}
-use mathlib.Core.Bool.{Bool, true, false, not}
+use mathlib.Core.Bool.{Bool, true, false, not, true≢false}
 use mathlib.Core.Option.{Option, some, none}
-use mathlib.Core.Logic.{_≢_}
+use mathlib.Core.Logic.{_≢_, inl, inr}
 use native.Mathlib.Omega.{arith}
 use lib.IntN.{ℤ, pos, negsuc}
 use lib.Ieee.{Float}
 use lib.ListN.{length, getD, drop}
 use lib.Seq.{getD-set-other}
 use Rattle.arithmetic.specs.Outcome.{Outcome, value, refused, refuse_unless_then_}
-use Rattle.arithmetic.specs.Division.{remainder}
+use Rattle.arithmetic.specs.Refusal.{pitchOutOfRange, noteOutOfRange}
 use Rattle.arithmetic.specs.Note.{isNote, letterOf, letterRule}
 use Rattle.arithmetic.specs.Pitch.{isPitch, detuningOf, detuningRule}
 use Rattle.arithmetic.specs.Nearest.{nearestNote, nearestRule}
+use Rattle.arithmetic.proofs.Outcomes.{no-value}
+use Rattle.arithmetic.proofs.Notes.{letter-below}
+use Rattle.arithmetic.proofs.Refusals.{letter-refuses, detuning-refuses}
 use Rattle.models.specs.Entries.{first}
 use Rattle.models.specs.Pool.{Place, State, Held, poolCount, poolOf, pool, found, withPool, withKey, freed, forgotten, released, releasedFrom, releasedAll, heldAt, oldestOf, oldest, Room, room, madeRoom, roomFor, accepted, rejected, taken, pressed, pressedOn, heldFrom}
 use Rattle.models.specs.View.{records, view}
@@ -25,31 +28,32 @@ use Rattle.models.specs.declared.jit.JitTuningModel.{JitTuningModel}
 use Rattle.models.proofs.Tables.{records-note}
 use Rattle.models.proofs.HeldKeys.{held-here, held-not}
 
--- ---- the pool of a note
+-- ---- what a call's value says of a rule
 
-pub letter-small : (z : ℤ) → letterOf z < 12
-unfolding remainder
-letter-small (pos n) = omega arith
-letter-small (negsuc n) = omega arith
+pub value-by : {A : Type 0} (k : ℕ) (a : A) (test : Bool) (o : Outcome A) → value a ≡ (refuse k unless test then o) → (test ≡ true) × (value a ≡ o)
+value-by k a true o e = (refl, e)
+value-by k a false o e = no-value a k e
+
+-- ---- the pool of a note
 
 pub pool-small : (g : PoolGroupBy) (z : ℤ) → poolOf g z < poolCount g
 unfolding poolOf poolCount
-pool-small NoteLetter z = letter-small z
+pool-small NoteLetter z = letter-below z
 pool-small Channel z = omega arith
 
 pub pools-few : (g : PoolGroupBy) (z : ℤ) → poolOf g z < 12
 unfolding poolOf
-pools-few NoteLetter z = letter-small z
+pools-few NoteLetter z = letter-below z
 pools-few Channel z = omega arith
 
+-- a note has its letter
 module _ (z : ℤ) (is : isNote z ≡ true) (n : ℕ) where
   pub letter-is : value n ≡ letterRule z → n ≡ letterOf z
   unfolding letterRule
-  letter-is e = let f : value n ≡ value (letterOf z) = rw is at e in cc
+  letter-is e = let f = value-by noteOutOfRange n (isNote z) (value (letterOf z)) e .1 in cc
 
   pub letter-not : refused n ≡ letterRule z → ⊥
-  unfolding letterRule
-  letter-not e = let f : refused n ≡ value (letterOf z) = rw is at e in let w : _≡_ {A = ℕ} 0 1 = cc in omega arith
+  letter-not e = true≢false (sym is ∙ letter-refuses z n .0 (sym e) .0)
 
 -- ---- a found key's note is a note, in every model
 
@@ -135,28 +139,27 @@ not-false false e = sym e
 -- ---- the nearest note, and a pitch with a note
 
 module _ (hz : Float) where
-  pub nearest-is : (n : ℤ) (d : Float) → value (n, d) ≡ nearestRule hz → (isPitch hz ≡ true) × (n ≡ nearestNote hz) × (d ≡ detuningOf hz (nearestNote hz))
+  pub nearest-is : (n : ℤ) (d : Float) → _≡_ {A = Outcome (ℤ × Float)} (value (n, d)) (nearestRule hz)
+      → (isPitch hz ≡ true) × (n ≡ nearestNote hz) × (d ≡ detuningOf hz (nearestNote hz))
   unfolding nearestRule
-  nearest-is n d = go (isPitch hz) refl
-    where
-      go : (b : Bool) → isPitch hz ≡ b → _≡_ {A = Outcome (ℤ × Float)} (value (n, d)) (refuse 1 unless b then value (nearestNote hz, detuningOf hz (nearestNote hz)))
-          → (isPitch hz ≡ true) × (n ≡ nearestNote hz) × (d ≡ detuningOf hz (nearestNote hz))
-      go true p e = let same : _≡_ {A = ℤ × Float} (n, d) (nearestNote hz, detuningOf hz (nearestNote hz)) = cc in (p, ap (λ x. x .0) same, ap (λ x. x .1) same)
-      go false p e = absurd (let w : _≡_ {A = ℕ} 0 1 = cc in omega arith)
-
-  pub nearest-not : (n : ℕ) → refused n ≡ nearestRule hz → (isPitch hz ≡ false) × (n ≡ 1)
-  unfolding nearestRule
-  nearest-not n = go (isPitch hz) refl
-    where
-      go : (b : Bool) → isPitch hz ≡ b → _≡_ {A = Outcome (ℤ × Float)} (refused n) (refuse 1 unless b then value (nearestNote hz, detuningOf hz (nearestNote hz))) → (isPitch hz ≡ false) × (n ≡ 1)
-      go true p e = absurd (let w : _≡_ {A = ℕ} 0 1 = cc in omega arith)
-      go false p e = (p, cc)
+  nearest-is n d e =
+      let nearest : ℤ × Float = (nearestNote hz, detuningOf hz (nearestNote hz)) in
+      let f = value-by pitchOutOfRange (n, d) (isPitch hz) (value nearest) e in
+      let g = f .1 in
+      let same : _≡_ {A = ℤ × Float} (n, d) nearest = cc in
+      (f .0, ap (λ (x : ℤ × Float). x .0) same, ap (λ (x : ℤ × Float). x .1) same)
 
   module _ (z : ℤ) (pitch : isPitch hz ≡ true) (note : isNote z ≡ true) where
     pub detuning-is : (d : Float) → value d ≡ detuningRule hz z → d ≡ detuningOf hz z
     unfolding detuningRule
-    detuning-is d e = let f : value d ≡ value (detuningOf hz z) = rw (pitch, note) at e in cc
+    detuning-is d e =
+        let f = value-by pitchOutOfRange d (isPitch hz) (refuse noteOutOfRange unless isNote z then value (detuningOf hz z)) e .1 in
+        let g = value-by noteOutOfRange d (isNote z) (value (detuningOf hz z)) f .1 in
+        cc
 
     pub detuning-not : (n : ℕ) → refused n ≡ detuningRule hz z → ⊥
-    unfolding detuningRule
-    detuning-not n e = let f : refused n ≡ value (detuningOf hz z) = rw (pitch, note) at e in let w : _≡_ {A = ℕ} 0 1 = cc in omega arith
+    detuning-not n e =
+        elim (detuning-refuses hz z n .0 (sym e)) [
+          | inl h ↦ true≢false (sym pitch ∙ h .0)
+          | inr h ↦ true≢false (sym note ∙ h .1 .0)
+        ]

@@ -11,15 +11,6 @@ ghost use Rattle.models.specs.Entries.{range, first};
 ghost use Rattle.models.specs.ChannelList.{entries};
 ghost use Rattle.models.specs.Pool.{poolCount, poolOf, fresh, pool, found, takenIn, freedIn, withPool, freed, forgotten, oldest, roomFor, madeRoom, taken, pressed, released, heldKeys, stopped, replied, unlessHeld, registerRule, repitchRule, openRule};
 ghost use Rattle.models.specs.View.{place, nextHeld, poolView, view, old, roomView, told, repitched, opened};
-use arithmetic::note::LetterAnswer;
-use arithmetic::note::letter;
-use arithmetic::pitch::Pitch;
-use arithmetic::refusal::KEY_HELD;
-use arithmetic::refusal::PITCH_OUT_OF_RANGE;
-use arithmetic::tuning::Approximation;
-use arithmetic::tuning::RatioAnswer;
-use arithmetic::tuning::detuning;
-use arithmetic::tuning::find_by_pitch;
 use crate::channels::ChannelList;
 use crate::channels::ChannelsAnswer;
 use crate::channels::present;
@@ -29,6 +20,15 @@ use crate::keys::Keys;
 use crate::keys::NextKey;
 use crate::queue::Front;
 use crate::queue::Queue;
+use arithmetic::note::LetterAnswer;
+use arithmetic::note::letter;
+use arithmetic::pitch::Pitch;
+use arithmetic::refusal::KEY_HELD;
+use arithmetic::refusal::PITCH_OUT_OF_RANGE;
+use arithmetic::tuning::Approximation;
+use arithmetic::tuning::RatioAnswer;
+use arithmetic::tuning::detuning;
+use arithmetic::tuning::find_by_pitch;
 
 // Which notes share a pool: those of a letter, or all. (Rust's `GroupBy` without pools for single notes.)
 pub enum PoolGroupBy {
@@ -225,7 +225,11 @@ impl JitTuningModel {
         self.channels.len()
     }
 
-    fn fresh(channels: ChannelList, group_by: PoolGroupBy, pooling_mode: PoolingMode) -> JitTuningModel
+    fn fresh(
+        channels: ChannelList,
+        group_by: PoolGroupBy,
+        pooling_mode: PoolingMode,
+    ) -> JitTuningModel
         ensures { λ r. ⌜ view r ≡ fresh (entries channels) «group_by» «pooling_mode» ⌝ }
     {
         let pool = JitPool::new(channels.len());

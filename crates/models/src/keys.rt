@@ -106,8 +106,7 @@ impl Keys {
             if let AccessKeyResult::Found {
                 channel,
                 found_note,
-            } = found
-            {
+            } = found {
                 return NextKey::Held {
                     key: low,
                     channel,

@@ -3,6 +3,7 @@
 use arithmetic::note::MidiAnswer;
 use arithmetic::note::checked_midi_number;
 use arithmetic::pitch::Pitch;
+use libc::STDOUT_FILENO;
 use models::channels::ChannelsAnswer;
 use models::channels::EntryAnswer;
 use models::jit::JitTuningModel;
@@ -13,7 +14,6 @@ use models::jit::RepitchKeyResult;
 use models::jit::StoppedNote;
 use models::keys::AccessKeyResult;
 use models::keys::NextKey;
-use libc::STDOUT_FILENO;
 
 fn say(text: &[u8]) {
     io::write_all(STDOUT_FILENO, text);
@@ -145,7 +145,12 @@ fn stop(model: JitTuningModel) -> JitTuningModel {
     model.stop()
 }
 
-fn open(name: &[u8], channels: &[u8], group_by: PoolGroupBy, pooling_mode: PoolingMode) -> JitTuningModel {
+fn open(
+    name: &[u8],
+    channels: &[u8],
+    group_by: PoolGroupBy,
+    pooling_mode: PoolingMode,
+) -> JitTuningModel {
     say(name);
     let opened = JitTuningModel::open(channels, group_by, pooling_mode);
     let answer = opened.answer;
@@ -164,11 +169,21 @@ fn open(name: &[u8], channels: &[u8], group_by: PoolGroupBy, pooling_mode: Pooli
 }
 
 fn examples() {
-    let model = open(b"example 11", &[4, 9], PoolGroupBy::Channel, PoolingMode::Block);
+    let model = open(
+        b"example 11",
+        &[4, 9],
+        PoolGroupBy::Channel,
+        PoolingMode::Block,
+    );
     let model = press(model, 1, 440.0);
     let model = release(model, 1);
     press(model, 2, 440.0);
-    let model = open(b"example 12", &[0, 1], PoolGroupBy::Channel, PoolingMode::Stop);
+    let model = open(
+        b"example 12",
+        &[0, 1],
+        PoolGroupBy::Channel,
+        PoolingMode::Stop,
+    );
     let model = press(model, 1, 440.0);
     let model = press(model, 2, 455.0);
     let model = press(model, 3, 880.0);
@@ -189,7 +204,12 @@ fn block() {
 }
 
 fn ignore() {
-    let model = open(b"ignore", &[0, 1], PoolGroupBy::Channel, PoolingMode::Ignore);
+    let model = open(
+        b"ignore",
+        &[0, 1],
+        PoolGroupBy::Channel,
+        PoolingMode::Ignore,
+    );
     let model = press(model, 1, 440.0);
     let model = press(model, 2, 450.0);
     let model = press(model, 3, 460.0);
@@ -214,14 +234,29 @@ fn letters() {
 fn no_channels() {
     let model = open(b"no channels", &[], PoolGroupBy::Channel, PoolingMode::Stop);
     press(model, 1, 440.0);
-    let model = open(b"refused channels", &[2, 16, 2], PoolGroupBy::NoteLetter, PoolingMode::Ignore);
+    let model = open(
+        b"refused channels",
+        &[2, 16, 2],
+        PoolGroupBy::NoteLetter,
+        PoolingMode::Ignore,
+    );
     press(model, 1, 440.0);
-    let model = open(b"repeated channels", &[2, 3, 2, 16], PoolGroupBy::Channel, PoolingMode::Block);
+    let model = open(
+        b"repeated channels",
+        &[2, 3, 2, 16],
+        PoolGroupBy::Channel,
+        PoolingMode::Block,
+    );
     press(model, 1, 440.0);
 }
 
 fn refusals() {
-    let model = open(b"refusals", &[0, 1], PoolGroupBy::Channel, PoolingMode::Stop);
+    let model = open(
+        b"refusals",
+        &[0, 1],
+        PoolGroupBy::Channel,
+        PoolingMode::Stop,
+    );
     let model = press(model, 1, 440.0);
     let model = press(model, 1, 440.0);
     let model = press(model, 1, 0.0);

@@ -6,7 +6,8 @@ use mir.Facts.{toZ-ofZ}
 use Rattle.arithmetic.specs.Note.{letterRule}
 use Rattle.arithmetic.specs.Answers.{letterAnswer}
 use Rattle.models.specs.Pool.{poolOf, poolCount}
-use Rattle.models.proofs.Pools.{letter-is, letter-not, letter-small}
+use Rattle.arithmetic.proofs.Notes.{letter-below}
+use Rattle.models.proofs.Pools.{letter-is, letter-not}
 use Rattle.models.proofs.jit.pool_of.Statement.{statement}
 use Rattle.models.proofs.jit.pool_of.Tie as tie
 
@@ -36,7 +37,7 @@ returns c =
     let n = c .before .n .given in
     let told = sym (ap letterAnswer (n .1)) ∙ c .before .before .before .letter .ensures ∙ ap letterRule (toZ-ofZ (start .fits .note)) in
     let is = letter-is (start .args .note) (start .pre) (n .0 .0) told in
-    (rw group is, rw (group, is) (letter-small (start .args .note)), rw is (letter-small (start .args .note)))
+    (rw group is, rw (group, is) (letter-below (start .args .note)), rw is (letter-below (start .args .note)))
 
 returns-2 : tie.Need-returns-2
 returns-2 c =
