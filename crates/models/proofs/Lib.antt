@@ -3,6 +3,10 @@ pub mod Arrays
 pub mod Pigeonhole
 pub mod ChannelLists
 pub mod Queues
-pub mod Tables
+pub mod KeyRecords
 pub mod HeldKeys
 pub mod Pools
+pub mod Times
+pub mod PoolSettings
+pub mod PoolInvariant
+pub mod PoolAnswers

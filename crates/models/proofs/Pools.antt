@@ -25,7 +25,7 @@ use Rattle.models.specs.declared.jit.PoolGroupBy.the-variants.{NoteLette
 use Rattle.models.specs.declared.jit.PoolingMode.{PoolingMode}
 use Rattle.models.specs.declared.jit.PoolingMode.the-variants.{Block, Stop, Ignore}
 use Rattle.models.specs.declared.jit.JitTuningModel.{JitTuningModel}
-use Rattle.models.proofs.Tables.{records-note}
+use Rattle.models.proofs.KeyRecords.{records-note}
 use Rattle.models.proofs.HeldKeys.{held-here, held-not}
 
 -- ---- what a call's value says of a rule

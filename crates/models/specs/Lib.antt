@@ -3,3 +3,4 @@ pub mod Entries
 pub mod ChannelList
 pub mod Pool
 pub mod View
+pub mod Recital

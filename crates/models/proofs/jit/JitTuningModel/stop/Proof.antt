@@ -7,7 +7,7 @@ use lib.ListN.{length, drop}
 use Rattle.models.specs.Pool.{keyCount, State, found, heldFrom, heldKeys, released, releasedAll, stopped}
 use Rattle.models.specs.View.{records, view}
 use Rattle.models.proofs.Arrays.{long-field}
-use Rattle.models.proofs.Tables.{records-long}
+use Rattle.models.proofs.KeyRecords.{records-long}
 use Rattle.models.proofs.HeldKeys.{held-past}
 use Rattle.models.proofs.Pools.{released-other, stop-turn}
 use Rattle.models.proofs.jit.JitTuningModel.stop.Statement.{statement}

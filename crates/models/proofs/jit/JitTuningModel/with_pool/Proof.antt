@@ -7,7 +7,7 @@ use mathlib.Core.List.{map}
 use mir.Facts.{toZ-ofZ}
 use Rattle.models.specs.Pool.{withPool, poolOf, poolCount}
 use Rattle.models.specs.View.{view, poolView}
-use Rattle.models.proofs.Tables.{map-set}
+use Rattle.models.proofs.KeyRecords.{map-set}
 use Rattle.models.proofs.jit.JitTuningModel.with_pool.Statement.{statement}
 use Rattle.models.proofs.jit.JitTuningModel.with_pool.Tie as tie
 

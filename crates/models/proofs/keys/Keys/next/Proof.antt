@@ -10,7 +10,7 @@ use mir.Syntax.{w32}
 use Rattle.models.specs.Entries.{first}
 use Rattle.models.specs.Pool.{keyCount, heldFrom}
 use Rattle.models.specs.View.{records, place, nextHeld}
-use Rattle.models.proofs.Tables.{records-long}
+use Rattle.models.proofs.KeyRecords.{records-long}
 use Rattle.models.proofs.HeldKeys.{held-here, held-not, held-past}
 use Rattle.models.proofs.keys.Keys.next.Statement.{statement}
 use Rattle.models.proofs.keys.Keys.next.Tie as tie
