@@ -10,3 +10,5 @@ pub mod Times
 pub mod PoolSettings
 pub mod PoolInvariant
 pub mod PoolAnswers
+pub mod PoolRefusals
+pub mod PoolExamples
