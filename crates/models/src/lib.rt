@@ -1,2 +1,7 @@
-// Plans, pools and the values in which a detuning is sent (document 01), over the contracts of `arithmetic`.
+// Models over arithmetic's contracts (document 01): channel lists, pools, and the values in which a detuning is sent.
+pub mod channels;
+pub mod jit;
+pub mod keys;
+mod lists;
+pub mod queue;
 pub mod steps;
