@@ -1,0 +1,89 @@
+-- Laws of `Put`, bytes put into a lent buffer one behind the other, and of `Steps`: the three ways a call ends. Assumes nothing.
+use mathlib.Core.Path.{_≡_, refl, sym, ap, _∙_}
+use mathlib.Core.List.{List, [], _∷_, _++_, append-assoc, append-nil}
+use Prim.Native.Nat.{ℕ, suc, _+_, _≤_, _<_}
+use native.Mathlib.Nat.{add-assoc, zero-add, add-zero}
+use native.Mathlib.Numerals.{add-one}
+use native.Mathlib.Omega.{arith}
+use lib.Dec.{leb}
+use lib.ListN.{length, take, drop, set, length-append, take-append-drop}
+use lib.Seq.{sets-eq, length-take-le, take-at, drop-at, drop-drop}
+use borrow.Author.Tests.{lt-leb, le-leb}
+use mathlib.Core.Bool.{true, false}
+use Rattle.arithmetic.specs.Outcome.{Outcome, value, refused}
+use Rattle.arithmetic.specs.Refusal.{bufferTooShort}
+use Rattle.senders.specs.Lent.{Effect, sends, sent, Steps, Answers, Put}
+
+-- ---- bytes put into a buffer
+
+-- three stores in a row
+pub stores :
+    (l : List ℕ) (at a b c : ℕ) → at + 3 ≤ length l
+    → set (set (set l at a) (at + 1) b) (at + 2) c ≡ take at l ++ (a ∷ b ∷ c ∷ []) ++ drop (at + 3) l
+stores l at a b c h =
+    let e : at + 2 ≡ suc (suc at) = omega arith in
+    rw (add-one, e) (sets-eq (a ∷ b ∷ c ∷ []) l at h)
+
+-- nothing is put
+pub put-none : (at : ℕ) (l : List ℕ) → Put at [] at l l
+put-none at l = record { next-is = sym (add-zero at); new-is = sym (simp (add-zero, append-nil, take-append-drop)) }
+
+abbrev placed : ℕ → List ℕ → List ℕ → List ℕ
+placed at bs old = take at old ++ bs ++ drop (at + length bs) old
+
+placed-then : (at : ℕ) (xs ys l : List ℕ) → at ≤ length l → placed (at + length xs) ys (placed at xs l) ≡ placed at (xs ++ ys) l
+placed-then at xs ys l h =
+    let end : ℕ = at + length xs in
+    let front : List ℕ = take at l ++ xs in
+    let long : length front ≡ end = length-append (take at l) xs ∙ ap (λ (k : ℕ). k + length xs) (length-take-le at l h) in
+    let sum : end + length ys ≡ at + length (xs ++ ys) = simp (length-append, add-assoc) in
+    let rest : drop (end + length ys) (front ++ drop end l) ≡ drop (at + length (xs ++ ys)) l =
+    sym (drop-drop (length ys) end (front ++ drop end l))
+    ∙ ap (λ (k : List ℕ). drop (length ys) k) (drop-at front (drop end l) end long)
+    ∙ drop-drop (length ys) end l
+    ∙ ap (λ (k : ℕ). drop k l) sum in
+    ap (λ (k : List ℕ). k ++ ys ++ drop (end + length ys) (front ++ drop end l)) (take-at front (drop end l) end long)
+    ∙ ap (λ (k : List ℕ). front ++ ys ++ k) rest
+    ∙ ap (λ (k : List ℕ). k ++ drop (at + length (xs ++ ys)) l) (append-assoc (take at l) xs ys)
+
+-- bytes behind bytes
+pub put-then :
+    {at r s : ℕ} {xs ys l m n : List ℕ} → Put at xs r l m → Put r ys s m n → at ≤ length l → Put at (xs ++ ys) s l n
+put-then {at} {r} {s} {xs} {ys} {l} {m} {n} p q h =
+    record {
+      next-is = q .next-is ∙ ap (λ (x : ℕ). x + length ys) (p .next-is) ∙ simp (length-append, add-assoc);
+      new-is =
+          q .new-is
+          ∙ ap (λ (x : ℕ). placed x ys m) (p .next-is)
+          ∙ ap (λ (x : List ℕ). placed (at + length xs) ys x) (p .new-is)
+          ∙ placed-then at xs ys l h;
+    }
+
+-- ---- the three ways a call ends
+
+module _ {R S : Type 0} {rule : Outcome (Effect R S)} {s : S} {old : List ℕ} where
+  -- refused by a test of its rule
+  pub ends-refused : {n : ℕ} → rule ≡ refused n → Steps rule s old (refused n) s old
+  ends-refused e = record { told-is = simp e; moved-is = simp e; left-is = simp e }
+
+  -- refused for want of room
+  pub ends-short : {f : Effect R S} → rule ≡ value f → length old < length (f .bytes) → Steps rule s old (refused bufferTooShort) s old
+  ends-short {f} e h =
+      let t : leb (length (f .bytes)) (length old) ≡ false = lt-leb (length (f .bytes)) (length old) h in
+      record { told-is = simp (e, t); moved-is = simp (e, t); left-is = simp (e, t) }
+
+  -- sent: the bytes were put at the buffer's start
+  pub ends-sent :
+      {f : Effect R S} {r : ℕ} {new : List ℕ} → rule ≡ value f → length (f .bytes) ≤ length old → Put 0 (f .bytes) r old new
+      → Steps rule s old (value (f .says)) (f .next) new
+  ends-sent {f} e h p =
+      let t : leb (length (f .bytes)) (length old) ≡ true = le-leb (length (f .bytes)) (length old) h in
+      record { told-is = simp (e, t); moved-is = simp (e, t); left-is = rw (e, t) (p .new-is ∙ simp zero-add) }
+
+-- sent, by a call that answers how many bytes it sent
+pub ends-counted :
+    {S : Type 0} {rule : Outcome (Effect ℕ S)} {s next : S} {bs old new : List ℕ} {r : ℕ} → rule ≡ sends bs next → length bs ≤ length old
+    → Put 0 bs r old new → Steps rule s old (value r) next new
+ends-counted {S} {rule} {s} {next} {bs} {old} {new} {r} e h p =
+    let q : length bs ≡ r = sym (p .next-is ∙ zero-add (length bs)) in
+    rw q at (ends-sent {s = s} {old = old} {f = record { says = length bs; bytes = bs; next = next }} {r = r} {new = new} e h p)

@@ -1,0 +1,4 @@
+-- Laws about the definitions of `specs/`, and the theorems that people ask for by name.
+pub mod Lent
+pub mod Bends
+pub mod Messages

@@ -1,0 +1,43 @@
+-- What a tuner means by the messages it sends, as a change of the channel they are sent on. Assumes nothing.
+use mathlib.Core.Bool.{Bool, false, cond}
+use Prim.Native.Nat.{ℕ}
+use lib.Dec.{ltb}
+use lib.IntN.{ℤ, pos, negsuc, _-ℤ_, _*ℤ_}
+use Rattle.senders.specs.Receiver.{Channel, withChoice, withFine, withBend, withNote, parameter, fineShift, bendShift, sensitivityCents}
+use Rattle.senders.specs.declared.mts.Tuning.{Tuning}
+use Rattle.senders.specs.declared.mts.Tuning.the-variants.{Fine, Bend}
+use Rattle.senders.specs.declared.tuner.Stopped.{Stopped}
+use Rattle.senders.specs.declared.tuner.Stopped.the-variants.{Nothing, Note}
+
+-- a fine tuning leaves parameter 00 01 chosen
+abbrev pub tuned : Tuning → Channel → Channel
+tuned (Fine v) x = withFine v (withChoice (parameter 0x00 0x01) x)
+tuned (Bend b) x = withBend b x
+
+-- a note is on, or off; one outside 0..127 is on no channel
+abbrev pub noted : Bool → ℤ → Channel → Channel
+noted s (pos n) x = cond (ltb n 128) (withNote n s x) x
+noted s (negsuc n) x = x
+
+abbrev pub stopped : Stopped → Channel → Channel
+stopped Nothing x = x
+stopped (Note note) x = noted false note x
+
+-- the stopped note is off, the channel tuned, and then the new note is on; a press of velocity 0 leaves it off
+abbrev pub pressed : Stopped → Tuning → ℤ → ℕ → Channel → Channel
+pressed s t note v x = noted (ltb 0 v) note (tuned t (stopped s x))
+
+-- ---- how far a tuning moves its channel, in cents times 8192
+
+-- the value counted from its centre, and what a step is worth
+abbrev pub steps : Tuning → ℤ
+steps (Fine v) = pos v -ℤ pos 8192
+steps (Bend b) = b
+
+abbrev pub stepSize : Tuning → Channel → ℕ
+stepSize (Fine v) x = 100
+stepSize (Bend b) x = sensitivityCents (x .sensitivity)
+
+abbrev pub shift : Tuning → Channel → ℤ
+shift (Fine v) x = fineShift x
+shift (Bend b) x = bendShift x
