@@ -2,3 +2,5 @@
 pub mod Lent
 pub mod Bends
 pub mod Messages
+pub mod Sizes
+pub mod Notes

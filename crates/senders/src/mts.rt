@@ -53,8 +53,11 @@ pub(crate) fn tuning_len(tuning: Tuning) -> usize
 {
     match tuning {
         Tuning::Fine(_) => {
-            let controller = message_len(control(DATA_ENTRY_MSB, 0));
-            controller + controller + controller + controller
+            let control = message_len(ChannelMessageType::ControlChange {
+                controller: DATA_ENTRY_MSB,
+                value: 0,
+            });
+            control + control + control + control
         }
         Tuning::Bend(value) => message_len(ChannelMessageType::PitchBendChange { value }),
     }
@@ -77,16 +80,22 @@ fn put_fine(out: &mut [u8], at: usize, channel: u8, value: u16) -> usize
     requires { ⌜ (channel < 16) × (value < 16384) × (at + length (bytesOf (tuningMessages channel (Tuning.Fine value))) ≤ length (now out)) ⌝ }
     ensures { λ r. ⌜ Put at (bytesOf (tuningMessages channel (Tuning.Fine value))) r (now (out .entry)) (now (out .exit)) ⌝ }
 {
-    let msb = (value / 128) as u8;
-    let lsb = (value % 128) as u8;
-    let chosen = put_message(out, at, channel, control(RPN_MSB, CHANNEL_FINE_TUNING_MSB));
-    let chosen = put_message(out, chosen, channel, control(RPN_LSB, CHANNEL_FINE_TUNING_LSB));
-    let entered = put_message(out, chosen, channel, control(DATA_ENTRY_MSB, msb));
-    put_message(out, entered, channel, control(DATA_ENTRY_LSB, lsb))
-}
-
-fn control(controller: u8, value: u8) -> ChannelMessageType
-    ensures { λ r. ⌜ r ≡ ChannelMessageType.ControlChange controller value ⌝ }
-{
-    ChannelMessageType::ControlChange { controller, value }
+    let value_msb = (value / 128) as u8;
+    let value_lsb = (value % 128) as u8;
+    let at = put_message(out, at, channel, ChannelMessageType::ControlChange {
+        controller: RPN_MSB,
+        value: CHANNEL_FINE_TUNING_MSB,
+    });
+    let at = put_message(out, at, channel, ChannelMessageType::ControlChange {
+        controller: RPN_LSB,
+        value: CHANNEL_FINE_TUNING_LSB,
+    });
+    let at = put_message(out, at, channel, ChannelMessageType::ControlChange {
+        controller: DATA_ENTRY_MSB,
+        value: value_msb,
+    });
+    put_message(out, at, channel, ChannelMessageType::ControlChange {
+        controller: DATA_ENTRY_LSB,
+        value: value_lsb,
+    })
 }

@@ -1,72 +1,56 @@
+-- `senders::mts::put_fine` meets its contract: four messages one behind the other. Assumes nothing.
+use Prim.Native.Nat.{_≤_}
+use native.Mathlib.Omega.{arith}
+use lib.ListN.{length}
+use denote.Ref.{now}
+use Rattle.senders.proofs.Lent.{put-then}
 use borrow.Author.Needs.{needs}
 use Rattle.senders.proofs.mts.put_fine.Statement.{statement}
 use Rattle.senders.proofs.mts.put_fine.Tie as tie
-use Rattle.senders.proofs.mts.put_fine.Reads as reads
-use Rattle.senders.proofs.mts.put_fine.Lts as lts
-use Rattle.senders.proofs.midi.put_message.Reads as put-message-reads
-use Rattle.senders.proofs.mts.control.Reads as control-reads
 
--- src/mts.rt:80:15
-cast-msb : tie.Need-cast-msb
-cast-msb c = search needs
+cast-value-msb : tie.Need-cast-value-msb
+cast-value-msb c = search needs
 
--- src/mts.rt:81:15
-cast-lsb : tie.Need-cast-lsb
-cast-lsb c = search needs
+cast-value-lsb : tie.Need-cast-value-lsb
+cast-value-lsb c = search needs
 
--- src/mts.rt:82:48
-control-requires : tie.Need-control-requires
-control-requires c κs = search needs
-
--- src/mts.rt:82:9
 put-message-requires : tie.Need-put-message-requires
-put-message-requires c κs = ?
+put-message-requires c κs = search needs
 
--- src/mts.rt:83:52
-control-requires-2 : tie.Need-control-requires-2
-control-requires-2 c κs = search needs
-
--- src/mts.rt:83:9
 put-message-requires-2 : tie.Need-put-message-requires-2
-put-message-requires-2 c κs = ?
+put-message-requires-2 c κs = search needs
 
--- src/mts.rt:84:53
-control-requires-3 : tie.Need-control-requires-3
-control-requires-3 c κs = search needs
-
--- src/mts.rt:84:9
 put-message-requires-3 : tie.Need-put-message-requires-3
-put-message-requires-3 c κs = ?
+put-message-requires-3 c κs = search needs
 
--- src/mts.rt:85:40
-control-requires-4 : tie.Need-control-requires-4
-control-requires-4 c κs = search needs
-
--- src/mts.rt:85:5
 put-message-requires-4 : tie.Need-put-message-requires-4
-put-message-requires-4 c κs = ?
+put-message-requires-4 c κs = search needs
 
--- src/mts.rt:76:1
 same-length : tie.Need-same-length
 same-length c = search needs
 
--- src/mts.rt:76:1
 returns : tie.Need-returns
-returns c = ?
+returns c =
+    let c4 = c .before .before in
+    let c3 = c4 .before .before .before .before in
+    let c2 = c3 .before .before .before .before in
+    let c1 = c2 .before .before .before .before in
+    let a = c1 .before .before .before .args in
+    let room : a .at ≤ length (now (a .out)) = omega arith in
+    put-then
+    (put-then (put-then (c1 .put-message .ensures) (c2 .put-message2 .ensures) room) (c3 .put-message3 .ensures) room)
+    (c4 .put-message4 .ensures)
+    room
 
 pub put-fine-spec : {M : Type 1} → statement M
 put-fine-spec =
     tie.close
     (tie.spec
-    cast-msb
-    cast-lsb
-    control-requires
+    cast-value-msb
+    cast-value-lsb
     put-message-requires
-    control-requires-2
     put-message-requires-2
-    control-requires-3
     put-message-requires-3
-    control-requires-4
     put-message-requires-4
     same-length
     returns)

@@ -1,57 +1,41 @@
+-- `senders::mts::tuning_len` meets its contract: the lengths of its messages added up. Assumes nothing.
+use native.Mathlib.Omega.{arith}
 use borrow.Author.Needs.{needs}
 use Rattle.senders.proofs.mts.tuning_len.Statement.{statement}
 use Rattle.senders.proofs.mts.tuning_len.Tie as tie
-use Rattle.senders.proofs.mts.tuning_len.Reads as reads
-use Rattle.senders.proofs.mts.tuning_len.Lts as lts
-use Rattle.senders.proofs.midi.message_len.Reads as message-len-reads
-use Rattle.senders.proofs.mts.control.Reads as control-reads
 
--- src/mts.rt:56:42
 enum-told : tie.Need-enum-told
 enum-told c = search needs
 
--- src/mts.rt:56:42
-control-requires : tie.Need-control-requires
-control-requires c κs = search needs
-
--- src/mts.rt:56:17
 message-len-requires : tie.Need-message-len-requires
 message-len-requires c κs = search needs
 
--- src/mts.rt:57:13
 add-result : tie.Need-add-result
-add-result c = ?
+add-result c = search needs
 
--- src/mts.rt:57:13
 add-result-2 : tie.Need-add-result-2
-add-result-2 c = ?
+add-result-2 c = search needs
 
--- src/mts.rt:57:13
 add-result-3 : tie.Need-add-result-3
-add-result-3 c = ?
+add-result-3 c = search needs
 
--- src/mts.rt:59:22
 enum-known-tuning : tie.Need-enum-known-tuning
 enum-known-tuning c = search needs
 
--- src/mts.rt:59:32
 message-len-requires-2 : tie.Need-message-len-requires-2
 message-len-requires-2 c κs = search needs
 
--- src/mts.rt:51:1
 returns : tie.Need-returns
-returns c = ?
+returns c = rw (c .before .enum-told .given .1) (omega (arith, c .message-len .ensures))
 
--- src/mts.rt:51:1
 returns-2 : tie.Need-returns-2
-returns-2 c = search needs
+returns-2 c = rw (c .before .before .tuning .given .1) (c .message-len2 .ensures)
 
 pub tuning-len-spec : {M : Type 1} → statement M
 tuning-len-spec =
     tie.close
     (tie.spec
     enum-told
-    control-requires
     message-len-requires
     add-result
     add-result-2

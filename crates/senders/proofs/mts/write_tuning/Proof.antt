@@ -1,30 +1,35 @@
+-- `senders::mts::write_tuning` meets its contract: refused for want of room, or sent. Assumes nothing.
+use mathlib.Core.Path.{refl}
+use native.Mathlib.Omega.{arith}
+use Rattle.senders.proofs.Lent.{ends-short, ends-counted}
+use Rattle.senders.proofs.Sizes.{tuning-size}
 use borrow.Author.Needs.{needs}
 use Rattle.senders.proofs.mts.write_tuning.Statement.{statement}
 use Rattle.senders.proofs.mts.write_tuning.Tie as tie
-use Rattle.senders.proofs.mts.write_tuning.Reads as reads
-use Rattle.senders.proofs.mts.write_tuning.Lts as lts
-use Rattle.senders.proofs.mts.put_tuning.Reads as put-tuning-reads
-use Rattle.senders.proofs.mts.tuning_len.Reads as tuning-len-reads
 
--- src/mts.rt:43:20
 tuning-len-requires : tie.Need-tuning-len-requires
 tuning-len-requires c κs = search needs
 
--- src/mts.rt:44:9
 returns : tie.Need-returns
-returns c = ?
+returns c = let a = c .before .before .before .args in ends-short refl (omega (arith, tuning-size (a .channel) (a .tuning)))
 
--- src/mts.rt:46:9
 put-tuning-requires : tie.Need-put-tuning-requires
-put-tuning-requires c κs = ?
+put-tuning-requires c κs =
+    let s = c .before .before .before .before in
+    (s .pre .0, s .pre .1, omega (arith, tuning-size (s .args .channel) (s .args .tuning)))
 
--- src/mts.rt:39:1
 same-length : tie.Need-same-length
 same-length c = search needs
 
--- src/mts.rt:39:1
 returns-2 : tie.Need-returns-2
-returns-2 c = ?
+returns-2 c =
+    let p = c .before .before in
+    let t = p .before .before in
+    let a = t .before .before .before .args in
+    ends-counted
+    refl
+    (omega (arith, tuning-size (a .channel) (a .tuning), t .if1 .left, t .before .tuning-len .ensures))
+    (p .put-tuning .ensures)
 
 pub write-tuning-spec : {M : Type 1} → statement M
 write-tuning-spec =

@@ -1,35 +1,42 @@
+-- `senders::tuner::press_len` meets its contract: the lengths of its parts added up. Assumes nothing.
+use mathlib.Core.Path.{_≡_}
+use mir.Syntax.{w32}
+use mir.Val.{toZ, ofZ}
+use mir.Facts.{toZ-ofZ}
+use native.Mathlib.Omega.{arith}
+use Rattle.senders.specs.declared.tuner.NoteMessage.the-variants.{On}
+use Rattle.senders.proofs.Sizes.{stop-small, tuning-small, note-small, press-parts}
 use borrow.Author.Needs.{needs}
 use Rattle.senders.proofs.tuner.press_len.Statement.{statement}
 use Rattle.senders.proofs.tuner.press_len.Tie as tie
-use Rattle.senders.proofs.tuner.press_len.Reads as reads
-use Rattle.senders.proofs.tuner.press_len.Lts as lts
-use Rattle.senders.proofs.mts.tuning_len.Reads as tuning-len-reads
-use Rattle.senders.proofs.tuner.note_len.Reads as note-len-reads
-use Rattle.senders.proofs.tuner.stop_len.Reads as stop-len-reads
 
--- src/tuner.rt:44:5
+-- the note, past the bits that a signed argument goes through
+plain : (c : tie.Start) → toZ w32 (ofZ w32 (c .args .note)) ≡ c .args .note
+plain c = toZ-ofZ (c .fits .note)
+
 stop-len-requires : tie.Need-stop-len-requires
 stop-len-requires c κs = search needs
 
--- src/tuner.rt:44:25
 tuning-len-requires : tie.Need-tuning-len-requires
 tuning-len-requires c κs = search needs
 
--- src/tuner.rt:44:5
 add-result : tie.Need-add-result
-add-result c = ?
+add-result c = let a = c .before .before .args in omega (arith, stop-small 0 (a .stopped) 0, tuning-small 0 (a .tuning))
 
--- src/tuner.rt:44:46
 note-len-requires : tie.Need-note-len-requires
 note-len-requires c κs = search needs
 
--- src/tuner.rt:44:5
 add-result-2 : tie.Need-add-result-2
-add-result-2 c = ?
+add-result-2 c =
+    let a = c .before .before .before .args in
+    let n = rw (plain (c .before .before .before)) at (c .note-len .ensures) in
+    omega (arith, stop-small 0 (a .stopped) 0, tuning-small 0 (a .tuning), note-small On 0 (a .note) 0)
 
--- src/tuner.rt:41:1
 returns : tie.Need-returns
-returns c = ?
+returns c =
+    let a = c .before .before .before .args in
+    let n = rw (plain (c .before .before .before)) at (c .note-len .ensures) in
+    omega (arith, press-parts 0 (a .stopped) (a .tuning) (a .note) 0)
 
 pub press-len-spec : {M : Type 1} → statement M
 press-len-spec =

@@ -1,29 +1,29 @@
+-- `senders::tuner::stop_len` meets its contract. Assumes nothing.
+use mathlib.Core.Path.{_≡_}
+use mir.Syntax.{w32}
+use mir.Val.{toZ, ofZ}
 use borrow.Author.Needs.{needs}
 use Rattle.senders.proofs.tuner.stop_len.Statement.{statement}
 use Rattle.senders.proofs.tuner.stop_len.Tie as tie
-use Rattle.senders.proofs.tuner.stop_len.Reads as reads
-use Rattle.senders.proofs.tuner.stop_len.Lts as lts
-use Rattle.senders.proofs.tuner.note_len.Reads as note-len-reads
 
--- src/tuner.rt:69:29
+-- the note, past the bits that a signed argument goes through
+plain : (c : tie.After-known-told) → toZ w32 (ofZ w32 (c .before .stopped .given .0 .0)) ≡ c .before .stopped .given .0 .0
+plain c = search needs
+
 enum-told : tie.Need-enum-told
 enum-told c = search needs
 
--- src/tuner.rt:70:23
 enum-known-stopped : tie.Need-enum-known-stopped
 enum-known-stopped c = search needs
 
--- src/tuner.rt:70:32
 note-len-requires : tie.Need-note-len-requires
 note-len-requires c κs = search needs
 
--- src/tuner.rt:65:1
 returns : tie.Need-returns
 returns c = search needs
 
--- src/tuner.rt:65:1
 returns-2 : tie.Need-returns-2
-returns-2 c = ?
+returns-2 c = let k = c .before in rw (k .before .stopped .given .1) (rw (plain k) at (c .note-len .ensures))
 
 pub stop-len-spec : {M : Type 1} → statement M
 stop-len-spec =
