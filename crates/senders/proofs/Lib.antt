@@ -4,3 +4,5 @@ pub mod Bends
 pub mod Messages
 pub mod Sizes
 pub mod Notes
+pub mod Bytes
+pub mod Received

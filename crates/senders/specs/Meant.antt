@@ -2,10 +2,12 @@
 use mathlib.Core.Bool.{Bool, false, cond}
 use Prim.Native.Nat.{ℕ}
 use lib.Dec.{ltb}
-use lib.IntN.{ℤ, pos, negsuc, _-ℤ_, _*ℤ_}
+use lib.IntN.{ℤ, pos, negsuc, _-ℤ_}
 use Rattle.senders.specs.Receiver.{Channel, withChoice, withFine, withBend, withNote, parameter, fineShift, bendShift, sensitivityCents}
 use Rattle.senders.specs.declared.mts.Tuning.{Tuning}
 use Rattle.senders.specs.declared.mts.Tuning.the-variants.{Fine, Bend}
+use Rattle.senders.specs.declared.tuner.NoteMessage.{NoteMessage}
+use Rattle.senders.specs.declared.tuner.NoteMessage.the-variants.{Off, On, Pressure}
 use Rattle.senders.specs.declared.tuner.Stopped.{Stopped}
 use Rattle.senders.specs.declared.tuner.Stopped.the-variants.{Nothing, Note}
 
@@ -19,13 +21,19 @@ abbrev pub noted : Bool → ℤ → Channel → Channel
 noted s (pos n) x = cond (ltb n 128) (withNote n s x) x
 noted s (negsuc n) x = x
 
+-- the messages of a note: off, on unless the velocity is 0, and a pressure, which changes nothing of this
+abbrev pub noteMeant : NoteMessage → ℤ → ℕ → Channel → Channel
+noteMeant Off note v x = noted false note x
+noteMeant On note v x = noted (ltb 0 v) note x
+noteMeant Pressure note v x = x
+
 abbrev pub stopped : Stopped → Channel → Channel
 stopped Nothing x = x
 stopped (Note note) x = noted false note x
 
--- the stopped note is off, the channel tuned, and then the new note is on; a press of velocity 0 leaves it off
+-- the stopped note is off, the channel tuned, and then the new note is on
 abbrev pub pressed : Stopped → Tuning → ℤ → ℕ → Channel → Channel
-pressed s t note v x = noted (ltb 0 v) note (tuned t (stopped s x))
+pressed s t note v x = noteMeant On note v (tuned t (stopped s x))
 
 -- ---- how far a tuning moves its channel, in cents times 8192
 
