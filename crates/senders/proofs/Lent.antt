@@ -9,10 +9,10 @@ use lib.Dec.{leb}
 use lib.ListN.{length, take, drop, set, length-append, take-append-drop}
 use lib.Seq.{sets-eq, length-take-le, take-at, drop-at, drop-drop}
 use borrow.Author.Tests.{lt-leb, le-leb}
-use mathlib.Core.Bool.{true, false}
+use mathlib.Core.Bool.{Bool, true, false, cond}
 use Rattle.arithmetic.specs.Outcome.{Outcome, value, refused}
 use Rattle.arithmetic.specs.Refusal.{bufferTooShort}
-use Rattle.senders.specs.Lent.{Effect, sends, sent, Steps, Answers, Put}
+use Rattle.senders.specs.Lent.{Effect, sends, fitted, told, moved, left, written, Steps, Put}
 
 -- ---- bytes put into a buffer
 
@@ -87,3 +87,33 @@ pub ends-counted :
 ends-counted {S} {rule} {s} {next} {bs} {old} {new} {r} e h p =
     let q : length bs ≡ r = sym (p .next-is ∙ zero-add (length bs)) in
     rw q at (ends-sent {s = s} {old = old} {f = record { says = length bs; bytes = bs; next = next }} {r = r} {new = new} e h p)
+
+-- ---- what a call that was accepted did
+
+pub record Accepted {R S : Type 0} (rule : Outcome (Effect R S)) (old : List ℕ) (answer : R) (back : S) (new : List ℕ) : Type 0 where
+  pub effect : Effect R S
+  pub rule-is : rule ≡ value effect
+  pub answer-is : answer ≡ effect .says
+  pub back-is : back ≡ effect .next
+  pub new-is : new ≡ written (effect .bytes) old
+
+-- what fits is what the rule has
+unfitted : {R S : Type 0} (room : ℕ) (rule : Outcome (Effect R S)) {e : Effect R S} → fitted room rule ≡ value e → rule ≡ value e
+unfitted room (value f) {e} h = by (leb (length (f .bytes)) room) h
+  where
+    by : (t : Bool) → cond t (value f) (refused bufferTooShort) ≡ value e → value f ≡ value e
+    by true h = h
+    by false h = let z : _≡_ {A = ℕ} 0 1 = cc in absurd (omega arith)
+unfitted room (refused n) h = h
+
+accepted-by :
+    {R S : Type 0} {rule : Outcome (Effect R S)} (s : S) {back : S} {old new : List ℕ} {answer : R} (f : Outcome (Effect R S))
+    → f ≡ fitted (length old) rule → value answer ≡ told f → back ≡ moved f s → new ≡ left f old → Accepted rule old answer back new
+accepted-by {rule = rule} s {old = old} (value e) i t m l =
+    record { effect = e; rule-is = unfitted (length old) rule (sym i); answer-is = (cc); back-is = m; new-is = l }
+accepted-by s (refused n) i t m l = let z : _≡_ {A = ℕ} 0 1 = cc in absurd (omega arith)
+
+pub accepted :
+    {R S : Type 0} {rule : Outcome (Effect R S)} {s back : S} {old new : List ℕ} {answer : R} → Steps rule s old (value answer) back new
+    → Accepted rule old answer back new
+accepted {rule = rule} {s = s} {old = old} p = accepted-by s (fitted (length old) rule) refl (p .told-is) (p .moved-is) (p .left-is)

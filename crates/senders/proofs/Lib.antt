@@ -6,3 +6,5 @@ pub mod Sizes
 pub mod Notes
 pub mod Bytes
 pub mod Received
+pub mod Refusals
+pub mod Examples

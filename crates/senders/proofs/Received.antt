@@ -8,14 +8,14 @@ use Prim.Native.Nat.{ℕ, _+_, _*_, _/_, _%_, _<_}
 use native.Mathlib.Omega.{arith}
 use lib.Dec.{ltb, eqb, lit<}
 use lib.IntN.{ℤ, pos, negsuc, _*ℤ_}
-use borrow.Author.Tests.{ltb-true, eq-eqb}
+use borrow.Author.Tests.{lt-ltb, ltb-true, eq-eqb}
 use Rattle.senders.specs.Message.{Message, AllValid, isBend}
 use Rattle.senders.specs.Midi.{bytesOf, meant}
 use Rattle.senders.specs.Mts.{InSteps, tuningMessages}
 use Rattle.senders.specs.Tuner.{numberOf, numbered, noteType, noteMessages, stopMessages, pressMessages}
 use Rattle.senders.specs.Reader.{State}
 use Rattle.senders.specs.Padding.{allHeardAs}
-use Rattle.senders.specs.Receiver.{Channel, Receiver, Other, on, controlled, withNote, withFine, withBend, withChoice, parameter, hear, hearAll, hearBytes, usualSensitivity, fineShift, bendShift}
+use Rattle.senders.specs.Receiver.{Channel, Receiver, Other, on, controlled, withNote, withFine, withBend, withSensitivity, withChoice, parameter, hear, hearAll, hearBytes, usualSensitivity, fineShift, bendShift}
 use Rattle.senders.specs.Meant.{tuned, noted, noteMeant, stopped, pressed, steps, stepSize, shift}
 use Rattle.senders.specs.declared.mts.Tuning.{Tuning}
 use Rattle.senders.specs.declared.mts.Tuning.the-variants.{Fine, Bend}
@@ -180,3 +180,53 @@ module _ (other : Other) (st : State) where
 pub tuning-shift : (t : Tuning) (x : Channel) → shift t (tuned t x) ≡ steps t *ℤ pos (stepSize t x)
 tuning-shift (Fine v) x = refl
 tuning-shift (Bend b) x = refl
+
+-- An octave is 98304 steps of fine tuning, and 49152 of bend at the usual two semitones: the factors of document 01's values.
+pub octave-of-fine : (x : Channel) → fineShift (withFine (8192 + 98304) x) ≡ pos (1200 * 8192)
+octave-of-fine x = refl
+
+pub octave-of-bend : (x : Channel) → bendShift (withBend (pos 49152) (withSensitivity usualSensitivity x)) ≡ pos (1200 * 8192)
+octave-of-bend x = refl
+
+-- Something holds of the channel `ch` afterwards, and the other channels are as they were.
+pub record OnlyOn (ch : ℕ) (Holds : Channel → Type 0) (before after : Receiver) : Type 0 where
+  pub here : Holds (after ch)
+  pub elsewhere : (c : ℕ) → eqb c ch ≡ false → after c ≡ before c
+
+changed :
+    {ch : ℕ} (f : Channel → Channel) (Holds : Channel → Type 0) {r q : Receiver} → q ≡ on ch f r → Holds (f (r ch)) → OnlyOn ch Holds r q
+changed {ch} f Holds {r} e h =
+    record {
+      here = rw e (rw (on-here ch f r) h);
+      elsewhere = λ c n. ap (λ (q : Receiver). q c) e ∙ on-elsewhere ch c f r n;
+    }
+
+module _ (other : Other) (st : State) (ch : ℕ) (r : Receiver) (low : ch < 16) where
+  -- After the four controllers the fine tuning is the value, and its parameter is left chosen.
+  pub fine-received :
+      (v : ℕ) → v < 16384
+      → OnlyOn ch (λ x. (x .fine ≡ v) × (x .choice ≡ parameter 0x00 0x01)) r (hearBytes other st (bytesOf (tuningMessages ch (Fine v))) r)
+  fine-received v h =
+      changed (tuned (Fine v)) (λ x. (x .fine ≡ v) × (x .choice ≡ parameter 0x00 0x01)) (tuning-received other st ch (Fine v) r low h) (refl, refl)
+
+  -- After a bend the channel is bent so.
+  pub bend-received :
+      (b : ℤ) → isBend b ≡ true → OnlyOn ch (λ x. x .bent ≡ b) r (hearBytes other st (bytesOf (tuningMessages ch (Bend b))) r)
+  bend-received b h = changed (tuned (Bend b)) (λ x. x .bent ≡ b) (tuning-received other st ch (Bend b) r low h) refl
+
+  -- After a note-on of a velocity above 0 the note is on, after one of velocity 0 and after a note-off it is off.
+  pub on-received :
+      (n v : ℕ) → n < 128 → v < 128 → OnlyOn ch (λ x. x .sounds n ≡ ltb 0 v) r (hearBytes other st (bytesOf (noteMessages On ch (pos n) v)) r)
+  on-received n v k h =
+      changed (noteMeant On (pos n) v) (λ x. x .sounds n ≡ ltb 0 v) (note-received other st On ch (pos n) v r low h)
+      (simp (lt-ltb n 128 k, eq-eqb n n refl))
+
+  pub off-received :
+      (n v : ℕ) → n < 128 → v < 128 → OnlyOn ch (λ x. x .sounds n ≡ false) r (hearBytes other st (bytesOf (noteMessages Off ch (pos n) v)) r)
+  off-received n v k h =
+      changed (noteMeant Off (pos n) v) (λ x. x .sounds n ≡ false) (note-received other st Off ch (pos n) v r low h)
+      (simp (lt-ltb n 128 k, eq-eqb n n refl))
+
+  -- After a pressure nothing of this has changed.
+  pub pressure-received : (note : ℤ) (v : ℕ) → v < 128 → hearBytes other st (bytesOf (noteMessages Pressure ch note v)) r ≡ r
+  pressure-received note v h = note-received other st Pressure ch note v r low h ∙ sym (on-none ch r)
