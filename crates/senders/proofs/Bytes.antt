@@ -2,18 +2,23 @@
 -- as it stands, and with the padding dropped. Assumes nothing.
 use mathlib.Core.Path.{_≡_, refl, sym, ap, _∙_}
 use mathlib.Core.Bool.{Bool, true, false}
-use mathlib.Core.List.{List, [], _∷_, _++_, append-assoc}
+use mathlib.Core.List.{List, [], _∷_, _++_, append-assoc, append-nil}
 use Prim.Native.Nat.{ℕ, _+_, _*_, _/_, _%_, _≤_, _<_}
 use native.Mathlib.Omega.{arith}
 use lib.Dec.{ltb, lit<, lit≤}
 use lib.IntN.{ℤ}
+use lib.ListN.{take}
 use borrow.Author.Tests.{lt-ltb, le-ltb}
+use Rattle.arithmetic.specs.Outcome.{value}
+use Rattle.senders.specs.Lent.{Answers}
 use Rattle.senders.specs.Message.{Message, noteOff, noteOn, keyPressure, control, program, channelPressure, bend, isBend, Valid, AllValid}
-use Rattle.senders.specs.Midi.{status, bytes, bytesOf, bendLow, bendHigh}
+use Rattle.senders.specs.Midi.{status, bytes, bytesOf, bendLow, bendHigh, meant, messageRule}
 use Rattle.senders.specs.Reader.{State, due, hasOne, ofOne, ofTwo, read}
 use Rattle.senders.specs.Padding.{heardAs, allHeardAs, unpadded}
+use Rattle.senders.specs.declared.midi.ChannelMessageType.{ChannelMessageType}
+use Rattle.senders.proofs.Lent.{accepted, starts-with}
 use Rattle.senders.proofs.Bends.{low-small, high-small, bend-back}
-use Rattle.senders.proofs.Messages.{valid-append}
+use Rattle.senders.proofs.Messages.{valid-append, message-accepted, accepted-valid}
 
 -- ---- one record, whatever was read before
 
@@ -126,3 +131,23 @@ all-append (m ∷ ms) ns =
 pub plain-append : {ms ns : List Message} → Plain ms → Plain ns → Plain (ms ++ ns)
 plain-append {ms} {ns} p q =
     record { valid = valid-append ms ns (p .valid) (q .valid); unechoed = all-append ms ns ∙ rw (p .unechoed, q .unechoed) }
+
+-- ---- `to_raw_message`
+
+-- What the call wrote, as a reader finds it: the message asked for, the padding dropped, and with the padding what `heardAs` says.
+pub record ReadAs (st : State) (m : Message) (bs : List ℕ) : Type 0 where
+  pub unpadded-is : read st (unpadded bs) ≡ m ∷ []
+  pub padded-is : read st bs ≡ heardAs m
+
+pub raw-message-read :
+    (st : State) (ch : ℕ) (m : ChannelMessageType) {old new : List ℕ} {n : ℕ} → Answers (messageRule ch m) old (value n) new
+    → ReadAs st (meant ch m) (take n new)
+raw-message-read st ch m {new = new} {n = n} p =
+    let v : Valid (meant ch m) = accepted-valid ch m (accepted p .rule-is) in
+    let s : take n new ≡ bytes (meant ch m) ++ [] = starts-with (message-accepted ch m v) p ∙ sym (append-nil (bytes (meant ch m))) in
+    rw s (
+      record {
+        unpadded-is = read-unpadded st (meant ch m ∷ []) (v, tt);
+        padded-is = read-padded st (meant ch m ∷ []) (v, tt) ∙ append-nil (heardAs (meant ch m));
+      }
+    )

@@ -117,3 +117,18 @@ pub accepted :
     {R S : Type 0} {rule : Outcome (Effect R S)} {s back : S} {old new : List ℕ} {answer : R} → Steps rule s old (value answer) back new
     → Accepted rule old answer back new
 accepted {rule = rule} {s = s} {old = old} p = accepted-by s (fitted (length old) rule) refl (p .told-is) (p .moved-is) (p .left-is)
+
+-- what a call that counts its bytes says it sent stands at the buffer's start
+pub starts-with :
+    {S : Type 0} {rule : Outcome (Effect ℕ S)} {s back next : S} {bs old new : List ℕ} {n : ℕ} → rule ≡ sends bs next
+    → Steps rule s old (value n) back new → take n new ≡ bs
+starts-with {S} {rule} {s} {back} {next} {bs} {old} {new} {n} e p =
+    by (leb (length bs) (length old)) (rw e at (p .told-is)) (rw e at (p .left-is))
+  where
+    by :
+        (t : Bool) → value n ≡ told (cond t (sends bs next) (refused bufferTooShort)) → new ≡ left (cond t (sends bs next) (refused bufferTooShort)) old
+        → take n new ≡ bs
+    by true h l =
+        let k : n ≡ length bs = cc in
+        ap (λ (x : List ℕ). take n x) l ∙ take-at bs (drop (length bs) old) n (sym k)
+    by false h l = let z : _≡_ {A = ℕ} 0 1 = cc in absurd (omega arith)

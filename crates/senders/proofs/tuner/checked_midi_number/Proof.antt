@@ -1,6 +1,8 @@
 -- `senders::tuner::checked_midi_number` meets its contract: its two tests leave the notes that have a number. Assumes nothing.
-use mathlib.Core.Path.{_≡_, sym}
+use mathlib.Core.Path.{_≡_, sym, ap, _∙_}
+use mathlib.Core.Option.{some}
 use native.Mathlib.Omega.{arith}
+use lib.IntN.{ℤ, natAbs}
 use mir.Syntax.{w32}
 use mir.Val.{toZ, ofZ}
 use mir.Facts.{toZ-ofZ}
@@ -27,7 +29,7 @@ cast-number : tie.Need-cast-number
 cast-number c = rw (plain (c .before .before), in-range c .is-pos) (tt, record { fits = omega (arith, in-range c .small) })
 
 returns-3 : tie.Need-returns-3
-returns-3 c = rw (plain (c .before .before)) (sym (in-range c .number))
+returns-3 c = ap (λ (z : ℤ). some (natAbs z)) (plain (c .before .before)) ∙ sym (in-range c .number)
 
 pub checked-midi-number-spec : {M : Type 1} → statement M
 checked-midi-number-spec = tie.close (tie.spec returns returns-2 cast-number returns-3)
