@@ -12,7 +12,7 @@ use borrow.Author.Tests.{lt-leb, le-leb}
 use mathlib.Core.Bool.{Bool, true, false, cond}
 use Rattle.arithmetic.specs.Outcome.{Outcome, value, refused}
 use Rattle.arithmetic.specs.Refusal.{bufferTooShort}
-use Rattle.senders.specs.Lent.{Effect, sends, fitted, told, moved, left, written, Steps, Put}
+use Rattle.senders.specs.Lent.{Effect, sends, fitted, told, Moved, left, written, Steps, Put}
 
 -- ---- bytes put into a buffer
 
@@ -61,40 +61,41 @@ put-then {at} {r} {s} {xs} {ys} {l} {m} {n} p q h =
 
 -- ---- the three ways a call ends
 
-module _ {R S : Type 0} {rule : Outcome (Effect R S)} {s : S} {old : List ℕ} where
+module _ {R S T : Type 0} {view : T → S} {rule : Outcome (Effect R S)} {s : T} {old : List ℕ} where
   -- refused by a test of its rule
-  pub ends-refused : {n : ℕ} → rule ≡ refused n → Steps rule s old (refused n) s old
-  ends-refused e = record { told-is = simp e; moved-is = simp e; left-is = simp e }
+  pub ends-refused : {n : ℕ} → rule ≡ refused n → Steps view rule s old (refused n) s old
+  ends-refused e = record { told-is = simp e; moved-is = rw e refl; left-is = simp e }
 
   -- refused for want of room
-  pub ends-short : {f : Effect R S} → rule ≡ value f → length old < length (f .bytes) → Steps rule s old (refused bufferTooShort) s old
+  pub ends-short : {f : Effect R S} → rule ≡ value f → length old < length (f .bytes) → Steps view rule s old (refused bufferTooShort) s old
   ends-short {f} e h =
       let t : leb (length (f .bytes)) (length old) ≡ false = lt-leb (length (f .bytes)) (length old) h in
-      record { told-is = simp (e, t); moved-is = simp (e, t); left-is = simp (e, t) }
+      record { told-is = simp (e, t); moved-is = rw (e, t) refl; left-is = simp (e, t) }
 
   -- sent: the bytes were put at the buffer's start
   pub ends-sent :
-      {f : Effect R S} {r : ℕ} {new : List ℕ} → rule ≡ value f → length (f .bytes) ≤ length old → Put 0 (f .bytes) r old new
-      → Steps rule s old (value (f .says)) (f .next) new
-  ends-sent {f} e h p =
+      {f : Effect R S} {back : T} {r : ℕ} {new : List ℕ} → rule ≡ value f → Put 0 (f .bytes) r old new → length (f .bytes) ≤ length old
+      → view back ≡ f .next → Steps view rule s old (value (f .says)) back new
+  ends-sent {f} e p h m =
       let t : leb (length (f .bytes)) (length old) ≡ true = le-leb (length (f .bytes)) (length old) h in
-      record { told-is = simp (e, t); moved-is = simp (e, t); left-is = rw (e, t) (p .new-is ∙ simp zero-add) }
+      record { told-is = simp (e, t); moved-is = rw (e, t) m; left-is = rw (e, t) (p .new-is ∙ simp zero-add) }
 
 -- sent, by a call that answers how many bytes it sent
 pub ends-counted :
-    {S : Type 0} {rule : Outcome (Effect ℕ S)} {s next : S} {bs old new : List ℕ} {r : ℕ} → rule ≡ sends bs next → length bs ≤ length old
-    → Put 0 bs r old new → Steps rule s old (value r) next new
-ends-counted {S} {rule} {s} {next} {bs} {old} {new} {r} e h p =
+    {S T : Type 0} {view : T → S} {rule : Outcome (Effect ℕ S)} {s back : T} {next : S} {bs old new : List ℕ} {r : ℕ} → rule ≡ sends bs next
+    → Put 0 bs r old new → length bs ≤ length old → view back ≡ next → Steps view rule s old (value r) back new
+ends-counted {view = view} {rule = rule} {s = s} {back = back} {next = next} {bs = bs} {old = old} {new = new} {r = r} e p h m =
     let q : length bs ≡ r = sym (p .next-is ∙ zero-add (length bs)) in
-    rw q at (ends-sent {s = s} {old = old} {f = record { says = length bs; bytes = bs; next = next }} {r = r} {new = new} e h p)
+    let f : Effect ℕ _ = record { says = length bs; bytes = bs; next = next } in
+    rw q at (ends-sent {view = view} {s = s} {old = old} {f = f} {back = back} {r = r} {new = new} e p h m)
 
 -- ---- what a call that was accepted did
 
-pub record Accepted {R S : Type 0} (rule : Outcome (Effect R S)) (old : List ℕ) (answer : R) (back : S) (new : List ℕ) : Type 0 where
+pub record Accepted {R S : Type 0} (rule : Outcome (Effect R S)) (old : List ℕ) (answer : R) (next : S) (new : List ℕ) : Type 0 where
   pub effect : Effect R S
   pub rule-is : rule ≡ value effect
   pub answer-is : answer ≡ effect .says
-  pub back-is : back ≡ effect .next
+  pub next-is : next ≡ effect .next
   pub new-is : new ≡ written (effect .bytes) old
 
 -- what fits is what the rule has
@@ -107,22 +108,23 @@ unfitted room (value f) {e} h = by (leb (length (f .bytes)) room) h
 unfitted room (refused n) h = h
 
 accepted-by :
-    {R S : Type 0} {rule : Outcome (Effect R S)} (s : S) {back : S} {old new : List ℕ} {answer : R} (f : Outcome (Effect R S))
-    → f ≡ fitted (length old) rule → value answer ≡ told f → back ≡ moved f s → new ≡ left f old → Accepted rule old answer back new
-accepted-by {rule = rule} s {old = old} (value e) i t m l =
-    record { effect = e; rule-is = unfitted (length old) rule (sym i); answer-is = (cc); back-is = m; new-is = l }
-accepted-by s (refused n) i t m l = let z : _≡_ {A = ℕ} 0 1 = cc in absurd (omega arith)
+    {R S T : Type 0} (view : T → S) {rule : Outcome (Effect R S)} (s back : T) {old new : List ℕ} {answer : R} (f : Outcome (Effect R S))
+    → f ≡ fitted (length old) rule → value answer ≡ told f → Moved view f s back → new ≡ left f old → Accepted rule old answer (view back) new
+accepted-by view {rule = rule} s back {old = old} (value e) i t m l =
+    record { effect = e; rule-is = unfitted (length old) rule (sym i); answer-is = (cc); next-is = m; new-is = l }
+accepted-by view s back (refused n) i t m l = let z : _≡_ {A = ℕ} 0 1 = cc in absurd (omega arith)
 
 pub accepted :
-    {R S : Type 0} {rule : Outcome (Effect R S)} {s back : S} {old new : List ℕ} {answer : R} → Steps rule s old (value answer) back new
-    → Accepted rule old answer back new
-accepted {rule = rule} {s = s} {old = old} p = accepted-by s (fitted (length old) rule) refl (p .told-is) (p .moved-is) (p .left-is)
+    {R S T : Type 0} {view : T → S} {rule : Outcome (Effect R S)} {s back : T} {old new : List ℕ} {answer : R}
+    → Steps view rule s old (value answer) back new → Accepted rule old answer (view back) new
+accepted {view = view} {rule = rule} {s = s} {back = back} {old = old} p =
+    accepted-by view s back (fitted (length old) rule) refl (p .told-is) (p .moved-is) (p .left-is)
 
 -- what a call that counts its bytes says it sent stands at the buffer's start
 pub starts-with :
-    {S : Type 0} {rule : Outcome (Effect ℕ S)} {s back next : S} {bs old new : List ℕ} {n : ℕ} → rule ≡ sends bs next
-    → Steps rule s old (value n) back new → take n new ≡ bs
-starts-with {S} {rule} {s} {back} {next} {bs} {old} {new} {n} e p =
+    {S T : Type 0} {view : T → S} {rule : Outcome (Effect ℕ S)} {s back : T} {next : S} {bs old new : List ℕ} {n : ℕ} → rule ≡ sends bs next
+    → Steps view rule s old (value n) back new → take n new ≡ bs
+starts-with {next = next} {bs = bs} {old = old} {new = new} {n = n} e p =
     by (leb (length bs) (length old)) (rw e at (p .told-is)) (rw e at (p .left-is))
   where
     by :

@@ -10,7 +10,7 @@ use lib.ListN.{length}
 use borrow.Author.Tests.{le-ltb, lt-ltb, lt-leb, le-leb}
 use Rattle.arithmetic.specs.Outcome.{Outcome, value, refused}
 use Rattle.arithmetic.specs.Refusal.{channelOver15, bufferTooShort}
-use Rattle.senders.specs.Lent.{Effect, sent, fitted, told, moved, left, Steps}
+use Rattle.senders.specs.Lent.{Effect, sent, fitted, told, Moved, left, Steps}
 use Rattle.senders.specs.Message.{Valid, isBend}
 use Rattle.senders.specs.Midi.{bytes, meant, checked, messageRule}
 use Rattle.senders.specs.declared.midi.ChannelMessageType.{ChannelMessageType}
@@ -20,15 +20,16 @@ use Rattle.senders.proofs.Messages.{message-accepted, checked-refused}
 -- ---- nothing is altered
 
 untouched-by :
-    {R S : Type 0} (f : Outcome (Effect R S)) {s back : S} {old new : List ℕ} {n : ℕ} → refused n ≡ told f → back ≡ moved f s → new ≡ left f old
-    → (back ≡ s) × (new ≡ old)
-untouched-by (value e) t m l = let z : _≡_ {A = ℕ} 0 1 = cc in absurd (omega arith)
-untouched-by (refused k) t m l = (m, l)
+    {R S T : Type 0} (view : T → S) (f : Outcome (Effect R S)) (s back : T) {old new : List ℕ} {n : ℕ} → refused n ≡ told f → Moved view f s back
+    → new ≡ left f old → (back ≡ s) × (new ≡ old)
+untouched-by view (value e) s back t m l = let z : _≡_ {A = ℕ} 0 1 = cc in absurd (omega arith)
+untouched-by view (refused k) s back t m l = (m, l)
 
 pub refused-untouched :
-    {R S : Type 0} {rule : Outcome (Effect R S)} {s back : S} {old new : List ℕ} {n : ℕ} → Steps rule s old (refused n) back new
-    → (back ≡ s) × (new ≡ old)
-refused-untouched {rule = rule} {old = old} p = untouched-by (fitted (length old) rule) (p .told-is) (p .moved-is) (p .left-is)
+    {R S T : Type 0} {view : T → S} {rule : Outcome (Effect R S)} {s back : T} {old new : List ℕ} {n : ℕ}
+    → Steps view rule s old (refused n) back new → (back ≡ s) × (new ≡ old)
+refused-untouched {view = view} {rule = rule} {s = s} {back = back} {old = old} p =
+    untouched-by view (fitted (length old) rule) s back (p .told-is) (p .moved-is) (p .left-is)
 
 -- ---- which numbers
 

@@ -8,7 +8,7 @@ use lib.ListN.{length, take, drop}
 use Rattle.arithmetic.specs.Outcome.{Outcome, value, refused, refuse_unless_then_}
 use Rattle.arithmetic.specs.Refusal.{bufferTooShort}
 
--- What a call that is not refused does: what it answers, the bytes it sends, and the state it goes on to.
+-- What a call that is not refused does: what it answers, the bytes it sends, and the state it goes on to, as its view.
 pub record Effect (R S : Type 0) : Type 0 where
   pub says : R
   pub bytes : List ℕ
@@ -16,7 +16,7 @@ pub record Effect (R S : Type 0) : Type 0 where
 
 -- most calls answer how many bytes they sent
 abbrev pub sends : {S : Type 0} → List ℕ → S → Outcome (Effect ℕ S)
-sends bs s = value (record { says = length bs; bytes = bs; next = s })
+sends bs v = value (record { says = length bs; bytes = bs; next = v })
 
 -- a call without a state: bytes, or a refusal
 abbrev pub Answer : Type 0
@@ -37,10 +37,10 @@ abbrev pub told : {R S : Type 0} → Outcome (Effect R S) → Outcome R
 told (value e) = value (e .says)
 told (refused n) = refused n
 
--- the state handed back
-abbrev pub moved : {R S : Type 0} → Outcome (Effect R S) → S → S
-moved (value e) s = e .next
-moved (refused n) s = s
+-- the state handed back: the next one, or the very one that was passed
+abbrev pub Moved : {R S T : Type 0} → (T → S) → Outcome (Effect R S) → T → T → Type 0
+Moved view (value e) s back = view back ≡ e .next
+Moved view (refused n) s back = back ≡ s
 
 -- `bs`, and then what follows in `old`
 abbrev pub written : List ℕ → List ℕ → List ℕ
@@ -53,15 +53,18 @@ left (refused n) old = old
 
 -- ---- the contracts
 
--- A call on the state `s` with the lent buffer `old` follows the rule: its result, the state handed back, and the buffer at exit.
-pub record Steps {R S : Type 0} (rule : Outcome (Effect R S)) (s : S) (old : List ℕ) (result : Outcome R) (back : S) (new : List ℕ) : Type 0 where
+-- A call on the state `s` with the lent buffer `old` follows the rule: its result, the state handed back, and the buffer at exit. The rule is
+-- about the state's view.
+pub record Steps
+    {R S T : Type 0} (view : T → S) (rule : Outcome (Effect R S)) (s : T) (old : List ℕ) (result : Outcome R) (back : T) (new : List ℕ)
+    : Type 0 where
   pub told-is : result ≡ told (fitted (length old) rule)
-  pub moved-is : back ≡ moved (fitted (length old) rule) s
+  pub moved-is : Moved view (fitted (length old) rule) s back
   pub left-is : new ≡ left (fitted (length old) rule) old
 
 -- the same of a call without a state
 abbrev pub Answers : Answer → List ℕ → Outcome ℕ → List ℕ → Type 0
-Answers rule old result new = Steps rule tt old result tt new
+Answers rule old result new = Steps (λ u. u) rule tt old result tt new
 
 -- An internal writer: `bs` were put into a buffer from `at` on, which turned `old` into `new`, and `next` is the place behind them.
 pub record Put (at : ℕ) (bs : List ℕ) (next : ℕ) (old new : List ℕ) : Type 0 where

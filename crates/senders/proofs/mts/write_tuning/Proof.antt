@@ -28,8 +28,9 @@ returns-2 c =
     let a = t .before .before .before .args in
     ends-counted
     refl
-    (omega (arith, tuning-size (a .channel) (a .tuning), t .if1 .left, t .before .tuning-len .ensures))
     (p .put-tuning .ensures)
+    (omega (arith, tuning-size (a .channel) (a .tuning), t .if1 .left, t .before .tuning-len .ensures))
+    refl
 
 pub write-tuning-spec : {M : Type 1} → statement M
 write-tuning-spec =

@@ -1,6 +1,6 @@
 -- `senders::midi::ChannelMessageType::to_raw_message` meets its contract: refused by a test of its rule, refused for want of room, or sent.
 -- Assumes nothing.
-use mathlib.Core.Path.{_≡_, sym, ap, _∙_}
+use mathlib.Core.Path.{_≡_, refl, sym, ap, _∙_}
 use native.Mathlib.Omega.{arith}
 use borrow.Author.Tests.{le-ltb, lt-ltb}
 use Rattle.arithmetic.specs.Outcome.{value}
@@ -58,8 +58,9 @@ returns-3 c =
     let a = t .before .before .before .before .before .args in
     ends-counted
     (message-accepted (a .channel) (a .self) (valid t))
-    (omega (arith, length-any (a .channel) (a .self), p .before .before .if2 .left, p .before .before .before .message-len .ensures))
     (p .put-message .ensures)
+    (omega (arith, length-any (a .channel) (a .self), p .before .before .if2 .left, p .before .before .before .message-len .ensures))
+    refl
 
 returns-4 : tie.Need-returns-4
 returns-4 c =
