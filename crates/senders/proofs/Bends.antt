@@ -1,12 +1,12 @@
 -- Bends in range, and the two bytes of one: its 14 bits from 0, halved. Assumes nothing.
 use mathlib.Core.Path.{_≡_, refl, sym, ap, _∙_}
 use mathlib.Core.Bool.{Bool, true, false, _&&_}
-use Prim.Native.Nat.{ℕ, suc, _+_, _-_, _*_, _/_, _%_, _≤_, _<_}
+use Prim.Native.Nat.{ℕ, suc, _+_, _*_, _/_, _≤_, _<_}
 use native.Mathlib.Omega.{arith}
 use lib.Dec.{leb, ltb}
 use lib.IntN.{ℤ, pos, negsuc, natAbs, _+ℤ_, _-ℤ_, +ℤ-negℤ-cancel}
 use lib.Signed.{ltZ, leZ}
-use borrow.Author.Tests.{ltb-false, ltb-true, leb-true, le-leb, lt-leb, le-ltb, lt-ltb}
+use borrow.Author.Tests.{ltb-false, ltb-true, leb-true, le-leb, lt-leb, le-ltb}
 use Rattle.senders.specs.Message.{isBend}
 use Rattle.senders.specs.Midi.{BendBits, bendLow, bendHigh}
 

@@ -2,7 +2,7 @@
 use mathlib.Core.Path.{_≡_, refl}
 use mathlib.Core.List.{[], _∷_}
 use lib.IntN.{pos, negsuc}
-use Rattle.senders.specs.Message.{bend, noteOff}
+use Rattle.senders.specs.Message.{bend}
 use Rattle.senders.specs.Midi.{bytes, bytesOf}
 use Rattle.senders.specs.Tuner.{noteMessages, pressMessages}
 use Rattle.senders.specs.declared.mts.Tuning.the-variants.{Fine}

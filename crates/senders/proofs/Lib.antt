@@ -6,5 +6,6 @@ pub mod Sizes
 pub mod Notes
 pub mod Bytes
 pub mod Received
+pub mod Each
 pub mod Refusals
 pub mod Examples

@@ -1,15 +1,15 @@
 -- Notes with a number and notes without: which message a note sends, and that it is valid. Assumes nothing.
-use mathlib.Core.Path.{_≡_, refl, sym, ap, _∙_}
+use mathlib.Core.Path.{_≡_, refl}
 use mathlib.Core.Bool.{Bool, true, false, cond}
-use mathlib.Core.Option.{Option, some, none}
-use mathlib.Core.List.{List, [], _∷_, append-nil}
+use mathlib.Core.Option.{some, none}
+use mathlib.Core.List.{[], append-nil}
 use Prim.Native.Nat.{ℕ, _≤_, _<_}
 use native.Mathlib.Omega.{arith}
 use lib.Dec.{ltb}
 use lib.IntN.{ℤ, pos, negsuc, natAbs}
 use lib.Signed.{ltZ}
 use borrow.Author.Tests.{ltb-true, ltb-false, lt-ltb, le-ltb}
-use Rattle.senders.specs.Message.{Message, Valid}
+use Rattle.senders.specs.Message.{Valid}
 use Rattle.senders.specs.Midi.{bytes, bytesOf, meant}
 use Rattle.senders.specs.Tuner.{numberOf, noteType, noteMessages}
 use Rattle.senders.specs.declared.tuner.NoteMessage.{NoteMessage}

@@ -9,14 +9,13 @@ use native.Mathlib.Omega.{arith}
 use lib.Dec.{ltb, eqb, lit<}
 use lib.IntN.{ℤ, pos, negsuc, _*ℤ_}
 use borrow.Author.Tests.{lt-ltb, ltb-true, eq-eqb}
-use Rattle.senders.specs.Message.{Message, AllValid, isBend}
+use Rattle.senders.specs.Message.{Message, isBend}
 use Rattle.senders.specs.Midi.{bytesOf, meant}
 use Rattle.senders.specs.Mts.{InSteps, tuningMessages}
-use Rattle.senders.specs.Tuner.{numberOf, numbered, noteType, noteMessages, stopMessages, pressMessages}
+use Rattle.senders.specs.Tuner.{numbered, noteType, noteMessages, stopMessages, pressMessages}
 use Rattle.senders.specs.Reader.{State}
-use Rattle.senders.specs.Padding.{allHeardAs}
 use Rattle.senders.specs.Receiver.{Channel, Receiver, Other, on, controlled, withNote, withFine, withBend, withSensitivity, withChoice, parameter, hear, hearAll, hearBytes, usualSensitivity, fineShift, bendShift}
-use Rattle.senders.specs.Meant.{tuned, noted, noteMeant, stopped, pressed, steps, stepSize, shift}
+use Rattle.senders.specs.Meant.{tuned, noteMeant, stopped, pressed, steps, stepSize, shift}
 use Rattle.senders.specs.declared.mts.Tuning.{Tuning}
 use Rattle.senders.specs.declared.mts.Tuning.the-variants.{Fine, Bend}
 use Rattle.senders.specs.declared.tuner.NoteMessage.{NoteMessage}

@@ -1,6 +1,6 @@
 -- Demand 1 for this crate's calls: a refused call alters neither the state nor one byte lent to it, its number is one of those that document 01
 -- allows the call, and the tests are met in document 01's order. Assumes nothing.
-use mathlib.Core.Path.{_≡_, refl, sym, ap, _∙_}
+use mathlib.Core.Path.{_≡_, refl}
 use mathlib.Core.Bool.{Bool, true, false, cond}
 use mathlib.Core.List.{List, [], _∷_}
 use Prim.Native.Nat.{ℕ, _≤_, _<_}

@@ -1,5 +1,5 @@
 -- How many bytes the messages of a tuner take: neither the channel nor a note's value matters. Assumes nothing.
-use mathlib.Core.Path.{_≡_, refl, sym, ap, _∙_}
+use mathlib.Core.Path.{_≡_, refl, ap, _∙_}
 use mathlib.Core.Option.{Option, some, none}
 use mathlib.Core.List.{List, _++_}
 use Prim.Native.Nat.{ℕ, _+_, _≤_}
@@ -7,7 +7,7 @@ use native.Mathlib.Omega.{arith}
 use lib.IntN.{ℤ}
 use lib.ListN.{length, length-append}
 use Rattle.senders.specs.Message.{Message}
-use Rattle.senders.specs.Midi.{bytes, bytesOf, meant}
+use Rattle.senders.specs.Midi.{bytesOf, meant}
 use Rattle.senders.specs.Mts.{tuningMessages}
 use Rattle.senders.specs.Tuner.{numberOf, numbered, noteType, noteMessages, stopMessages, pressMessages}
 use Rattle.senders.specs.declared.mts.Tuning.{Tuning}
@@ -16,7 +16,7 @@ use Rattle.senders.specs.declared.tuner.NoteMessage.{NoteMessage}
 use Rattle.senders.specs.declared.tuner.NoteMessage.the-variants.{Off, On, Pressure}
 use Rattle.senders.specs.declared.tuner.Stopped.{Stopped}
 use Rattle.senders.specs.declared.tuner.Stopped.the-variants.{Nothing, Note}
-use Rattle.senders.proofs.Messages.{bytes-append, length-any}
+use Rattle.senders.proofs.Messages.{bytes-append}
 
 abbrev size : List Message → ℕ
 size ms = length (bytesOf ms)

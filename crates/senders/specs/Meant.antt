@@ -1,9 +1,10 @@
 -- What a tuner means by the messages it sends, as a change of the channel they are sent on. Assumes nothing.
 use mathlib.Core.Bool.{Bool, false, cond}
+use mathlib.Core.List.{List, [], _∷_}
 use Prim.Native.Nat.{ℕ}
 use lib.Dec.{ltb}
 use lib.IntN.{ℤ, pos, negsuc, _-ℤ_}
-use Rattle.senders.specs.Receiver.{Channel, withChoice, withFine, withBend, withNote, parameter, fineShift, bendShift, sensitivityCents}
+use Rattle.senders.specs.Receiver.{Channel, Receiver, on, withChoice, withFine, withBend, withNote, parameter, fineShift, bendShift, sensitivityCents}
 use Rattle.senders.specs.declared.mts.Tuning.{Tuning}
 use Rattle.senders.specs.declared.mts.Tuning.the-variants.{Fine, Bend}
 use Rattle.senders.specs.declared.tuner.NoteMessage.{NoteMessage}
@@ -34,6 +35,11 @@ stopped (Note note) x = noted false note x
 -- the stopped note is off, the channel tuned, and then the new note is on
 abbrev pub pressed : Stopped → Tuning → ℤ → ℕ → Channel → Channel
 pressed s t note v x = noteMeant On note v (tuned t (stopped s x))
+
+-- a change for each of a list, in its order, each on a channel of its own
+abbrev pub onEach : {A : Type 0} → (A → ℕ) → (A → Channel → Channel) → List A → Receiver → Receiver
+onEach channel change [] r = r
+onEach channel change (x ∷ xs) r = onEach channel change xs (on (channel x) (change x) r)
 
 -- ---- how far a tuning moves its channel, in cents times 8192
 

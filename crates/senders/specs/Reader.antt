@@ -1,9 +1,9 @@
 -- Which channel messages a sequence of bytes is, by the MIDI 1.0 Detailed Specification 4.2.1 alone. Assumes nothing.
-use mathlib.Core.Bool.{Bool, true, false, cond}
+use mathlib.Core.Bool.{Bool, true, cond}
 use mathlib.Core.List.{List, [], _∷_, _++_}
 use Prim.Native.Nat.{ℕ, _+_, _*_, _/_, _%_}
 use lib.Dec.{ltb, eqb}
-use lib.IntN.{ℤ, pos, _-ℤ_}
+use lib.IntN.{pos, _-ℤ_}
 use Rattle.senders.specs.Message.{Message, noteOff, noteOn, keyPressure, control, program, channelPressure, bend}
 
 -- Where a reader stands. After a status byte its data bytes are due, and when they have come they are due again: running status, by which a

@@ -43,3 +43,8 @@ stopMessages ch (Note note) v = noteMessages Off ch note v
 -- "Press: note-off of the note Stop reports, with the new press's velocity, tuning, note-on"
 abbrev pub pressMessages : ℕ → Stopped → Tuning → ℤ → ℕ → List Message
 pressMessages ch stopped tuning note v = stopMessages ch stopped v ++ tuningMessages ch tuning ++ noteMessages On ch note v
+
+-- what is sent for each of a list, in its order: the tunings of a plan, the releases of a stop, a message to every channel
+abbrev pub each : {A : Type 0} → (A → List Message) → List A → List Message
+each messages [] = []
+each messages (x ∷ xs) = messages x ++ each messages xs

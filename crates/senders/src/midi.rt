@@ -2,13 +2,13 @@
 
 ghost use mathlib.Core.Path.{_≡_};
 ghost use mathlib.Core.Bool.{true};
-ghost use mathlib.Core.List.{List, [], _∷_};
+ghost use mathlib.Core.List.{[], _∷_};
 ghost use Prim.Native.Nat.{_+_, _*_, _≤_, _<_};
 ghost use lib.ListN.{length};
-ghost use Rattle.arithmetic.specs.Outcome.{Outcome, value};
+ghost use Rattle.arithmetic.specs.Outcome.{value};
 ghost use Rattle.senders.specs.Lent.{Put, Answers};
 ghost use Rattle.senders.specs.Answers.{sentAnswer, checkAnswer};
-ghost use Rattle.senders.specs.Message.{Message, Valid, isBend};
+ghost use Rattle.senders.specs.Message.{Valid, isBend};
 ghost use Rattle.senders.specs.Midi.{status, BendBits, bytes, meant, checked, messageRule};
 use arithmetic::refusal::BEND_OUT_OF_RANGE;
 use arithmetic::refusal::BUFFER_TOO_SHORT;

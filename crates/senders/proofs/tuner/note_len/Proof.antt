@@ -3,10 +3,7 @@ use mathlib.Core.Path.{_≡_, sym, ap, _∙_}
 use mir.Syntax.{w32}
 use mir.Val.{toZ, ofZ}
 use mir.Facts.{toZ-ofZ}
-use mathlib.Core.Option.{some, none}
-use lib.ListN.{length}
 use Rattle.senders.specs.Answers.{numberAnswer}
-use Rattle.senders.specs.Midi.{bytes, meant}
 use Rattle.senders.specs.Tuner.{numberOf}
 use Rattle.senders.proofs.Notes.{note-bytes, note-silent}
 use borrow.Author.Needs.{needs}

@@ -3,11 +3,8 @@ use mathlib.Core.Path.{_≡_, sym, ap, _∙_}
 use mir.Syntax.{w32}
 use mir.Val.{toZ, ofZ}
 use mir.Facts.{toZ-ofZ}
-use native.Mathlib.Omega.{arith}
-use mathlib.Core.Option.{some, none}
-use lib.ListN.{length}
+use mathlib.Core.Option.{some}
 use Rattle.senders.specs.Answers.{numberAnswer}
-use Rattle.senders.specs.Midi.{bytes, meant}
 use Rattle.senders.specs.Tuner.{numberOf}
 use Rattle.senders.proofs.Lent.{put-none}
 use Rattle.senders.proofs.Notes.{number-small, note-valid, note-bytes, note-silent}
