@@ -1,14 +1,14 @@
 -- Bends in range, and the two bytes of one: its 14 bits from 0, halved. Assumes nothing.
 use mathlib.Core.Path.{_≡_, refl, sym, ap, _∙_}
 use mathlib.Core.Bool.{Bool, true, false, _&&_}
-use Prim.Native.Nat.{ℕ, suc, _+_, _*_, _/_, _≤_, _<_}
+use Prim.Native.Nat.{ℕ, suc, _+_, _*_, _/_, _%_, _≤_, _<_}
 use native.Mathlib.Omega.{arith}
 use lib.Dec.{leb, ltb}
 use lib.IntN.{ℤ, pos, negsuc, natAbs, _+ℤ_, _-ℤ_, +ℤ-negℤ-cancel}
 use lib.Signed.{ltZ, leZ}
 use borrow.Author.Tests.{ltb-false, ltb-true, leb-true, le-leb, lt-leb, le-ltb}
 use Rattle.senders.specs.Message.{isBend}
-use Rattle.senders.specs.Midi.{BendBits, bendLow, bendHigh}
+use Rattle.senders.specs.Midi.{bendLow, bendHigh}
 
 -- what the code's test `a < b` says of the rule's `b ≤ a`
 pub not-lt : (a b : ℤ) → ltZ a b ≡ false → leZ b a ≡ true
@@ -42,18 +42,15 @@ raised b = natAbs (b +ℤ pos 8192)
 
 pub record Bits (b : ℤ) : Type 0 where
   pub sum : b +ℤ pos 8192 ≡ pos (raised b)
-  pub halves : BendBits b (raised b)
+  pub halves : (raised b % 128 ≡ bendLow b) × (raised b / 128 ≡ bendHigh b) × (raised b < 16384)
 
 bits-of : {b : ℤ} → InRange b → Bits b
 bits-of (above n h) =
-    record { sum = refl; halves = record { low-is = omega arith; high-is = omega arith; small = omega arith } }
+    record { sum = refl; halves = (omega arith, omega arith, omega arith) }
 bits-of (below n h) =
     let e : ltb 8192 (suc n) ≡ false = le-ltb 8192 (suc n) (omega arith) in
     let f : ltb 64 (suc (n / 128)) ≡ false = le-ltb 64 (suc (n / 128)) (omega arith) in
-    record {
-      sum = simp e;
-      halves = record { low-is = simp e (omega arith); high-is = simp (e, f) (omega arith); small = simp e (omega arith) };
-    }
+    record { sum = simp e; halves = (simp e (omega arith), simp (e, f) (omega arith), simp e (omega arith)) }
 
 pub bits : (b : ℤ) → isBend b ≡ true → Bits b
 bits b h = bits-of (in-range b h)

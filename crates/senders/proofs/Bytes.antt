@@ -146,8 +146,8 @@ raw-message-read st ch m {new = new} {n = n} p =
     let v : Valid (meant ch m) = accepted-valid ch m (accepted p .rule-is) in
     let s : take n new ≡ bytes (meant ch m) ++ [] = starts-with (message-accepted ch m v) p ∙ sym (append-nil (bytes (meant ch m))) in
     rw s (
-      record {
-        unpadded-is = read-unpadded st (meant ch m ∷ []) (v, tt);
-        padded-is = read-padded st (meant ch m ∷ []) (v, tt) ∙ append-nil (heardAs (meant ch m));
-      }
+    record {
+      unpadded-is = read-unpadded st (meant ch m ∷ []) (v, tt);
+      padded-is = read-padded st (meant ch m ∷ []) (v, tt) ∙ append-nil (heardAs (meant ch m));
+    }
     )

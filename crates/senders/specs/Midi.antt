@@ -1,7 +1,6 @@
 -- Document 01's bytes of a message, and its rule for a message that a caller asks for ("midi.rs"). Assumes nothing.
-use mathlib.Core.Path.{_≡_}
 use mathlib.Core.List.{List, [], _∷_, _++_}
-use Prim.Native.Nat.{ℕ, _+_, _-_, _*_, _/_, _%_, _<_}
+use Prim.Native.Nat.{ℕ, _+_, _-_, _*_, _%_}
 use lib.Dec.{ltb}
 use lib.IntN.{ℤ, pos, negsuc, natAbs, _+ℤ_}
 use lib.Signed.{shrZ}
@@ -25,12 +24,6 @@ bendLow (negsuc n) = 127 - n % 128
 -- .. "high byte b/128 rounded down plus 64"
 abbrev pub bendHigh : ℤ → ℕ
 bendHigh b = natAbs (shrZ b 128 +ℤ pos 64)
-
--- the two bytes as the halves of 14 bits
-pub record BendBits (b : ℤ) (bits : ℕ) : Type 0 where
-  pub low-is : bits % 128 ≡ bendLow b
-  pub high-is : bits / 128 ≡ bendHigh b
-  pub small : bits < 16384
 
 -- "Every message is three bytes. Hexadecimal kinds 8 to E; kinds C and D end in 00", a padding that the Specification lacks
 abbrev pub bytes : Message → List ℕ

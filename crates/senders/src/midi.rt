@@ -3,13 +3,13 @@
 ghost use mathlib.Core.Path.{_≡_};
 ghost use mathlib.Core.Bool.{true};
 ghost use mathlib.Core.List.{[], _∷_};
-ghost use Prim.Native.Nat.{_+_, _*_, _≤_, _<_};
+ghost use Prim.Native.Nat.{_+_, _/_, _%_, _≤_, _<_};
 ghost use lib.ListN.{length};
 ghost use Rattle.arithmetic.specs.Outcome.{value};
 ghost use Rattle.senders.specs.Lent.{Put, Answers};
 ghost use Rattle.senders.specs.Answers.{sentAnswer, checkAnswer};
 ghost use Rattle.senders.specs.Message.{Valid, isBend};
-ghost use Rattle.senders.specs.Midi.{status, BendBits, bytes, meant, checked, messageRule};
+ghost use Rattle.senders.specs.Midi.{status, bendLow, bendHigh, bytes, meant, checked, messageRule};
 use arithmetic::refusal::BEND_OUT_OF_RANGE;
 use arithmetic::refusal::BUFFER_TOO_SHORT;
 use arithmetic::refusal::CHANNEL_OVER_15;
@@ -89,7 +89,7 @@ pub(crate) enum Check {
     Refused(u8),
 }
 
-// The tests of a message's data: 8 from left, 9.
+// The tests of a message's data: 8 from left, 9. Where there is one data byte, the padding passes for the second.
 pub(crate) fn check_message(message: ChannelMessageType) -> Check
     ensures { λ r. ⌜ checkAnswer r ≡ checked message (value tt) ⌝ }
 {
@@ -136,7 +136,12 @@ pub(crate) fn message_len(message: ChannelMessageType) -> usize
 }
 
 // Puts a message's bytes from `at` on, and answers the place behind them.
-pub(crate) fn put_message(out: &mut [u8], at: usize, channel: u8, message: ChannelMessageType) -> usize
+pub(crate) fn put_message(
+    out: &mut [u8],
+    at: usize,
+    channel: u8,
+    message: ChannelMessageType,
+) -> usize
     requires { ⌜ Valid (meant channel message) × (at + length (bytes (meant channel message)) ≤ length (now out)) ⌝ }
     ensures { λ r. ⌜ Put at (bytes (meant channel message)) r (now (out .entry)) (now (out .exit)) ⌝ }
 {
@@ -183,7 +188,7 @@ fn put_record(out: &mut [u8], at: usize, kind: u8, channel: u8, first: u8, secon
 // plus 64.
 fn bend_bits(bend: i16) -> u16
     requires { ⌜ isBend bend ≡ true ⌝ }
-    ensures { λ r. ⌜ BendBits bend r ⌝ }
+    ensures { λ r. ⌜ (r % 128 ≡ bendLow bend) × (r / 128 ≡ bendHigh bend) × (r < 16384) ⌝ }
 {
     (bend - LOWEST_BEND) as u16
 }

@@ -71,7 +71,12 @@ pub(crate) fn put_tuning(out: &mut [u8], at: usize, channel: u8, tuning: Tuning)
     match tuning {
         Tuning::Fine(value) => put_fine(out, at, channel, value),
         Tuning::Bend(value) => {
-            put_message(out, at, channel, ChannelMessageType::PitchBendChange { value })
+            put_message(
+                out,
+                at,
+                channel,
+                ChannelMessageType::PitchBendChange { value },
+            )
         }
     }
 }
@@ -82,20 +87,40 @@ fn put_fine(out: &mut [u8], at: usize, channel: u8, value: u16) -> usize
 {
     let value_msb = (value / 128) as u8;
     let value_lsb = (value % 128) as u8;
-    let at = put_message(out, at, channel, ChannelMessageType::ControlChange {
-        controller: RPN_MSB,
-        value: CHANNEL_FINE_TUNING_MSB,
-    });
-    let at = put_message(out, at, channel, ChannelMessageType::ControlChange {
-        controller: RPN_LSB,
-        value: CHANNEL_FINE_TUNING_LSB,
-    });
-    let at = put_message(out, at, channel, ChannelMessageType::ControlChange {
-        controller: DATA_ENTRY_MSB,
-        value: value_msb,
-    });
-    put_message(out, at, channel, ChannelMessageType::ControlChange {
-        controller: DATA_ENTRY_LSB,
-        value: value_lsb,
-    })
+    let at = put_message(
+        out,
+        at,
+        channel,
+        ChannelMessageType::ControlChange {
+            controller: RPN_MSB,
+            value: CHANNEL_FINE_TUNING_MSB,
+        },
+    );
+    let at = put_message(
+        out,
+        at,
+        channel,
+        ChannelMessageType::ControlChange {
+            controller: RPN_LSB,
+            value: CHANNEL_FINE_TUNING_LSB,
+        },
+    );
+    let at = put_message(
+        out,
+        at,
+        channel,
+        ChannelMessageType::ControlChange {
+            controller: DATA_ENTRY_MSB,
+            value: value_msb,
+        },
+    );
+    put_message(
+        out,
+        at,
+        channel,
+        ChannelMessageType::ControlChange {
+            controller: DATA_ENTRY_LSB,
+            value: value_lsb,
+        },
+    )
 }

@@ -17,13 +17,13 @@ known : (c : tie.Start) → Bits (c .args .bend)
 known c = bits (c .args .bend) (c .pre)
 
 read-back : (c : tie.Start) → toZ w16 (raised (c .args .bend)) ≡ pos (raised (c .args .bend))
-read-back c = toZ-pos w16 (omega (arith, known c .halves .small))
+read-back c = toZ-pos w16 (omega (arith, known c .halves .2))
 
 sub-result : tie.Need-sub-result
-sub-result c = rw (plain c, known c .sum) (record { sfits = omega (arith, known c .halves .small) })
+sub-result c = rw (plain c, known c .sum) (record { sfits = omega (arith, known c .halves .2) })
 
 cast-result : tie.Need-cast-result
-cast-result c = rw (plain c, known c .sum, read-back c) (tt, record { fits = omega (arith, known c .halves .small) })
+cast-result c = rw (plain c, known c .sum, read-back c) (tt, record { fits = omega (arith, known c .halves .2) })
 
 returns : tie.Need-returns
 returns c = rw (plain c, known c .sum, read-back c) (known c .halves)

@@ -58,7 +58,7 @@ cast-low : tie.Need-cast-low
 cast-low c = search needs
 
 cast-high : tie.Need-cast-high
-cast-high c = omega (arith, c .bend-bits .ensures .small)
+cast-high c = omega (arith, c .bend-bits .ensures .2)
 
 put-record-requires-7 : tie.Need-put-record-requires-7
 put-record-requires-7 c κs = let p = rw (c .before .before .before .message7 .given .1) at (c .before .before .before .before .before .before .pre) in (lit< tt, p .0 .0, p .1)
@@ -107,7 +107,7 @@ returns-7 c =
     let d = c .before .before in
     let b = d .before .before in
     let h = rw (plain (b .before)) at (b .bend-bits .ensures) in
-    rw (b .before .before .message7 .given .1) (rw (h .low-is, h .high-is) at (d .put-record7 .ensures))
+    rw (b .before .before .message7 .given .1) (rw (h .0, h .1) at (d .put-record7 .ensures))
 
 pub put-message-spec : {M : Type 1} → statement M
 put-message-spec =
