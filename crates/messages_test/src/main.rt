@@ -1,7 +1,8 @@
 // Writes messages of every kind at their limits, and every refusal: a line for each call, with how many bytes it wrote, or R and the refusal's
-// number, and then the whole buffer, whose bytes were AA before.
+// number, and then the whole buffer, whose bytes were aa before.
 
-ghost use Prim.Native.Nat.{_<_, _≤_};
+ghost use Prim.Native.Nat.{_≤_};
+use libc::STDOUT_FILENO;
 use senders::midi::ChannelMessageType;
 use senders::midi::Sent;
 
@@ -122,9 +123,8 @@ fn short_buffers() {
 fn show(message: ChannelMessageType, channel: u8, room: usize)
     requires { ⌜ room ≤ 4 ⌝ }
 {
-    let mut buffer = [0xAAu8; 4];
-    let sent = message.to_raw_message(channel, &mut buffer[..room]);
-    match sent {
+    let mut buffer = [0xaau8; ROOM];
+    match message.to_raw_message(channel, &mut buffer[..room]) {
         Sent::Written(count) => print_count(count),
         Sent::Refused(number) => print_refusal(number),
     }
@@ -132,36 +132,19 @@ fn show(message: ChannelMessageType, channel: u8, room: usize)
     print_byte(buffer[1]);
     print_byte(buffer[2]);
     print_byte(buffer[3]);
-    io::write_all(1, b"\n");
+    io::write_all(STDOUT_FILENO, b"\n");
 }
 
 fn print_count(count: usize) {
-    if count < 10 {
-        let text = [b'0' + count as u8];
-        io::write_all(1, &text);
-    }
+    io::print_decimal(STDOUT_FILENO, count as u64);
 }
 
 fn print_refusal(number: u8) {
-    if number < 10 {
-        let text = [b'R', b'0' + number];
-        io::write_all(1, &text);
-    } else {
-        let text = [b'R', b'0' + number / 10, b'0' + number % 10];
-        io::write_all(1, &text);
-    }
+    io::write_all(STDOUT_FILENO, b"R");
+    io::print_decimal(STDOUT_FILENO, number as u64);
 }
 
 fn print_byte(byte: u8) {
-    let text = [b' ', hex_digit(byte / 16), hex_digit(byte % 16)];
-    io::write_all(1, &text);
-}
-
-fn hex_digit(digit: u8) -> u8
-    requires { ⌜ digit < 16 ⌝ }
-{
-    if digit < 10 {
-        return b'0' + digit;
-    }
-    b'A' + (digit - 10)
+    io::write_all(STDOUT_FILENO, b" ");
+    io::print_hex(STDOUT_FILENO, byte as u64, 2);
 }

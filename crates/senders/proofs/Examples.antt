@@ -5,7 +5,7 @@ use lib.IntN.{pos, negsuc}
 use Rattle.senders.specs.Message.{bend}
 use Rattle.senders.specs.Midi.{bytes, bytesOf}
 use Rattle.senders.specs.Tuner.{noteMessages, pressMessages}
-use Rattle.senders.specs.declared.mts.Tuning.the-variants.{Fine}
+use Rattle.senders.specs.declared.mts.ChannelTuning.the-variants.{Fine}
 use Rattle.senders.specs.declared.tuner.NoteMessage.the-variants.{Off}
 use Rattle.senders.specs.declared.tuner.Stopped.the-variants.{Nothing}
 

@@ -16,8 +16,8 @@ use Rattle.senders.specs.Tuner.{numbered, noteType, noteMessages, stopMe
 use Rattle.senders.specs.Reader.{State}
 use Rattle.senders.specs.Receiver.{Channel, Receiver, Other, on, controlled, withNote, withFine, withBend, withSensitivity, withChoice, parameter, hear, hearAll, hearBytes, usualSensitivity, fineShift, bendShift}
 use Rattle.senders.specs.Meant.{tuned, noteMeant, stopped, pressed, steps, stepSize, shift}
-use Rattle.senders.specs.declared.mts.Tuning.{Tuning}
-use Rattle.senders.specs.declared.mts.Tuning.the-variants.{Fine, Bend}
+use Rattle.senders.specs.declared.mts.ChannelTuning.{ChannelTuning}
+use Rattle.senders.specs.declared.mts.ChannelTuning.the-variants.{Fine, Bend}
 use Rattle.senders.specs.declared.tuner.NoteMessage.{NoteMessage}
 use Rattle.senders.specs.declared.tuner.NoteMessage.the-variants.{Off, On, Pressure}
 use Rattle.senders.specs.declared.tuner.Stopped.{Stopped}
@@ -68,7 +68,7 @@ module _ (other : Other) where
   hear-append [] ns r = refl
   hear-append (m ∷ ms) ns r = hear-append ms ns (hear other m r)
 
-  tuning-heard : (ch : ℕ) (t : Tuning) (r : Receiver) → InSteps t → hearAll other (tuningMessages ch t) r ≡ on ch (tuned t) r
+  tuning-heard : (ch : ℕ) (t : ChannelTuning) (r : Receiver) → InSteps t → hearAll other (tuningMessages ch t) r ≡ on ch (tuned t) r
   tuning-heard ch (Fine v) r h =
       let a : Channel → Channel = controlled 101 0 in
       let b : Channel → Channel = controlled 100 1 in
@@ -105,7 +105,7 @@ module _ (other : Other) where
   stop-heard ch (Note note) v r = note-heard Off ch note v r
 
   press-heard :
-      (ch : ℕ) (s : Stopped) (t : Tuning) (note : ℤ) (v : ℕ) (r : Receiver) → InSteps t
+      (ch : ℕ) (s : Stopped) (t : ChannelTuning) (note : ℤ) (v : ℕ) (r : Receiver) → InSteps t
       → hearAll other (pressMessages ch s t note v) r ≡ on ch (pressed s t note v) r
   press-heard ch s t note v r h =
       let stop : List Message = stopMessages ch s v in
@@ -119,7 +119,7 @@ module _ (other : Other) where
 
 -- ---- they are read as they are
 
-tuning-plain : (ch : ℕ) (t : Tuning) → ch < 16 → InSteps t → Plain (tuningMessages ch t)
+tuning-plain : (ch : ℕ) (t : ChannelTuning) → ch < 16 → InSteps t → Plain (tuningMessages ch t)
 tuning-plain ch (Fine v) c h =
     record {
       valid = ((c, lit< tt, lit< tt), ((c, lit< tt, lit< tt), ((c, lit< tt, omega arith), ((c, lit< tt, omega arith), tt))));
@@ -144,7 +144,7 @@ stop-plain ch Nothing v c h = record { valid = tt; unechoed = refl }
 stop-plain ch (Note note) v c h = note-plain Off ch note v c h
 
 pub press-plain :
-    (ch : ℕ) (s : Stopped) (t : Tuning) (note : ℤ) (v : ℕ) → ch < 16 → InSteps t → v < 128 → Plain (pressMessages ch s t note v)
+    (ch : ℕ) (s : Stopped) (t : ChannelTuning) (note : ℤ) (v : ℕ) → ch < 16 → InSteps t → v < 128 → Plain (pressMessages ch s t note v)
 press-plain ch s t note v c i h = plain-append (plain-append (stop-plain ch s v c h) (tuning-plain ch t c i)) (note-plain On ch note v c h)
 
 -- ---- the bytes of a tuner, received
@@ -156,7 +156,7 @@ module _ (other : Other) (st : State) where
 
   -- After the bytes of a tuning of either kind the channel is tuned.
   pub tuning-received :
-      (ch : ℕ) (t : Tuning) (r : Receiver) → ch < 16 → InSteps t → hearBytes other st (bytesOf (tuningMessages ch t)) r ≡ on ch (tuned t) r
+      (ch : ℕ) (t : ChannelTuning) (r : Receiver) → ch < 16 → InSteps t → hearBytes other st (bytesOf (tuningMessages ch t)) r ≡ on ch (tuned t) r
   tuning-received ch t r c h = plain-received (tuningMessages ch t) r (tuning-plain ch t c h) ∙ tuning-heard other ch t r h
 
   -- After a note's message the note is off, or on, or all is as it was.
@@ -168,7 +168,7 @@ module _ (other : Other) (st : State) where
 
   -- After a press the stopped note is off, the channel tuned, and the new note on.
   pub press-received :
-      (ch : ℕ) (s : Stopped) (t : Tuning) (note : ℤ) (v : ℕ) (r : Receiver) → ch < 16 → InSteps t → v < 128
+      (ch : ℕ) (s : Stopped) (t : ChannelTuning) (note : ℤ) (v : ℕ) (r : Receiver) → ch < 16 → InSteps t → v < 128
       → hearBytes other st (bytesOf (pressMessages ch s t note v)) r ≡ on ch (pressed s t note v) r
   press-received ch s t note v r c i h =
       plain-received (pressMessages ch s t note v) r (press-plain ch s t note v c i h) ∙ press-heard other ch s t note v r i
@@ -176,7 +176,7 @@ module _ (other : Other) (st : State) where
 -- ---- what it comes to
 
 -- A tuning of either kind moves its channel by its steps, each worth what the Specification says, in cents times 8192.
-pub tuning-shift : (t : Tuning) (x : Channel) → shift t (tuned t x) ≡ steps t *ℤ pos (stepSize t x)
+pub tuning-shift : (t : ChannelTuning) (x : Channel) → shift t (tuned t x) ≡ steps t *ℤ pos (stepSize t x)
 tuning-shift (Fine v) x = refl
 tuning-shift (Bend b) x = refl
 

@@ -1,21 +1,22 @@
 -- Demand 1 for this crate's calls: a refused call alters neither the state nor one byte lent to it, its number is one of those that document 01
 -- allows the call, and the tests are met in document 01's order. Assumes nothing.
-use mathlib.Core.Path.{_≡_, refl}
+use mathlib.Core.Path.{_≡_, refl, sym, ap, _∙_}
+use mathlib.Core.Logic.{_⊎_, inl, inr, _↔_}
 use mathlib.Core.Bool.{Bool, true, false, cond}
 use mathlib.Core.List.{List, [], _∷_}
 use Prim.Native.Nat.{ℕ, _≤_, _<_}
 use native.Mathlib.Omega.{arith}
 use lib.Dec.{ltb, leb, eqb}
 use lib.ListN.{length}
-use borrow.Author.Tests.{le-ltb, lt-ltb, lt-leb, le-leb}
+use borrow.Author.Tests.{le-ltb, lt-ltb, lt-leb, le-leb, ltb-true, ltb-false, leb-true, leb-false}
 use Rattle.arithmetic.specs.Outcome.{Outcome, value, refused}
 use Rattle.arithmetic.specs.Refusal.{channelOver15, bufferTooShort}
 use Rattle.senders.specs.Lent.{Effect, sent, fitted, told, Moved, left, Steps}
-use Rattle.senders.specs.Message.{Valid, isBend}
+use Rattle.senders.specs.Message.{Valid, isChannel, isBend}
 use Rattle.senders.specs.Midi.{bytes, meant, checked, messageRule}
 use Rattle.senders.specs.declared.midi.ChannelMessageType.{ChannelMessageType}
 use Rattle.senders.specs.declared.midi.ChannelMessageType.the-variants.{NoteOff, NoteOn, PolyphonicKeyPressure, ControlChange, ProgramChange, ChannelPressure, PitchBendChange}
-use Rattle.senders.proofs.Messages.{message-accepted, checked-refused}
+use Rattle.senders.proofs.Messages.{message-accepted, checked-valid, checked-refused}
 
 -- ---- nothing is altered
 
@@ -89,3 +90,48 @@ module _ (ch : ℕ) (m : ChannelMessageType) (room : ℕ) where
 
   pub room-enough : Valid (meant ch m) → length (bytes (meant ch m)) ≤ room → fitted room (messageRule ch m) ≡ sent (bytes (meant ch m))
   room-enough v h = rw (message-accepted ch m v) (rw (le-leb (length (bytes (meant ch m))) room h))
+
+-- When, and with which number: 6 for a channel over 15; else what the data are refused with; else 10 for want of room. Nothing else is refused.
+module _ (ch : ℕ) (m : ChannelMessageType) (room n : ℕ) where
+  abbrev pub Refused : Type 0
+  Refused =
+      ((isChannel ch ≡ false) × (n ≡ channelOver15))
+      ⊎ ((isChannel ch ≡ true)
+      × ((checked m (value (tt {0})) ≡ refused n) ⊎ (Valid (meant ch m) × (room < length (bytes (meant ch m))) × (n ≡ bufferTooShort))))
+
+  by-room :
+      (t : Bool) → leb (length (bytes (meant ch m))) room ≡ t → Valid (meant ch m) → fitted room (messageRule ch m) ≡ refused n
+      → (room < length (bytes (meant ch m))) × (n ≡ bufferTooShort)
+  by-room true e v h =
+      let s = room-enough ch m room v (leb-true (length (bytes (meant ch m))) room e) in
+      let z : _≡_ {A = ℕ} 0 1 = cc in
+      absurd (omega arith)
+  by-room false e v h =
+      let l : room < length (bytes (meant ch m)) = leb-false (length (bytes (meant ch m))) room e in
+      let s = room-last ch m room v l in
+      (l, (cc))
+
+  by-data :
+      (o : Outcome (Unit {0})) → checked m (value tt) ≡ o → isChannel ch ≡ true → fitted room (messageRule ch m) ≡ refused n
+      → (checked m (value (tt {0})) ≡ refused n) ⊎ (Valid (meant ch m) × (room < length (bytes (meant ch m))) × (n ≡ bufferTooShort))
+  by-data (value u) c e h =
+      let v = checked-valid m (value tt) c ch (ltb-true ch 16 e) in
+      let r = by-room (leb (length (bytes (meant ch m))) room) refl v h in
+      inr (v, r .0, r .1)
+  by-data (refused k) c e h =
+      let s = data-next ch m room (ltb-true ch 16 e) c in
+      let q : k ≡ n = cc in
+      inl (c ∙ ap refused q)
+
+  by-channel : (t : Bool) → isChannel ch ≡ t → fitted room (messageRule ch m) ≡ refused n → Refused
+  by-channel true e h = inr (e, by-data (checked m (value tt)) refl e h)
+  by-channel false e h =
+      let s = channel-first ch m room (ltb-false ch 16 e) in
+      inl (e, (cc))
+
+  back : Refused → fitted room (messageRule ch m) ≡ refused n
+  back (inl h) = channel-first ch m room (ltb-false ch 16 (h .0)) ∙ ap refused (sym (h .1))
+  back (inr h) = elim (h .1) [ inl c ↦ data-next ch m room (ltb-true ch 16 (h .0)) c | inr r ↦ room-last ch m room (r .0) (r .1) ∙ ap refused (sym (r .2)) ]
+
+  pub message-refuses : (fitted room (messageRule ch m) ≡ refused n) ↔ Refused
+  message-refuses = (by-channel (isChannel ch) refl, back)

@@ -3,6 +3,7 @@ use mathlib.Core.Path.{_≡_}
 use mathlib.Core.Bool.{Bool, true, _&&_}
 use mathlib.Core.List.{List, [], _∷_}
 use Prim.Native.Nat.{ℕ, _<_}
+use lib.Dec.{ltb}
 use lib.IntN.{ℤ, pos, negsuc}
 use lib.Signed.{leZ}
 
@@ -16,11 +17,18 @@ pub data Message : Type 0 where
   channelPressure : (channel pressure : ℕ) → Message
   bend : (channel : ℕ) (value : ℤ) → Message
 
+abbrev pub isChannel : ℕ → Bool
+isChannel ch = ltb ch 16
+
+-- 7 bits
+abbrev pub isData : ℕ → Bool
+isData b = ltb b 128
+
 -- 14 bits around the centre: -8192 to 8191
 abbrev pub isBend : ℤ → Bool
 isBend b = leZ (negsuc 8191) b && leZ b (pos 8191)
 
--- the messages there are: 16 channels, 7 bits to a data byte, 14 to a bend
+-- the messages there are
 abbrev pub Valid : Message → Type 0
 Valid (noteOff ch k v) = (ch < 16) × (k < 128) × (v < 128)
 Valid (noteOn ch k v) = (ch < 16) × (k < 128) × (v < 128)

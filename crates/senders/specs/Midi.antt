@@ -1,13 +1,12 @@
 -- Document 01's bytes of a message, and its rule for a message that a caller asks for ("midi.rs"). Assumes nothing.
 use mathlib.Core.List.{List, [], _∷_, _++_}
 use Prim.Native.Nat.{ℕ, _+_, _-_, _*_, _%_}
-use lib.Dec.{ltb}
 use lib.IntN.{ℤ, pos, negsuc, natAbs, _+ℤ_}
 use lib.Signed.{shrZ}
 use Rattle.arithmetic.specs.Outcome.{Outcome, refuse_unless_then_}
 use Rattle.arithmetic.specs.Refusal.{channelOver15, dataByteOver127, bendOutOfRange}
 use Rattle.senders.specs.Lent.{Answer, sent}
-use Rattle.senders.specs.Message.{Message, noteOff, noteOn, keyPressure, control, program, channelPressure, bend, isBend}
+use Rattle.senders.specs.Message.{Message, noteOff, noteOn, keyPressure, control, program, channelPressure, bend, isChannel, isData, isBend}
 use Rattle.senders.specs.declared.midi.ChannelMessageType.{ChannelMessageType}
 use Rattle.senders.specs.declared.midi.ChannelMessageType.the-variants.{NoteOff, NoteOn, PolyphonicKeyPressure, ControlChange, ProgramChange, ChannelPressure, PitchBendChange}
 
@@ -54,14 +53,14 @@ meant ch (PitchBendChange b) = bend ch b
 
 -- 8 from left, 9, and then what is left of the rule
 abbrev pub checked : {A : Type 0} → ChannelMessageType → Outcome A → Outcome A
-checked (NoteOff k v) o = refuse dataByteOver127 unless ltb k 128 then refuse dataByteOver127 unless ltb v 128 then o
-checked (NoteOn k v) o = refuse dataByteOver127 unless ltb k 128 then refuse dataByteOver127 unless ltb v 128 then o
-checked (PolyphonicKeyPressure k p) o = refuse dataByteOver127 unless ltb k 128 then refuse dataByteOver127 unless ltb p 128 then o
-checked (ControlChange n v) o = refuse dataByteOver127 unless ltb n 128 then refuse dataByteOver127 unless ltb v 128 then o
-checked (ProgramChange p) o = refuse dataByteOver127 unless ltb p 128 then o
-checked (ChannelPressure p) o = refuse dataByteOver127 unless ltb p 128 then o
+checked (NoteOff k v) o = refuse dataByteOver127 unless isData k then refuse dataByteOver127 unless isData v then o
+checked (NoteOn k v) o = refuse dataByteOver127 unless isData k then refuse dataByteOver127 unless isData v then o
+checked (PolyphonicKeyPressure k p) o = refuse dataByteOver127 unless isData k then refuse dataByteOver127 unless isData p then o
+checked (ControlChange n v) o = refuse dataByteOver127 unless isData n then refuse dataByteOver127 unless isData v then o
+checked (ProgramChange p) o = refuse dataByteOver127 unless isData p then o
+checked (ChannelPressure p) o = refuse dataByteOver127 unless isData p then o
 checked (PitchBendChange b) o = refuse bendOutOfRange unless isBend b then o
 
 -- `fitted` adds 10
 abbrev pub messageRule : ℕ → ChannelMessageType → Answer
-messageRule ch m = refuse channelOver15 unless ltb ch 16 then checked m (sent (bytes (meant ch m)))
+messageRule ch m = refuse channelOver15 unless isChannel ch then checked m (sent (bytes (meant ch m)))

@@ -11,7 +11,7 @@ ghost use Rattle.senders.specs.Tuner.{numberOf, noteType, noteMessages, 
 use crate::midi::ChannelMessageType;
 use crate::midi::message_len;
 use crate::midi::put_message;
-use crate::mts::Tuning;
+use crate::mts::ChannelTuning;
 use crate::mts::put_tuning;
 use crate::mts::tuning_len;
 
@@ -38,7 +38,7 @@ enum NoteNumber {
 }
 
 // How many bytes a press takes, on any channel.
-pub(crate) fn press_len(stopped: Stopped, tuning: Tuning, note: i32) -> usize
+pub(crate) fn press_len(stopped: Stopped, tuning: ChannelTuning, note: i32) -> usize
     ensures { λ r. ⌜ r ≡ length (bytesOf (pressMessages 0 stopped tuning note 0)) ⌝ }
 {
     stop_len(stopped) + tuning_len(tuning) + note_len(NoteMessage::On, note)
@@ -50,7 +50,7 @@ pub(crate) fn put_press(
     at: usize,
     channel: u8,
     stopped: Stopped,
-    tuning: Tuning,
+    tuning: ChannelTuning,
     note: i32,
     velocity: u8,
 ) -> usize

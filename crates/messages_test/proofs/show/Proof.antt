@@ -14,14 +14,14 @@ slice-aggregate-to-raw-message c = sym (length-take-le (c .before .args .room) _
 to-raw-message-requires : tie.Need-to-raw-message-requires
 to-raw-message-requires c κs = search needs
 
-enum-known-sent : tie.Need-enum-known-sent
-enum-known-sent c = search needs
+enum-known-count : tie.Need-enum-known-count
+enum-known-count c = search needs
 
 print-count-requires : tie.Need-print-count-requires
 print-count-requires c κs = search needs
 
-enum-known-sent-2 : tie.Need-enum-known-sent-2
-enum-known-sent-2 c = search needs
+enum-known-number : tie.Need-enum-known-number
+enum-known-number c = search needs
 
 print-refusal-requires : tie.Need-print-refusal-requires
 print-refusal-requires c κs = search needs
@@ -66,9 +66,9 @@ show-spec =
     array-borrow-prefix-buffer
     slice-aggregate-to-raw-message
     to-raw-message-requires
-    enum-known-sent
+    enum-known-count
     print-count-requires
-    enum-known-sent-2
+    enum-known-number
     print-refusal-requires
     array-read-print-byte
     print-byte-requires
