@@ -61,6 +61,16 @@ module _ (st : State) (kind ch : ℕ) (l : 8 ≤ kind) (h : kind < 15) (c : ch <
       → read st (unpadded (status kind ch ∷ a ∷ 0 ∷ rest)) ≡ ofOne kind ch a ∷ read (due (status kind ch)) (unpadded rest)
   unpadded-one a rest o p = rw (kind-of, o) (read-one a (unpadded rest) o p)
 
+  -- running status: without a status byte the data bytes are a message of the kind before
+  pub running-status :
+      (a b : ℕ) (rest : List ℕ) → hasOne kind ≡ false → a < 128 → b < 128
+      → read (due (status kind ch)) (a ∷ b ∷ rest) ≡ ofTwo kind ch a b ∷ read (due (status kind ch)) rest
+  running-status a b rest o p q = simp (lt-ltb a 128 p, lt-ltb b 128 q, kind-of, channel-of, o)
+
+-- real-time bytes stand anywhere and change nothing
+pub real-time-passed : (st : State) (b : ℕ) (rest : List ℕ) → 0xf8 ≤ b → read st (b ∷ rest) ≡ read st rest
+real-time-passed st b rest h = simp (le-ltb b 128 (omega arith), le-ltb b 240 (omega arith), le-ltb b 248 h)
+
 -- ---- one message
 
 -- where the reader stands afterwards: its status byte runs on

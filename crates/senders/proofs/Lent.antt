@@ -6,7 +6,7 @@ use native.Mathlib.Nat.{add-assoc, zero-add, add-zero}
 use native.Mathlib.Numerals.{add-one}
 use native.Mathlib.Omega.{arith}
 use lib.Dec.{leb}
-use lib.ListN.{length, take, drop, set, length-append, take-append-drop}
+use lib.ListN.{length, take, drop, getD, set, length-append, take-append-drop}
 use lib.Seq.{sets-eq, length-take-le, take-at, drop-at, drop-drop}
 use borrow.Author.Tests.{lt-leb, le-leb}
 use mathlib.Core.Bool.{Bool, true, false, cond}
@@ -16,13 +16,17 @@ use Rattle.senders.specs.Lent.{Effect, sends, fitted, told, Moved, left,
 
 -- ---- bytes put into a buffer
 
--- three stores in a row
+-- a record of three bytes stored in a row
 pub stores :
-    (l : List ℕ) (at a b c : ℕ) → at + 3 ≤ length l
-    → set (set (set l at a) (at + 1) b) (at + 2) c ≡ take at l ++ (a ∷ b ∷ c ∷ []) ++ drop (at + 3) l
-stores l at a b c h =
-    let e : at + 2 ≡ suc (suc at) = omega arith in
-    rw (add-one, e) (sets-eq (a ∷ b ∷ c ∷ []) l at h)
+    (l : List ℕ) (at : ℕ) (bs : List ℕ) → length bs ≡ 3 → at + 3 ≤ length l
+    → set (set (set l at (getD bs 0 0)) (at + 1) (getD bs 1 0)) (at + 2) (getD bs 2 0) ≡ take at l ++ bs ++ drop (at + length bs) l
+stores l at (a ∷ b ∷ c ∷ []) e h =
+    let f : at + 2 ≡ suc (suc at) = omega arith in
+    rw (add-one, f) (sets-eq (a ∷ b ∷ c ∷ []) l at h)
+stores l at [] e h = absurd (let z : ⊥ = omega arith in z)
+stores l at (a ∷ []) e h = absurd (let z : ⊥ = omega arith in z)
+stores l at (a ∷ b ∷ []) e h = absurd (let z : ⊥ = omega arith in z)
+stores l at (a ∷ b ∷ c ∷ d ∷ bs) e h = absurd (let z : ⊥ = omega arith in z)
 
 -- nothing is put
 pub put-none : (at : ℕ) (l : List ℕ) → Put at [] at l l

@@ -81,7 +81,7 @@ checked-refused (PitchBendChange b) o e = moved-one 9 (isBend b) o e
 
 -- ---- the rule of a message
 
-valid-channel : (ch : ℕ) (m : ChannelMessageType) → Valid (meant ch m) → ch < 16
+pub valid-channel : (ch : ℕ) (m : ChannelMessageType) → Valid (meant ch m) → ch < 16
 valid-channel ch (NoteOff k v) h = h .0
 valid-channel ch (NoteOn k v) h = h .0
 valid-channel ch (PolyphonicKeyPressure k p) h = h .0

@@ -145,43 +145,50 @@ pub(crate) fn put_message(
     requires { ⌜ Valid (meant channel message) × (at + length (bytes (meant channel message)) ≤ length (now out)) ⌝ }
     ensures { λ r. ⌜ Put at (bytes (meant channel message)) r (now (out .entry)) (now (out .exit)) ⌝ }
 {
+    let record = raw_message(channel, message);
+    out[at] = record[0];
+    out[at + 1] = record[1];
+    out[at + 2] = record[2];
+    at + RECORD_LEN
+}
+
+fn raw_message(channel: u8, message: ChannelMessageType) -> [u8; RECORD_LEN]
+    requires { ⌜ Valid (meant channel message) ⌝ }
+    ensures { λ r. ⌜ r ≡ bytes (meant channel message) ⌝ }
+{
     match message {
         ChannelMessageType::NoteOff { key, velocity } => {
-            put_record(out, at, NOTE_OFF, channel, key, velocity)
+            channel_message(NOTE_OFF, channel, key, velocity)
         }
         ChannelMessageType::NoteOn { key, velocity } => {
-            put_record(out, at, NOTE_ON, channel, key, velocity)
+            channel_message(NOTE_ON, channel, key, velocity)
         }
         ChannelMessageType::PolyphonicKeyPressure { key, pressure } => {
-            put_record(out, at, POLYPHONIC_KEY_PRESSURE, channel, key, pressure)
+            channel_message(POLYPHONIC_KEY_PRESSURE, channel, key, pressure)
         }
         ChannelMessageType::ControlChange { controller, value } => {
-            put_record(out, at, CONTROL_CHANGE, channel, controller, value)
+            channel_message(CONTROL_CHANGE, channel, controller, value)
         }
         ChannelMessageType::ProgramChange { program } => {
-            put_record(out, at, PROGRAM_CHANGE, channel, program, PADDING)
+            channel_message(PROGRAM_CHANGE, channel, program, PADDING)
         }
         ChannelMessageType::ChannelPressure { pressure } => {
-            put_record(out, at, CHANNEL_PRESSURE, channel, pressure, PADDING)
+            channel_message(CHANNEL_PRESSURE, channel, pressure, PADDING)
         }
         ChannelMessageType::PitchBendChange { value } => {
             let bits = bend_bits(value);
             let low = (bits % 128) as u8;
             let high = (bits / 128) as u8;
-            put_record(out, at, PITCH_BEND_CHANGE, channel, low, high)
+            channel_message(PITCH_BEND_CHANGE, channel, low, high)
         }
     }
 }
 
-// The bytes of a message, from `at` on.
-fn put_record(out: &mut [u8], at: usize, kind: u8, channel: u8, first: u8, second: u8) -> usize
-    requires { ⌜ (kind < 16) × (channel < 16) × (at + 3 ≤ length (now out)) ⌝ }
-    ensures { λ r. ⌜ Put at (status kind channel ∷ first ∷ second ∷ []) r (now (out .entry)) (now (out .exit)) ⌝ }
+fn channel_message(kind: u8, channel: u8, first: u8, second: u8) -> [u8; RECORD_LEN]
+    requires { ⌜ (kind < 16) × (channel < 16) ⌝ }
+    ensures { λ r. ⌜ r ≡ status kind channel ∷ first ∷ second ∷ [] ⌝ }
 {
-    out[at] = kind * 16 + channel;
-    out[at + 1] = first;
-    out[at + 2] = second;
-    at + RECORD_LEN
+    [kind * 16 + channel, first, second]
 }
 
 // The 14 bits of a bend, from 0. 8192 is 64 times 128, so their low half is the bend mod 128 and their high half the bend / 128 rounded down,
