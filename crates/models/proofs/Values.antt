@@ -1,11 +1,12 @@
 -- Values in which a detuning is sent: what is clamped lies in its range, and what the code computes on the way fits its type. Assumes nothing.
 use mathlib.Core.Path.{_≡_, refl, sym, ap, _∙_, subst}
-use mathlib.Core.Bool.{Bool, true, false, cond, true≢false}
+use mathlib.Core.Logic.{_↔_}
+use mathlib.Core.Bool.{Bool, true, false, cond, _&&_, true≢false}
 use Prim.Native.Nat.{ℕ, suc, _+_, _*_, _/_, _^_, _≤_, _<_}
 use native.Mathlib.Omega.{arith}
 use lib.Dec.{T}
 use lib.IntN.{ℤ, pos, negsuc, natAbs, _+ℤ_, _*ℤ_}
-use lib.Signed.{mag, ltZ, quotZ, _≤ℤ_}
+use lib.Signed.{mag, ltZ, leZ, quotZ, _≤ℤ_}
 use lib.Ieee.{Float, binary64, fits}
 use lib.Ieee.Bits.{is-true}
 use lib.Ieee.Positive.{positive}
@@ -17,12 +18,13 @@ use Rattle.arithmetic.specs.Refusal.{notMeasurable}
 use Rattle.arithmetic.specs.Division.{quotient}
 use Rattle.arithmetic.specs.Measure.{measure, measureRule}
 use Rattle.arithmetic.proofs.Integers.{plus, less, add-parts, mul-parts, fits-by, small-by, between-parts}
+use Rattle.arithmetic.proofs.Outcomes.{refuses-once}
 use Rattle.arithmetic.proofs.Quotients.{quot-fits}
 use Rattle.arithmetic.proofs.Range.{measure-range}
 use Rattle.models.specs.declared.steps.TuningKind.{TuningKind}
 use Rattle.models.specs.declared.steps.TuningKind.the-variants.{FineTuning, Bend}
 use Rattle.models.specs.declared.steps.Tuning.{Tuning}
-use Rattle.models.specs.Steps.{clamp, fineStep, fineValue, bendStep, bendValue, tuningOf, tuningRule, InSteps}
+use Rattle.models.specs.Steps.{clamp, fineStep, fineValue, bendStep, bendValue, tuningOf, sentAs, tuningRule, InSteps}
 
 -- ---- clamped
 
@@ -80,8 +82,10 @@ clamp-parts a b z = go (clamp (negsuc b) (pos a) z) (clamped (negsuc b) (pos a) 
     go y high = (omega arith, omega arith)
     go y (kept e f) = (not-above a z f, not-below b z e)
 
-pub clamp-between : (a b : ℕ) (z : ℤ) → (negsuc b ≤ℤ clamp (negsuc b) (pos a) z) × (clamp (negsuc b) (pos a) z ≤ℤ pos a)
-clamp-between a b z = between-parts a b (clamp (negsuc b) (pos a) z) (clamp-parts a b z .0) (clamp-parts a b z .1)
+pub clamp-between : (a b : ℕ) (z : ℤ) → (leZ (negsuc b) (clamp (negsuc b) (pos a) z) && leZ (clamp (negsuc b) (pos a) z) (pos a)) ≡ true
+clamp-between a b z =
+    let y = between-parts a b (clamp (negsuc b) (pos a) z) (clamp-parts a b z .0) (clamp-parts a b z .1) in
+    rw (is-true (leZ (negsuc b) (clamp (negsuc b) (pos a) z)) (y .0 .le), is-true (leZ (clamp (negsuc b) (pos a) z) (pos a)) (y .1 .le))
 
 pub clamp-fits : (z : ℤ) → mag (clamp (negsuc 8191) (pos 8191) z) < 2 ^ 15
 clamp-fits z =
@@ -127,7 +131,7 @@ module _ (l : ℤ) (h : mag l < 2 ^ 40) where
 
 -- the measure was refused, so the value is
 pub none-measured : (kind : TuningKind) (v : Float) (n : ℕ) → refused n ≡ measureRule v → refused notMeasurable ≡ tuningRule kind v
-unfolding measureRule tuningRule
+unfolding measureRule tuningRule sentAs
 none-measured kind v n h = go (positive v) h
   where
     go : (b : Bool) → refused n ≡ (refuse notMeasurable unless b then value (measure v)) → refused notMeasurable ≡ (refuse notMeasurable unless b then value (tuningOf kind (measure v)))
@@ -151,5 +155,20 @@ pub measured-small : (v : Float) (l : ℤ) → T (fits binary64 v) → Known v l
 measured-small v l f k = rw (k .is) (measure-range v f (subst T (sym (k .above)) tt))
 
 pub measured-value : (kind : TuningKind) (v : Float) (l : ℤ) → Known v l → value (tuningOf kind l) ≡ tuningRule kind v
-unfolding tuningRule
+unfolding tuningRule sentAs
 measured-value kind v l k = rw (k .above, k .is)
+
+-- a detuning that is positive and finite is sent
+pub sent-value : (kind : TuningKind) (v : Float) → positive v ≡ true → tuningRule kind v ≡ value (sentAs kind v)
+unfolding tuningRule
+sent-value kind v p = rw p
+
+pub sent-in-steps : (kind : TuningKind) (v : Float) → InSteps (sentAs kind v)
+unfolding sentAs
+sent-in-steps kind v = in-steps kind (measure v)
+
+-- ---- demand 1: refusal 2, exactly where a detuning is not positive and finite
+
+pub tuning-refuses : (kind : TuningKind) (v : Float) (n : ℕ) → (tuningRule kind v ≡ refused n) ↔ ((positive v ≡ false) × (n ≡ notMeasurable))
+unfolding tuningRule
+tuning-refuses kind v n = refuses-once notMeasurable n (positive v) (sentAs kind v)

@@ -1,4 +1,6 @@
 -- What the crate's contracts cite, each file a rule of document 01.
+pub mod Outcome
+pub mod Refusal
 pub mod Steps
 pub mod Entries
 pub mod ChannelList

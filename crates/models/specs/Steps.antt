@@ -1,9 +1,10 @@
 -- The values in which a detuning v is sent, from its measure L (document 01, "Fine value", "Bend value"). Assumes nothing.
 use Prim.Native.Nat.{ℕ, zero, suc, _*_, _<_}
-use mathlib.Core.Bool.{cond}
+use mathlib.Core.Path.{_≡_}
+use mathlib.Core.Bool.{true, cond, _&&_}
 use mathlib.Core.Logic.{_⊎_}
 use lib.IntN.{ℤ, pos, negsuc, natAbs, sucℤ, _+ℤ_, _-ℤ_, _*ℤ_}
-use lib.Signed.{ltZ, quotZ, _≤ℤ_}
+use lib.Signed.{ltZ, leZ, quotZ}
 use lib.Ieee.{Float}
 use lib.Ieee.Positive.{positive}
 use Rattle.arithmetic.specs.Outcome.{Outcome, value, refuse_unless_then_}
@@ -43,16 +44,20 @@ unfoldable pub tuningOf : TuningKind → ℤ → Tuning
 tuningOf FineTuning l = Fine (fineValue l)
 tuningOf Bend l = Bent (bendValue l)
 
+-- the tuning in which a detuning is sent
+unfoldable pub sentAs : TuningKind → Float → Tuning
+sentAs kind v = tuningOf kind (measure v)
+
 -- the rule of the call: refusal 2 for a detuning that is not positive and finite
 unfoldable pub tuningRule : TuningKind → Float → Outcome Tuning
-tuningRule kind v = refuse notMeasurable unless positive v then value (tuningOf kind (measure v))
+tuningRule kind v = refuse notMeasurable unless positive v then value (sentAs kind v)
 
 -- ---- what is proved of them
 
 -- the range of a kind's values
 abbrev pub InSteps : Tuning → Type 0
 InSteps (Fine n) = n < 16384
-InSteps (Bent b) = (negsuc 8191 ≤ℤ b) × (b ≤ℤ pos 8191)
+InSteps (Bent b) = (leZ (negsuc 8191) b && leZ b (pos 8191)) ≡ true
 
 -- "k ≤ E < k + 1 + 1/64, where E = 8192 + 98304 × log2 v, written over whole powers":
 -- 2 ^ (k - 8192) ≤ v ^ 98304, and v ^ (98304 * 64) < 2 ^ ((k - 8192) * 64 + 65)

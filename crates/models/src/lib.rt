@@ -5,3 +5,7 @@ pub mod keys;
 mod lists;
 pub mod queue;
 pub mod steps;
+
+// What the crates above need of arithmetic, passed on.
+pub use arithmetic::pitch::Pitch;
+pub use arithmetic::refusal;

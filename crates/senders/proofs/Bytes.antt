@@ -9,7 +9,7 @@ use lib.Dec.{ltb, lit<, lit≤}
 use lib.IntN.{ℤ}
 use lib.ListN.{take}
 use borrow.Author.Tests.{lt-ltb, le-ltb}
-use Rattle.arithmetic.specs.Outcome.{value}
+use Rattle.models.specs.Outcome.{value}
 use Rattle.senders.specs.Lent.{Answers}
 use Rattle.senders.specs.Message.{Message, noteOff, noteOn, keyPressure, control, program, channelPressure, bend, isBend, Valid, AllValid}
 use Rattle.senders.specs.Midi.{status, bytes, bytesOf, bendLow, bendHigh, meant, messageRule}

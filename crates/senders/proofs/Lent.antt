@@ -10,8 +10,8 @@ use lib.ListN.{length, take, drop, getD, set, length-append, take-append-drop}
 use lib.Seq.{sets-eq, length-take-le, take-at, drop-at, drop-drop}
 use borrow.Author.Tests.{lt-leb, le-leb}
 use mathlib.Core.Bool.{Bool, true, false, cond}
-use Rattle.arithmetic.specs.Outcome.{Outcome, value, refused}
-use Rattle.arithmetic.specs.Refusal.{bufferTooShort}
+use Rattle.models.specs.Outcome.{Outcome, value, refused}
+use Rattle.models.specs.Refusal.{bufferTooShort}
 use Rattle.senders.specs.Lent.{Effect, sends, fitted, told, Moved, left, written, Steps, Put}
 
 -- ---- bytes put into a buffer

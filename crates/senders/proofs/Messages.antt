@@ -7,7 +7,7 @@ use native.Mathlib.Omega.{arith}
 use lib.Dec.{ltb}
 use lib.ListN.{length}
 use borrow.Author.Tests.{lt-ltb, ltb-true}
-use Rattle.arithmetic.specs.Outcome.{Outcome, value, refused}
+use Rattle.models.specs.Outcome.{Outcome, value, refused}
 use Rattle.senders.specs.Lent.{Effect, sent}
 use Rattle.senders.specs.Message.{Message, noteOff, noteOn, keyPressure, control, program, channelPressure, bend, Valid, AllValid, isBend}
 use Rattle.senders.specs.Midi.{bytes, bytesOf, meant, checked, messageRule}

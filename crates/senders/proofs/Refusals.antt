@@ -9,8 +9,8 @@ use native.Mathlib.Omega.{arith}
 use lib.Dec.{ltb, leb, eqb}
 use lib.ListN.{length}
 use borrow.Author.Tests.{le-ltb, lt-ltb, lt-leb, le-leb, ltb-true, ltb-false, leb-true, leb-false}
-use Rattle.arithmetic.specs.Outcome.{Outcome, value, refused}
-use Rattle.arithmetic.specs.Refusal.{channelOver15, bufferTooShort}
+use Rattle.models.specs.Outcome.{Outcome, value, refused}
+use Rattle.models.specs.Refusal.{channelOver15, bufferTooShort}
 use Rattle.senders.specs.Lent.{Effect, sent, fitted, told, Moved, left, Steps}
 use Rattle.senders.specs.Message.{Valid, isChannel, isBend}
 use Rattle.senders.specs.Midi.{bytes, meant, checked, messageRule}

@@ -1,7 +1,7 @@
 -- The answers of the calls, each enum's cases in document 01's words: a value, or a refusal by its number. Assumes nothing.
 use mathlib.Core.Option.{Option, some, none}
 use Prim.Native.Nat.{ℕ}
-use Rattle.arithmetic.specs.Outcome.{Outcome, value, refused}
+use Rattle.models.specs.Outcome.{Outcome, value, refused}
 use Rattle.senders.specs.declared.midi.Sent.{Sent}
 use Rattle.senders.specs.declared.midi.Sent.the-variants.{Written, Refused}
 use Rattle.senders.specs.declared.midi.Check.{Check}

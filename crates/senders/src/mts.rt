@@ -11,7 +11,7 @@ use crate::midi::ChannelMessageType;
 use crate::midi::Sent;
 use crate::midi::message_len;
 use crate::midi::put_message;
-use arithmetic::refusal::BUFFER_TOO_SHORT;
+use models::refusal::BUFFER_TOO_SHORT;
 
 // The controllers that choose a registered parameter and set its value.
 const RPN_MSB: u8 = 0x65;
