@@ -1,6 +1,6 @@
 -- Which presses are rejected, of those that meet no refusal: Block rejects exactly those that find no free channel in their pool, Stop and Ignore exactly
 -- where there are no channels. And what the others get. Assumes nothing.
-use Prim.Native.Nat.{ℕ, zero, suc, _+_, _<_}
+use Prim.Native.Nat.{ℕ, zero, suc, _<_}
 use mathlib.Core.Path.{_≡_, refl, sym, ap, subst, _∙_}
 use mathlib.Core.Bool.{Bool, true, cond}
 use mathlib.Core.List.{List, [], _∷_}
@@ -10,9 +10,9 @@ use native.Mathlib.Omega.{arith}
 use borrow.Author.Tests.{eq-eqb}
 use lib.IntN.{ℤ}
 use lib.Ieee.{Float}
-use lib.ListN.{length, getD, drop}
+use lib.ListN.{length, drop}
 use lib.Seq.{getD-set-same}
-use Rattle.arithmetic.specs.Outcome.{value, refuse_unless_then_}
+use Rattle.arithmetic.specs.Outcome.{value}
 use Rattle.arithmetic.specs.Pitch.{isPitch, detuningOf}
 use Rattle.arithmetic.specs.Nearest.{nearestNote}
 use Rattle.models.specs.declared.jit.PoolGroupBy.{PoolGroupBy}
@@ -20,12 +20,12 @@ use Rattle.models.specs.declared.jit.PoolingMode.{PoolingMode}
 use Rattle.models.specs.declared.jit.PoolingMode.the-variants.{Block, Stop, Ignore}
 use Rattle.models.specs.Entries.{among, without, first}
 use Rattle.models.specs.ChannelList.{listRule, present}
-use Rattle.models.specs.Pool.{keyCount, Place, Pool, State, Held, emptyPool, poolOf, pool, found, withPool, withKey, behind, freedIn, freed, forgotten, released, heldAt, oldestOf, oldest, Room, room, madeRoom, roomBy, roomFor, Press, accepted, rejected, pressedOn, pressed, isHeld, unlessHeld, registerRule}
+use Rattle.models.specs.Pool.{Place, State, Held, emptyPool, poolOf, pool, found, withPool, withKey, behind, freedIn, freed, forgotten, heldAt, oldestOf, oldest, room, madeRoom, roomBy, roomFor, Press, accepted, rejected, pressedOn, pressed, isHeld, unlessHeld, registerRule}
 use Rattle.models.specs.Recital.{Call, times}
 use Rattle.models.proofs.Pools.{pool-small, released-found, made-none, pressed-free, pressed-none}
 use Rattle.models.proofs.Times.{times-cons, times-same}
 use Rattle.models.proofs.PoolSettings.{mode-kept}
-use Rattle.models.proofs.PoolInvariant.{Holds, PoolOk, Ok, pool-ok, first-rest, first-none, free-low, room-ok, model, model-ok}
+use Rattle.models.proofs.PoolInvariant.{Ok, pool-ok, first-rest, first-none, free-low, room-ok, model, model-ok}
 
 -- an accepted press is no rejected one
 clash : {X : Type 0} {c : ℕ} {st : Option ℤ} {z : ℤ} {d : Float} → accepted c st z d ≡ rejected → X

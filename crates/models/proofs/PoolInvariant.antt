@@ -13,7 +13,7 @@ use lib.ListN.{length, getD, set, drop, replicate, length-set, length-append, le
 use lib.Seq.{getD-set-same, getD-set-other}
 use lib.Dec.{leb}
 use borrow.Author.Tests.{leb-true, leb-false}
-use Rattle.arithmetic.specs.Outcome.{Outcome, value, refused, refuse_unless_then_}
+use Rattle.arithmetic.specs.Outcome.{value, refuse_unless_then_}
 use Rattle.arithmetic.specs.Pitch.{isPitch, detuningOf}
 use Rattle.arithmetic.specs.Nearest.{nearestNote}
 use Rattle.models.specs.declared.jit.PoolGroupBy.{PoolGroupBy}
@@ -21,12 +21,12 @@ use Rattle.models.specs.declared.jit.PoolingMode.{PoolingMode}
 use Rattle.models.specs.declared.jit.PoolingMode.the-variants.{Block, Stop, Ignore}
 use Rattle.models.specs.Entries.{among, without, range, first}
 use Rattle.models.specs.ChannelList.{listRule, present}
-use Rattle.models.specs.Pool.{keyCount, Place, Pool, State, Held, emptyPool, poolCount, poolOf, pool, found, fresh, openRule, withPool, withKey, behind, takenIn, taken, freedIn, freed, forgotten, released, releasedFrom, releasedAll, stopped, oldest, Room, madeRoom, roomBy, roomFor, pressedOn, pressed, isHeld, unlessHeld, registerRule, replied}
+use Rattle.models.specs.Pool.{keyCount, Place, Pool, State, Held, emptyPool, poolCount, poolOf, pool, found, fresh, openRule, withPool, withKey, behind, takenIn, taken, freedIn, freed, forgotten, released, releasedAll, stopped, oldest, madeRoom, roomBy, roomFor, pressedOn, pressed, isHeld, unlessHeld, registerRule, replied}
 use Rattle.models.specs.Recital.{Call, press, release, lookup, repitch, stop, after, played, times, channelAt, keysOn, standing}
 use Rattle.models.proofs.ChannelLists.{Verdict, listed, offended, verdict, fine-listed, offence-refused, channels-few}
 use Rattle.models.proofs.Queues.{behind-room}
 use Rattle.models.proofs.Pools.{pool-small, oldest-is, released-found, released-none, released-other}
-use Rattle.models.proofs.Times.{times-none, times-cons, times-same, times-eq, times-other, times-one, either, among-times, among-not, sum-append, sum-without, times-append, times-without, length-without, times-range, times-past, length-range}
+use Rattle.models.proofs.Times.{times-none, times-cons, times-same, times-other, times-one, either, among-times, among-not, sum-append, sum-without, times-append, times-without, length-without, times-range, times-past, length-range}
 
 -- ---- the keys on a channel
 
