@@ -1,14 +1,13 @@
 -- A table seen through a function: a lookup and a store in what is seen. And the records of keys: a key is found if its record has a note, and a note
 -- fits sixteen bits. Assumes nothing.
-use Prim.Native.Nat.{ℕ, zero, suc, _<_, _≤_}
+use Prim.Native.Nat.{ℕ, zero, suc, _<_}
 use mathlib.Core.Path.{_≡_, refl, sym, ap, _∙_}
 use mathlib.Core.Bool.{Bool, true, false, cond, _&&_}
 use mathlib.Core.List.{List, [], _∷_, map}
-use mathlib.Core.Option.{Option, some, none}
+use mathlib.Core.Option.{some, none}
 use native.Mathlib.Omega.{arith}
 use borrow.Author.Tests.{leb-true}
 use lib.IntN.{ℤ, pos, negsuc}
-use lib.Signed.{mag, leZ}
 use lib.Dec.{leb}
 use lib.ListN.{length, length-map, getD, set}
 use mir.Syntax.{w16, w32}

@@ -1,6 +1,6 @@
 -- Which presses are rejected, of those that meet no refusal: Block rejects exactly those that find no free channel in their pool, Stop and Ignore exactly
 -- where there are no channels. And what the others get. Assumes nothing.
-use Prim.Native.Nat.{ℕ, zero, suc, _+_, _<_}
+use Prim.Native.Nat.{ℕ, zero, suc, _<_}
 use mathlib.Core.Path.{_≡_, refl, sym, ap, subst, _∙_}
 use mathlib.Core.Bool.{Bool, true, cond}
 use mathlib.Core.List.{List, [], _∷_}
@@ -10,9 +10,9 @@ use native.Mathlib.Omega.{arith}
 use borrow.Author.Tests.{eq-eqb}
 use lib.IntN.{ℤ}
 use lib.Ieee.{Float}
-use lib.ListN.{length, getD, drop}
+use lib.ListN.{length, drop}
 use lib.Seq.{getD-set-same}
-use Rattle.arithmetic.specs.Outcome.{value, refuse_unless_then_}
+use Rattle.arithmetic.specs.Outcome.{value}
 use Rattle.arithmetic.specs.Pitch.{isPitch, detuningOf}
 use Rattle.arithmetic.specs.Nearest.{nearestNote}
 use Rattle.models.specs.declared.jit.PoolGroupBy.{PoolGroupBy}
@@ -20,12 +20,12 @@ use Rattle.models.specs.declared.jit.PoolingMode.{PoolingMode}
 use Rattle.models.specs.declared.jit.PoolingMode.the-variants.{Block, Stop, Ignore}
 use Rattle.models.specs.Entries.{among, without, first}
 use Rattle.models.specs.ChannelList.{listRule, present}
-use Rattle.models.specs.Pool.{keyCount, Place, Pool, State, Held, emptyPool, poolOf, pool, found, withPool, withKey, behind, freedIn, freed, forgotten, released, heldAt, oldestOf, oldest, Room, room, madeRoom, roomBy, roomFor, Press, accepted, rejected, pressedOn, pressed, isHeld, unlessHeld, registerRule}
+use Rattle.models.specs.Pool.{Place, State, Held, emptyPool, poolOf, pool, found, withPool, withKey, behind, freedIn, freed, forgotten, heldAt, oldestOf, oldest, room, madeRoom, roomBy, roomFor, Press, accepted, rejected, pressedOn, pressed, isHeld, unlessHeld, registerRule}
 use Rattle.models.specs.Recital.{Call, times}
 use Rattle.models.proofs.Pools.{pool-small, released-found, made-none, pressed-free, pressed-none}
 use Rattle.models.proofs.Times.{times-cons, times-same}
 use Rattle.models.proofs.PoolSettings.{mode-kept}
-use Rattle.models.proofs.PoolInvariant.{Holds, PoolOk, Ok, pool-ok, first-rest, first-none, model, model-ok}
+use Rattle.models.proofs.PoolInvariant.{Ok, pool-ok, first-rest, first-none, free-low, room-ok, model, model-ok}
 
 -- an accepted press is no rejected one
 clash : {X : Type 0} {c : ℕ} {st : Option ℤ} {z : ℤ} {d : Float} → accepted c st z d ≡ rejected → X
@@ -234,3 +234,29 @@ module _ (channels : List ℕ) (group : PoolGroupBy) (calls : List Call) (key : 
       let so = rejects-so s key hz pitch new in
       let ex = ignore-exactly (length (present (listRule channels))) s ok key (nearestNote hz) (detuningOf hz (nearestNote hz)) (mode-kept channels group Ignore calls) in
       (λ e. ok .channels ∙ ex .0 (so .1 e), λ e. so .0 (ex .1 (sym (ok .channels) ∙ e)))
+
+-- ---- an accepted press gets one of the model's channels
+
+pressed-channel : (n : ℕ) (s : State) → Ok n s → (key : ℕ) → found s key ≡ none → (note : ℤ) (d : Float) (c : ℕ) (st : Option ℤ) (z : ℤ) (e : Float)
+    → pressed s key note d .0 ≡ accepted c st z e → c < n
+unfolding pressed pressedOn
+pressed-channel n s ok key new note d c st z e = go (first (pool (roomFor s note .state) note .free)) refl
+  where
+    go : (x : Option ℕ) → first (pool (roomFor s note .state) note .free) ≡ x → pressedOn x (roomFor s note) s key note d .0 ≡ accepted c st z e → c < n
+    go (some x) h f =
+        let same : x ≡ c = cc in
+        subst (λ (k : ℕ). k < n) same (free-low n (roomFor s note .state) (room-ok n s ok key new note .sound) note x h)
+    go none h f = clash (sym f)
+
+pub accepted-channel : (channels : List ℕ) (group : PoolGroupBy) (mode : PoolingMode) (calls : List Call) (key : ℕ) (hz : Float)
+    → let s = model channels group mode calls in
+    isPitch hz ≡ true → found s key ≡ none → (c : ℕ) (st : Option ℤ) (z : ℤ) (d : Float) (t : State)
+    → registerRule s key hz ≡ value (accepted c st z d, t) → c < length (s .channels)
+accepted-channel channels group mode calls key hz pitch new c st z d t e =
+    let s = model channels group mode calls in
+    let ok = model-ok channels group mode calls in
+    let r : Press × State = pressed s key (nearestNote hz) (detuningOf hz (nearestNote hz)) in
+    let f : value r ≡ value (accepted c st z d, t) = sym (register-pressed s key hz pitch new) ∙ e in
+    let same : r ≡ (accepted c st z d, t) = cc in
+    let low = pressed-channel (length (present (listRule channels))) s ok key new (nearestNote hz) (detuningOf hz (nearestNote hz)) c st z d (ap (λ (x : Press × State). x .0) same) in
+    omega (arith, ok .channels)

@@ -9,9 +9,11 @@ use mathlib.Core.Logic.{_≢_}
 use native.Mathlib.Omega.{arith}
 use lib.IntN.{ℤ}
 use lib.Ieee.{Float}
-use lib.ListN.{length, getD, set, drop, length-set, length-append, length-replicate, getD-replicate}
+use lib.ListN.{length, getD, set, drop, replicate, length-set, length-append, length-replicate, getD-replicate}
 use lib.Seq.{getD-set-same, getD-set-other}
-use Rattle.arithmetic.specs.Outcome.{Outcome, value, refused, refuse_unless_then_}
+use lib.Dec.{leb}
+use borrow.Author.Tests.{leb-true, leb-false}
+use Rattle.arithmetic.specs.Outcome.{value, refuse_unless_then_}
 use Rattle.arithmetic.specs.Pitch.{isPitch, detuningOf}
 use Rattle.arithmetic.specs.Nearest.{nearestNote}
 use Rattle.models.specs.declared.jit.PoolGroupBy.{PoolGroupBy}
@@ -19,12 +21,12 @@ use Rattle.models.specs.declared.jit.PoolingMode.{PoolingMode}
 use Rattle.models.specs.declared.jit.PoolingMode.the-variants.{Block, Stop, Ignore}
 use Rattle.models.specs.Entries.{among, without, range, first}
 use Rattle.models.specs.ChannelList.{listRule, present}
-use Rattle.models.specs.Pool.{keyCount, Place, Pool, State, Held, emptyPool, poolCount, poolOf, pool, found, fresh, openRule, withPool, withKey, behind, takenIn, taken, freedIn, freed, forgotten, released, releasedFrom, releasedAll, stopped, oldest, Room, madeRoom, roomBy, roomFor, pressedOn, pressed, isHeld, unlessHeld, registerRule, replied}
+use Rattle.models.specs.Pool.{keyCount, Place, Pool, State, Held, emptyPool, poolCount, poolOf, pool, found, fresh, openRule, withPool, withKey, behind, takenIn, taken, freedIn, freed, forgotten, released, releasedAll, stopped, oldest, madeRoom, roomBy, roomFor, pressedOn, pressed, isHeld, unlessHeld, registerRule, replied}
 use Rattle.models.specs.Recital.{Call, press, release, lookup, repitch, stop, after, played, times, channelAt, keysOn, standing}
 use Rattle.models.proofs.ChannelLists.{Verdict, listed, offended, verdict, fine-listed, offence-refused, channels-few}
 use Rattle.models.proofs.Queues.{behind-room}
 use Rattle.models.proofs.Pools.{pool-small, oldest-is, released-found, released-none, released-other}
-use Rattle.models.proofs.Times.{times-none, times-cons, times-same, times-eq, times-other, times-one, either, among-times, among-not, sum-append, sum-without, times-append, times-without, length-without, times-range, times-past, length-range}
+use Rattle.models.proofs.Times.{times-none, times-cons, times-same, times-other, times-one, either, among-times, among-not, sum-append, sum-without, times-append, times-without, length-without, times-range, times-past, length-range}
 
 -- ---- the keys on a channel
 
@@ -68,6 +70,7 @@ pub record Ok (n : ℕ) (s : State) : Type 0 where
   pub channels : length (s .channels) ≡ n
   pub pools : length (s .pools) ≡ poolCount (s .group)
   pub keys : length (s .keys) ≡ keyCount
+  pub low : (k : ℕ) (p : Place) → found s k ≡ some p → p .channel < n
   pub each : (i : ℕ) → i < poolCount (s .group) → PoolOk n s i (getD (s .pools) i emptyPool)
 
 -- a key found in one state is found in another that has the same place for it
@@ -127,15 +130,17 @@ module _ (n : ℕ) (s t : State) (i : ℕ) (g : t .group ≡ s .group) where
 change : (n : ℕ) (s t : State) (i : ℕ) (p : Pool) → Ok n s → i < poolCount (s .group) → t .channels ≡ s .channels → t .group ≡ s .group
     → t .pools ≡ set (s .pools) i p
     → length (t .keys) ≡ keyCount
+    → ((k : ℕ) (q : Place) → found t k ≡ some q → q .channel < n)
     → PoolOk n t i p
     → ((j : ℕ) → j < poolCount (s .group) → j ≢ i → (k : ℕ) → 0 < times k (getD (s .pools) j emptyPool .order) → found t k ≡ found s k)
     → Ok n t
-change n s t i p ok h c g e keys here others =
+change n s t i p ok h c g e keys low here others =
     record {
       few = ok .few;
       channels = ap length c ∙ ok .channels;
       pools = ap length e ∙ length-set (s .pools) i p ∙ ok .pools ∙ ap poolCount (sym g);
       keys = keys;
+      low = low;
       each = λ j k.
           let inside : j < poolCount (s .group) = subst (λ (b : PoolGroupBy). j < poolCount b) g k in
           either i j
@@ -186,6 +191,21 @@ module _ (n : ℕ) (s : State) (ok : Ok n s) (note : ℤ) where
   unfolding pool
   pool-ok = ok .each (poolOf (s .group) note) (pool-small (s .group) note)
 
+-- a number that stands somewhere among the first n is one of them
+below : (c n : ℕ) → 0 < times c (range 0 n) → c < n
+below c n h = go (leb n c) refl
+  where
+    go : (b : Bool) → leb n c ≡ b → c < n
+    go true e = absurd (omega (arith, times-past c 0 n (omega (arith, leb-true n c e))))
+    go false e = leb-false n c e
+
+-- a free channel is one of the model's
+pub free-low : (n : ℕ) (s : State) → Ok n s → (note : ℤ) (c : ℕ) → first (pool s note .free) ≡ some c → c < n
+unfolding standing
+free-low n s ok note c h =
+    let free = pool s note .free in
+    below c n (omega (arith, pool-ok n s ok note .once c, ap (times c) (first-rest free c h), times-cons c c (drop 1 free), times-same c))
+
 -- ---- a press takes a free channel
 
 taken-other : (s : State) (key : ℕ) (note : ℤ) (c k : ℕ) → k ≢ key → found (taken s key note c) k ≡ found s k
@@ -201,6 +221,7 @@ module _ (n : ℕ) (s : State) (ok : Ok n s) (key : ℕ) (small : key < keyCount
   unfolding taken withKey withPool takenIn standing
   taken-ok c h =
       change n s t (poolOf (s .group) note) (takenIn p key) ok (pool-small (s .group) note) refl refl refl (length-set (s .keys) key (some place) ∙ ok .keys)
+      low
       (seated n s t (poolOf (s .group) note) refl (drop 1 (p .free)) (p .order) key place (ok .few)
       (λ x. omega (arith, p-ok .once x, ap (times x) parts, times-cons x c (drop 1 (p .free))))
       (omega (arith, p-ok .total, ap length parts))
@@ -227,7 +248,22 @@ module _ (n : ℕ) (s : State) (ok : Ok n s) (key : ℕ) (small : key < keyCount
       parts : pool s note .free ≡ c ∷ drop 1 (pool s note .free)
       parts = first-rest (pool s note .free) c h
 
+      low : (k : ℕ) (r : Place) → found (taken s key note c) k ≡ some r → r .channel < n
+      low k r f =
+          either key k
+          (λ same.
+          let g = taken-same s key note c (rw (ok .keys) small) in
+          let f′ = subst (λ (x : ℕ). found (taken s key note c) x ≡ some r) same f in
+          let is : _≡_ {A = Place} (record { channel = c; note = note }) r = cc in
+          subst (λ (x : Place). x .channel < n) is (free-low n s ok note c h))
+          (λ ne. ok .low k r (sym (taken-other s key note c k ne) ∙ f))
+
 -- ---- a key loses its channel, which goes to the back of the free ones
+
+set-none : (l : List (Option Place)) (i : ℕ) → getD (set l i none) i none ≡ none
+set-none [] i = refl
+set-none (p ∷ l) zero = refl
+set-none (p ∷ l) (suc i) = set-none l i
 
 pub freed-found : (s : State) (key : ℕ) (q : Place) (k : ℕ) → found (freed s key q) k ≡ found s k
 unfolding found freed withPool
@@ -273,23 +309,29 @@ module _ (n : ℕ) (s : State) (ok : Ok n s) (key : ℕ) (q : Place) (e : found 
         q-ok
 
     -- whether or not the key is still found afterwards
-    lost-ok : t .channels ≡ s .channels → t .pools ≡ freed s key q .pools → length (t .keys) ≡ keyCount → Ok n t
+    lost-ok : t .channels ≡ s .channels → t .pools ≡ freed s key q .pools → length (t .keys) ≡ keyCount
+        → ((p : Place) → found t key ≡ some p → p .channel < n)
+        → Ok n t
     unfolding freed withPool freedIn
-    lost-ok c pools keys =
+    lost-ok c pools keys low =
         change n s t (poolOf (s .group) (q .note)) (freedIn (pool s (q .note)) key (q .channel)) ok (pool-small (s .group) (q .note)) c g pools keys
+        (λ k p f.
+        either key k (λ same. low p (subst (λ (x : ℕ). found t x ≡ some p) same f)) (λ ne. ok .low k p (sym (agree k ne) ∙ f)))
         (freed-by (among key (pool s (q .note) .order)) refl)
         (λ j a ne k m. agree k (λ same. ne (one-pool s j (poolOf (s .group) (q .note)) key (subst (Holds s j) same (ok .each j a .holds k m)) held)))
 
   -- Ignore: the key stays found
   pub freed-ok : Ok n (freed s key q)
   unfolding freed withPool
-  freed-ok = lost-ok (freed s key q) refl (λ k ne. freed-found s key q k) refl refl (ok .keys)
+  freed-ok =
+      lost-ok (freed s key q) refl (λ k ne. freed-found s key q k) refl refl (ok .keys) (λ p f. ok .low key p (sym (freed-found s key q key) ∙ f))
 
   -- a release
   pub forgotten-ok : Ok n (forgotten (freed s key q) key)
   unfolding freed forgotten withPool withKey found
   forgotten-ok =
       lost-ok (forgotten (freed s key q) key) refl (λ k ne. getD-set-other (s .keys) key k none none ne) refl refl (length-set (s .keys) key none ∙ ok .keys)
+      (λ p f. let gone = set-none (s .keys) key in let z : _≡_ {A = ℕ} 0 1 = cc in absurd (omega arith))
 
 pub released-ok : (n : ℕ) (s : State) → Ok n s → (key : ℕ) → Ok n (released s key)
 released-ok n s ok key = go (found s key) refl
@@ -366,6 +408,15 @@ played-ok n s ok (c ∷ cs) = played-ok n (after s c) (after-ok n s ok c) cs
 
 -- ---- a fresh model
 
+replicate-none : (m k : ℕ) → getD (replicate {A = Option Place} m none) k none ≡ none
+replicate-none zero k = refl
+replicate-none (suc m) zero = refl
+replicate-none (suc m) (suc k) = replicate-none m k
+
+fresh-none : (channels : List ℕ) (group : PoolGroupBy) (mode : PoolingMode) (k : ℕ) → found (fresh channels group mode) k ≡ none
+unfolding fresh found
+fresh-none channels group mode k = replicate-none keyCount k
+
 pub fresh-ok : (channels : List ℕ) → length channels ≤ 16 → (group : PoolGroupBy) (mode : PoolingMode) → Ok (length channels) (fresh channels group mode)
 unfolding fresh standing
 fresh-ok channels few group mode =
@@ -374,9 +425,13 @@ fresh-ok channels few group mode =
       channels = refl;
       pools = length-replicate (poolCount group) unused;
       keys = length-replicate {A = Option Place} keyCount none;
+      low = λ k p f. absurd (nothing k p f);
       each = λ i h. subst (PoolOk (length channels) (fresh channels group mode) i) (sym (getD-replicate (poolCount group) i unused emptyPool h)) all-free;
     }
   where
+    nothing : (k : ℕ) (p : Place) → found (fresh channels group mode) k ≡ some p → ⊥
+    nothing k p f = let g = fresh-none channels group mode k in let z : _≡_ {A = ℕ} 0 1 = cc in omega arith
+
     unused : Pool
     unused = record { free = range 0 (length channels); order = [] }
 
@@ -422,3 +477,11 @@ module _ (channels : List ℕ) (group : PoolGroupBy) (mode : PoolingMode) (calls
   no-others i h c k =
       let ok = model-ok channels group mode calls in
       ok .each i h .once c ∙ times-past c 0 (length (present (listRule channels))) (omega (arith, ok .channels))
+
+  -- A found key, whether or not it has lost its channel, sounds on one of the model's channels: the channel list has an entry for it.
+  pub found-channel : let s = model channels group mode calls in
+      (key : ℕ) (p : Place) → found s key ≡ some p → p .channel < length (s .channels)
+  found-channel key p e =
+      let ok = model-ok channels group mode calls in
+      let low = ok .low key p e in
+      omega (arith, ok .channels)

@@ -1,11 +1,10 @@
 -- Demand 1 for pools: which numbers each entry gives, exactly when, and in document 01's order; a refusal hands the state back as it was.
 -- A release, a lookup, the next key and `stop` have no refusal. Assumes nothing.
 use Prim.Native.Nat.{ℕ}
-use mathlib.Core.Path.{_≡_, refl, sym, ap, _∙_}
-use mathlib.Core.Bool.{Bool, true, false, not}
+use mathlib.Core.Path.{_≡_, refl, ap}
+use mathlib.Core.Bool.{true, false, not}
 use mathlib.Core.List.{List, []}
-use mathlib.Core.Logic.{_⊎_, inl, inr, _↔_}
-use mathlib.Core.Option.{Option}
+use mathlib.Core.Logic.{_⊎_, _↔_}
 use lib.Ieee.{Float}
 use Rattle.arithmetic.specs.Refusal.{pitchOutOfRange, keyHeld}
 use Rattle.arithmetic.specs.Outcome.{Outcome, value, refused}
@@ -14,10 +13,9 @@ use Rattle.arithmetic.specs.Nearest.{nearestNote}
 use Rattle.arithmetic.proofs.Outcomes.{no-value, refuses-once, refuses-twice}
 use Rattle.models.specs.declared.jit.PoolGroupBy.{PoolGroupBy}
 use Rattle.models.specs.declared.jit.PoolingMode.{PoolingMode}
-use Rattle.models.specs.ChannelList.{listRule, present}
+use Rattle.models.specs.ChannelList.{present}
 use Rattle.models.specs.Pool.{State, found, fresh, openRule, pressed, isHeld, unlessHeld, registerRule, replied, tuning, repitchRule}
 use Rattle.models.proofs.ChannelLists.{Offence, refused-offence, refused-numbers}
-use Rattle.models.proofs.Pools.{not-true, not-false}
 
 -- ---- opening: 6, 7 entry by entry; the model has no channels then
 

@@ -1,16 +1,14 @@
 -- Laws of a queue's items where a function or a loop of `queue` stands. Assumes nothing.
 use Prim.Native.Nat.{ℕ, zero, suc, _+_, _≤_, _<_, min}
 use mathlib.Core.Path.{_≡_, refl, sym, ap, _∙_}
-use mathlib.Core.Bool.{Bool, true, false, cond}
 use mathlib.Core.List.{List, [], _∷_, _++_, append-nil, append-assoc}
 use mathlib.Core.Option.{some, none}
 use native.Mathlib.Omega.{arith}
 use native.Mathlib.Nat.{zero-min, min-zero, suc-min-suc}
 use native.Mathlib.Numerals.{add-one}
 use lib.ListN.{length, take, drop, getD, set, length-append, length-take, drop-of-length-le}
-use lib.Seq.{take-all, length-take-le, take-append-le, take-suc, take-suc-set, drop-append-le, drop-cons, getD-take}
+use lib.Seq.{take-all, length-take-le, take-append-le, take-suc, take-suc-set, drop-append-le, drop-cons}
 use borrow.Author.Tests.{eq-eqb, ne-eqb}
-use lib.Dec.{eqb}
 use Rattle.models.specs.Entries.{range, first, without}
 use Rattle.models.specs.Pool.{behind}
 

@@ -1,9 +1,6 @@
 // Replays document 01's examples 11 and 12, every pooling mode, letter pools, zero channels and the refusals, and writes what it found.
 
-use arithmetic::note::MidiAnswer;
-use arithmetic::note::checked_midi_number;
 use arithmetic::pitch::Pitch;
-use libc::STDOUT_FILENO;
 use models::channels::ChannelsAnswer;
 use models::channels::EntryAnswer;
 use models::jit::JitTuningModel;
@@ -15,62 +12,51 @@ use models::jit::StoppedNote;
 use models::keys::AccessKeyResult;
 use models::keys::NextKey;
 
-fn say(text: &[u8]) {
-    io::write_all(STDOUT_FILENO, text);
+fn place(channel: u8, note: i32) {
+    show::word(b": channel");
+    show::number(channel as u64);
+    show::word(b", note");
+    show::signed(note);
 }
 
-fn say_number(n: u8) {
-    let wide = n as u64;
-    io::print_decimal(STDOUT_FILENO, wide);
-}
-
-fn say_key(what: &[u8], key: u8) {
-    say(what);
-    say_number(key);
-}
-
-fn say_note(note: i32) {
-    match checked_midi_number(note) {
-        MidiAnswer::Number(n) => say_number(n),
-        MidiAnswer::Unnumbered => say(b"without a number"),
-        MidiAnswer::Refused(n) => say_key(b"refused ", n),
-    }
-}
-
-fn say_place(channel: u8, note: i32) {
-    say_key(b": channel ", channel);
-    say(b", note ");
-    say_note(note);
-}
-
-fn say_stopped(stopped: StoppedNote) {
-    match stopped {
+fn stopped(note: StoppedNote) {
+    match note {
         StoppedNote::Note(note) => {
-            say(b", stops note ");
-            say_note(note);
+            show::word(b", stops note");
+            show::signed(note);
         }
         StoppedNote::Nothing => {}
     }
 }
 
-// One for a detuning of 1, the others by their bits.
-fn say_detuning(detuning: f64) {
-    say(b", detuning bits ");
-    io::print_decimal(STDOUT_FILENO, f64::to_bits(detuning));
+fn ratio(detuning: f64) {
+    show::word(b", detuning");
+    show::float(detuning);
 }
 
-fn say_access(result: AccessKeyResult) {
+fn refused(n: u8) {
+    show::word(b":");
+    show::refusal(n);
+}
+
+fn access(result: AccessKeyResult) {
     match result {
         AccessKeyResult::Found {
             channel,
             found_note,
-        } => say_place(channel, found_note),
-        AccessKeyResult::NotFound => say(b": not found"),
+        } => place(channel, found_note),
+        AccessKeyResult::NotFound => show::word(b": not found"),
     }
 }
 
+// What is done with a key.
+fn action(what: &[u8], key: u8) {
+    show::word(what);
+    show::number(key as u64);
+}
+
 fn press(model: JitTuningModel, key: u8, hz: f64) -> JitTuningModel {
-    say_key(b"  press ", key);
+    action(b"  press", key);
     let registered = model.register_key(key, Pitch::from_hz(hz));
     let result = registered.result;
     match result {
@@ -80,68 +66,68 @@ fn press(model: JitTuningModel, key: u8, hz: f64) -> JitTuningModel {
             started_note,
             detuning,
         } => {
-            say_place(channel, started_note);
-            say_stopped(stopped_note);
-            say_detuning(detuning);
+            place(channel, started_note);
+            stopped(stopped_note);
+            ratio(detuning);
         }
-        RegisterKeyResult::Rejected => say(b": rejected"),
-        RegisterKeyResult::Refused(n) => say_key(b": refused ", n),
+        RegisterKeyResult::Rejected => show::word(b": rejected"),
+        RegisterKeyResult::Refused(n) => refused(n),
     }
-    say(b"\n");
+    show::word(b"\n");
     registered.model
 }
 
 fn release(model: JitTuningModel, key: u8) -> JitTuningModel {
-    say_key(b"  release ", key);
+    action(b"  release", key);
     let deregistered = model.deregister_key(key);
     let result = deregistered.result;
-    say_access(result);
-    say(b"\n");
+    access(result);
+    show::word(b"\n");
     deregistered.model
 }
 
 fn look(model: JitTuningModel, key: u8) {
-    say_key(b"  lookup ", key);
+    action(b"  lookup", key);
     let result = model.access_key(key);
-    say_access(result);
-    say(b"\n");
+    access(result);
+    show::word(b"\n");
 }
 
 fn repitch(model: JitTuningModel, key: u8, hz: f64) {
-    say_key(b"  repitch ", key);
+    action(b"  repitch", key);
     match model.repitch_key(key, Pitch::from_hz(hz)) {
         RepitchKeyResult::Found {
             channel,
             found_note,
             detuning,
         } => {
-            say_place(channel, found_note);
-            say_detuning(detuning);
+            place(channel, found_note);
+            ratio(detuning);
         }
-        RepitchKeyResult::NotFound => say(b": not found"),
-        RepitchKeyResult::Refused(n) => say_key(b": refused ", n),
+        RepitchKeyResult::NotFound => show::word(b": not found"),
+        RepitchKeyResult::Refused(n) => refused(n),
     }
-    say(b"\n");
+    show::word(b"\n");
 }
 
 // The first two found keys, and the model after all are released.
 fn stop(model: JitTuningModel) -> JitTuningModel {
-    say(b"  found");
+    show::word(b"  found");
     match model.next_key(0) {
         NextKey::Held { key, channel, note } => {
-            say_key(b" ", key);
-            say_place(channel, note);
+            action(b"", key);
+            place(channel, note);
             match model.next_key(key as usize + 1) {
                 NextKey::Held { key, channel, note } => {
-                    say_key(b"; ", key);
-                    say_place(channel, note);
+                    action(b";", key);
+                    place(channel, note);
                 }
-                NextKey::NoMore => say(b"; no more"),
+                NextKey::NoMore => show::word(b"; no more"),
             }
         }
-        NextKey::NoMore => say(b" none"),
+        NextKey::NoMore => show::word(b" none"),
     }
-    say(b"; all stopped\n");
+    show::word(b"; all stopped\n");
     model.stop()
 }
 
@@ -151,20 +137,20 @@ fn open(
     group_by: PoolGroupBy,
     pooling_mode: PoolingMode,
 ) -> JitTuningModel {
-    say(name);
+    show::word(name);
     let opened = JitTuningModel::open(channels, group_by, pooling_mode);
     let answer = opened.answer;
     match answer {
         ChannelsAnswer::Listed(list) => {
-            say_key(b": channels ", list.len());
+            action(b": channels", list.len());
             match list.entry(1) {
-                EntryAnswer::Channel(c) => say_key(b", channel 1 is MIDI channel ", c),
-                EntryAnswer::NoEntry => say(b", no channel 1"),
+                EntryAnswer::Channel(c) => action(b", channel 1 is MIDI channel", c),
+                EntryAnswer::NoEntry => show::word(b", no channel 1"),
             }
         }
-        ChannelsAnswer::Refused(n) => say_key(b": refused ", n),
+        ChannelsAnswer::Refused(n) => refused(n),
     }
-    say(b"\n");
+    show::word(b"\n");
     opened.model
 }
 

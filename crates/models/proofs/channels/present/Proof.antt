@@ -1,7 +1,6 @@
 -- `channels::present` meets its contract, by the answer's two cases. Assumes nothing.
 use borrow.Author.Needs.{needs}
-use mathlib.Core.Path.{_∙_, sym, ap}
-use Rattle.models.specs.ChannelList.{present, channelsAnswer}
+use Rattle.models.specs.ChannelList.{channelsAnswer}
 use Rattle.models.proofs.channels.present.Statement.{statement}
 use Rattle.models.proofs.channels.present.Tie as tie
 

@@ -1,6 +1,6 @@
 -- `jit::pool_of` meets its contract: a note has a letter, which is below 12. Assumes nothing.
 use borrow.Author.Needs.{needs}
-use mathlib.Core.Path.{_≡_, sym, ap, _∙_}
+use mathlib.Core.Path.{sym, ap, _∙_}
 use native.Mathlib.Omega.{arith}
 use mir.Facts.{toZ-ofZ}
 use Rattle.arithmetic.specs.Note.{letterRule}

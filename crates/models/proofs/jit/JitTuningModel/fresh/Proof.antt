@@ -1,11 +1,10 @@
 -- `jit::JitTuningModel::fresh` meets its contract, by the kind of group: one pool or twelve, with the channels of the list. Assumes nothing.
 use borrow.Author.Needs.{needs}
-use mathlib.Core.Path.{_≡_, refl, ap, _∙_}
+use mathlib.Core.Path.{_≡_, refl}
 use native.Mathlib.Omega.{arith}
 use lib.ListN.{take, replicate}
 use Rattle.models.specs.declared.jit.PoolGroupBy.{PoolGroupBy}
 use Rattle.models.specs.declared.jit.PoolGroupBy.the-variants.{NoteLetter, Channel}
-use Rattle.models.specs.ChannelList.{entries}
 use Rattle.models.specs.Pool.{Pool, fresh, poolCount}
 use Rattle.models.specs.View.{view}
 use Rattle.models.proofs.ChannelLists.{entries-few}

@@ -1,13 +1,13 @@
 -- `jit::JitTuningModel::make_room` meets its contract, by the longest-held key and the pooling mode. Assumes nothing.
 use borrow.Author.Needs.{needs}
 use mathlib.Core.Path.{_≡_, sym, ap, _∙_}
-use mathlib.Core.Option.{Option, some, none}
+use mathlib.Core.Option.{some, none}
 use mir.Facts.{toZ-ofZ}
 use mir.Syntax.{w32}
 use mir.Val.{toZ, ofZ}
 use Rattle.models.specs.declared.jit.PoolingMode.{PoolingMode}
-use Rattle.models.specs.declared.jit.PoolingMode.the-variants.{Block, Stop, Ignore}
-use Rattle.models.specs.Pool.{State, Held, Room, oldest, madeRoom, room}
+use Rattle.models.specs.declared.jit.PoolingMode.the-variants.{Stop, Ignore}
+use Rattle.models.specs.Pool.{State, Held, oldest, madeRoom, room}
 use Rattle.models.specs.View.{view, old, roomView, stoppedNote}
 use Rattle.models.proofs.Pools.{oldest-is, found-note, made-none}
 use Rattle.models.proofs.jit.JitTuningModel.make_room.Statement.{statement}

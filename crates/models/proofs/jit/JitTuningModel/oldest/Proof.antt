@@ -1,6 +1,6 @@
 -- `jit::JitTuningModel::oldest` meets its contract: the first key in the press order, if it is found. Assumes nothing.
 use borrow.Author.Needs.{needs}
-use mathlib.Core.Path.{_≡_, sym, ap, _∙_}
+use mathlib.Core.Path.{sym, ap, _∙_}
 use mir.Facts.{toZ-ofZ}
 use mir.Syntax.{w32}
 use Rattle.models.specs.Entries.{first}

@@ -1,6 +1,5 @@
 -- `jit::JitTuningModel::open` meets its contract: the channel list's answer, and a fresh model with the channels present. Assumes nothing.
 use borrow.Author.Needs.{needs}
-use mathlib.Core.Path.{_≡_, ap, _∙_}
 use Rattle.models.specs.Pool.{openRule}
 use Rattle.models.specs.View.{opened}
 use Rattle.models.proofs.jit.JitTuningModel.open.Statement.{statement}

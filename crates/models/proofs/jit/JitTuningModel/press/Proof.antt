@@ -1,6 +1,6 @@
 -- `jit::JitTuningModel::press` meets its contract: a held key is refused. Assumes nothing.
 use borrow.Author.Needs.{needs}
-use mathlib.Core.Path.{_≡_, sym, ap, _∙_}
+use mathlib.Core.Path.{sym, ap, _∙_}
 use mir.Facts.{toZ-ofZ}
 use Rattle.models.specs.Pool.{replied, unlessHeld, isHeld}
 use Rattle.models.specs.View.{place, told, press}

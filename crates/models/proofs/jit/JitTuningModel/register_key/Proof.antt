@@ -6,13 +6,12 @@ use mir.Facts.{toZ-ofZ}
 use mir.Syntax.{w32}
 use mir.Val.{toZ, ofZ}
 use Rattle.arithmetic.specs.Answers.{approximation}
-use Rattle.arithmetic.specs.Note.{isNote}
 use Rattle.arithmetic.specs.Pitch.{isPitch, detuningOf}
 use Rattle.arithmetic.specs.Nearest.{nearestNote}
 use Rattle.arithmetic.proofs.Nearest.{nearest-is-note}
 use Rattle.arithmetic.proofs.Refusals.{nearest-refuses}
-use Rattle.models.specs.Pool.{registerRule, replied, unlessHeld}
-use Rattle.models.specs.View.{view, told, press}
+use Rattle.models.specs.Pool.{registerRule, replied}
+use Rattle.models.specs.View.{told, press}
 use Rattle.models.proofs.Pools.{nearest-is}
 use Rattle.models.proofs.jit.JitTuningModel.register_key.Statement.{statement}
 use Rattle.models.proofs.jit.JitTuningModel.register_key.Tie as tie

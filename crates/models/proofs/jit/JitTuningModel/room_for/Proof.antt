@@ -1,6 +1,6 @@
 -- `jit::JitTuningModel::room_for` meets its contract, by whether a channel is free. Assumes nothing.
 use borrow.Author.Needs.{needs}
-use mathlib.Core.Path.{_≡_, sym, ap, _∙_}
+use mathlib.Core.Path.{sym, ap, _∙_}
 use mir.Facts.{toZ-ofZ}
 use Rattle.models.specs.Entries.{first}
 use Rattle.models.specs.Pool.{Pool, pool, roomFor, roomBy}

@@ -1,7 +1,6 @@
 -- `jit::JitTuningModel::with_pool` meets its contract: the pool of a note is one of those that the view has. Assumes nothing.
 use borrow.Author.Needs.{needs}
 use mathlib.Core.Path.{ap, _∙_}
-use lib.ListN.{take}
 use lib.Seq.{take-set-lt}
 use mathlib.Core.List.{map}
 use mir.Facts.{toZ-ofZ}

@@ -2,9 +2,8 @@
 use borrow.Author.Needs.{needs}
 use Prim.Native.Nat.{_-_}
 use mathlib.Core.Path.{_≡_, refl, sym, ap, _∙_}
-use mathlib.Core.Option.{none}
 use native.Mathlib.Omega.{arith}
-use lib.ListN.{length, length-map, getD, drop}
+use lib.ListN.{length, length-map, drop}
 use mir.Facts.{toZ-ofZ}
 use mir.Syntax.{w32}
 use Rattle.models.specs.Entries.{first}

@@ -3,7 +3,7 @@ use borrow.Author.Needs.{needs}
 use Prim.Native.Nat.{_≤_, _-_}
 use mathlib.Core.Path.{_≡_, sym, ap, _∙_}
 use native.Mathlib.Omega.{arith}
-use lib.ListN.{length, getD, take, drop}
+use lib.ListN.{take, drop}
 use lib.Seq.{length-take-le, getD-take}
 use Rattle.models.specs.Pool.{behind}
 use Rattle.models.specs.View.{items}
