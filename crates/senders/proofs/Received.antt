@@ -13,7 +13,7 @@ use Rattle.senders.specs.Mts.{InSteps, tuningMessages}
 use Rattle.senders.specs.Tuner.{noteMessages, pressMessages}
 use Rattle.senders.specs.Reader.{State}
 use Rattle.senders.specs.Receiver.{Channel, Receiver, Other, on, withFine, withBend, withSensitivity, parameter, hearAll, hearBytes, usualSensitivity, fineShift, bendShift}
-use Rattle.senders.specs.Meant.{tuned, noteMeant, pressed, steps, stepSize, shift}
+use Rattle.senders.specs.Meant.{tuned, noteMeant, stopped, pressed, steps, stepSize, shift}
 use Rattle.senders.specs.declared.mts.ChannelTuning.{ChannelTuning}
 use Rattle.senders.specs.declared.mts.ChannelTuning.the-variants.{Fine, Bend}
 use Rattle.senders.specs.declared.tuner.NoteMessage.{NoteMessage}
@@ -75,6 +75,15 @@ changed {ch} f Holds {r} e h =
       elsewhere = λ c n. ap (λ (q : Receiver). q c) e ∙ on-elsewhere ch c f r n;
     }
 
+-- A note is on and its channel is moved as its tuning says.
+pub record Speaks (t : ChannelTuning) (n v : ℕ) (x : Channel) : Type 0 where
+  pub sounding : x .sounds n ≡ ltb 0 v
+  pub moved : shift t x ≡ steps t *ℤ pos (stepSize t x)
+
+speaks : (t : ChannelTuning) (n v : ℕ) (x : Channel) → n < 128 → Speaks t n v (noteMeant On (pos n) v (tuned t x))
+speaks (Fine w) n v x k = rw (lt-ltb n 128 k) (record { sounding = simp (eq-eqb n n refl); moved = refl })
+speaks (Bend b) n v x k = rw (lt-ltb n 128 k) (record { sounding = simp (eq-eqb n n refl); moved = refl })
+
 module _ (other : Other) (st : State) (ch : ℕ) (r : Receiver) (low : ch < 16) where
   -- After the four controllers the fine tuning is the value, and its parameter is left chosen.
   pub fine-received :
@@ -104,3 +113,10 @@ module _ (other : Other) (st : State) (ch : ℕ) (r : Receiver) (low : ch < 16) 
   -- After a pressure nothing of this has changed.
   pub pressure-received : (note : ℤ) (v : ℕ) → v < 128 → hearBytes other st (bytesOf (noteMessages Pressure ch note v)) r ≡ r
   pressure-received note v h = note-received other st Pressure ch note v r low h ∙ sym (on-none ch r)
+
+  -- After a press the new note is on, at the pitch that its tuning gives, whatever was stopped.
+  pub press-speaks :
+      (s : Stopped) (t : ChannelTuning) (n v : ℕ) → InSteps t → n < 128 → v < 128
+      → OnlyOn ch (Speaks t n v) r (hearBytes other st (bytesOf (pressMessages ch s t (pos n) v)) r)
+  press-speaks s t n v i k h =
+      changed (pressed s t (pos n) v) (Speaks t n v) (press-received other st ch s t (pos n) v r low i h) (speaks t n v (stopped s (r ch)) k)
