@@ -4,8 +4,8 @@ use mathlib.Core.Path.{_≡_, refl, sym, ap, _∙_}
 use mathlib.Core.List.{List, [], _∷_, _++_, append-nil}
 use Prim.Native.Nat.{ℕ}
 use lib.ListN.{take}
-use Rattle.arithmetic.specs.Outcome.{value}
-use Rattle.senders.specs.Lent.{Answers}
+use Rattle.arithmetic.specs.Outcome.{Outcome, value}
+use Rattle.senders.specs.Lent.{Effect, sends, Steps, Answers}
 use Rattle.senders.specs.Message.{Message, Valid, AllValid}
 use Rattle.senders.specs.Midi.{bytes, bytesOf, meant, messageRule}
 use Rattle.senders.specs.Reader.{State, read}
@@ -40,6 +40,22 @@ read-plain st ms p = read-padded st ms (p .valid) ∙ p .unechoed
 pub plain-append : {ms ns : List Message} → Plain ms → Plain ns → Plain (ms ++ ns)
 plain-append {ms} {ns} p q =
     record { valid = valid-append ms ns (p .valid) (q .valid); unechoed = all-append ms ns ∙ rw (p .unechoed, q .unechoed) }
+
+-- ---- every call that counts the bytes it sent
+
+module _
+    {S T : Type 0} {view : T → S} {rule : Outcome (Effect ℕ S)} {s back : T} {next : S} {old new : List ℕ} {n : ℕ}
+    (st : State) (ms : List Message) (sent-is : rule ≡ sends (bytesOf ms) next) (call : Steps view rule s old (value n) back new) where
+  written-is : take n new ≡ bytesOf ms
+  written-is = starts-with {s = s} {back = back} {next = next} {old = old} sent-is call
+
+  -- what it wrote to the buffer is read as the messages it sent, the padding dropped
+  pub sent-read : AllValid ms → read st (unpadded (take n new)) ≡ ms
+  sent-read v = rw written-is (read-unpadded st ms v)
+
+  -- and as it stands, where there is none
+  pub sent-read-plain : Plain ms → read st (take n new) ≡ ms
+  sent-read-plain p = rw written-is (read-plain st ms p)
 
 -- ---- `to_raw_message`
 

@@ -6,7 +6,10 @@ use mathlib.Core.List.{List}
 use Prim.Native.Nat.{ℕ, _+_, _*_, _<_}
 use lib.Dec.{ltb, eqb}
 use lib.IntN.{ℤ, pos, _*ℤ_}
+use lib.ListN.{take}
 use borrow.Author.Tests.{lt-ltb, eq-eqb}
+use Rattle.arithmetic.specs.Outcome.{Outcome, value}
+use Rattle.senders.specs.Lent.{Effect, sends, Steps}
 use Rattle.senders.specs.Message.{Message, isBend}
 use Rattle.senders.specs.Midi.{bytesOf}
 use Rattle.senders.specs.Mts.{InSteps, tuningMessages}
@@ -19,7 +22,7 @@ use Rattle.senders.specs.declared.mts.ChannelTuning.the-variants.{Fine, 
 use Rattle.senders.specs.declared.tuner.NoteMessage.{NoteMessage}
 use Rattle.senders.specs.declared.tuner.NoteMessage.the-variants.{Off, On, Pressure}
 use Rattle.senders.specs.declared.tuner.Stopped.{Stopped}
-use Rattle.senders.proofs.Bytes.{Plain, read-plain}
+use Rattle.senders.proofs.Bytes.{Plain, read-plain, sent-read-plain}
 use Rattle.senders.proofs.Hearing.{on-none, on-here, on-elsewhere, tuning-heard, note-heard, press-heard, tuning-plain, note-plain, press-plain}
 
 -- ---- the bytes of a tuner, received
@@ -47,6 +50,13 @@ module _ (other : Other) (st : State) where
       → hearBytes other st (bytesOf (pressMessages ch s t note v)) r ≡ on ch (pressed s t note v) r
   press-received ch s t note v r c i h =
       plain-received (pressMessages ch s t note v) r (press-plain ch s t note v c i h) ∙ press-heard other ch s t note v r i
+
+-- what a call wrote to the buffer is heard as the messages it sent
+pub sent-heard :
+    {S T : Type 0} {view : T → S} {rule : Outcome (Effect ℕ S)} {s back : T} {next : S} {old new : List ℕ} {n : ℕ}
+    (other : Other) (st : State) (ms : List Message) (r : Receiver) → rule ≡ sends (bytesOf ms) next → Steps view rule s old (value n) back new
+    → Plain ms → hearBytes other st (take n new) r ≡ hearAll other ms r
+sent-heard other st ms r e c p = ap (λ (l : List Message). hearAll other l r) (sent-read-plain st ms e c p)
 
 -- ---- what it comes to
 
