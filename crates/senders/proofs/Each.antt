@@ -18,7 +18,8 @@ use Rattle.senders.specs.Meant.{onEach}
 use Rattle.senders.proofs.Messages.{bytes-append, valid-append}
 use Rattle.senders.proofs.Sizes.{size-append}
 use Rattle.senders.proofs.Bytes.{Plain, plain-append}
-use Rattle.senders.proofs.Received.{hear-append, on-here, on-elsewhere, plain-received}
+use Rattle.senders.proofs.Hearing.{hear-append, on-here, on-elsewhere}
+use Rattle.senders.proofs.Received.{plain-received}
 
 -- something holds of each of a list
 abbrev pub Each : {A : Type 0} → (A → Type 0) → List A → Type 0

@@ -4,7 +4,9 @@ pub mod Bends
 pub mod Messages
 pub mod Sizes
 pub mod Notes
+pub mod Reading
 pub mod Bytes
+pub mod Hearing
 pub mod Received
 pub mod Each
 pub mod Refusals
