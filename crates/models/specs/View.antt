@@ -70,7 +70,7 @@ unfoldable pub old : O.Oldest → Option Held
 old (O.the-variants.Key key channel note) = some (record { key = key; place = record { channel = channel; note = note } })
 old O.the-variants.Nothing = none
 
-unfoldable pub stoppedNote : S.StoppedNote → Option ℤ
+abbrev pub stoppedNote : S.StoppedNote → Option ℤ
 stoppedNote (S.the-variants.Note note) = some note
 stoppedNote S.the-variants.Nothing = none
 

@@ -5,9 +5,9 @@ use lib.IntN.{pos, negsuc}
 use Rattle.senders.specs.Message.{bend}
 use Rattle.senders.specs.Midi.{bytes, bytesOf}
 use Rattle.senders.specs.Tuner.{noteMessages, pressMessages}
-use Rattle.senders.specs.declared.mts.ChannelTuning.the-variants.{Fine}
+use mathlib.Core.Option.{none}
+use Rattle.models.specs.declared.steps.Tuning.the-variants.{Fine}
 use Rattle.senders.specs.declared.tuner.NoteMessage.the-variants.{Off}
-use Rattle.senders.specs.declared.tuner.Stopped.the-variants.{Nothing}
 
 pub bend-examples :
     (bytes (bend 0 (pos 8191)) ≡ 0xe0 ∷ 0x7f ∷ 0x7f ∷ [])
@@ -17,9 +17,9 @@ pub bend-examples :
 bend-examples = (refl, refl, refl, refl)
 
 pub sample :
-    (bytesOf (pressMessages 0 Nothing (Fine 8192) (pos 69) 100)
+    (bytesOf (pressMessages 0 none (Fine 8192) (pos 69) 100)
     ≡ 0xb0 ∷ 0x65 ∷ 0x00 ∷ 0xb0 ∷ 0x64 ∷ 0x01 ∷ 0xb0 ∷ 0x06 ∷ 0x40 ∷ 0xb0 ∷ 0x26 ∷ 0x00 ∷ 0x90 ∷ 0x45 ∷ 0x64 ∷ [])
-    × (bytesOf (pressMessages 1 Nothing (Fine 8192) (pos 81) 90)
+    × (bytesOf (pressMessages 1 none (Fine 8192) (pos 81) 90)
     ≡ 0xb1 ∷ 0x65 ∷ 0x00 ∷ 0xb1 ∷ 0x64 ∷ 0x01 ∷ 0xb1 ∷ 0x06 ∷ 0x40 ∷ 0xb1 ∷ 0x26 ∷ 0x00 ∷ 0x91 ∷ 0x51 ∷ 0x5a ∷ [])
     × (bytesOf (noteMessages Off 0 (pos 69) 64) ≡ 0x80 ∷ 0x45 ∷ 0x40 ∷ [])
 sample = (refl, refl, refl)

@@ -1,7 +1,7 @@
 -- The messages of a tuner, heard one by one: what each changes on its channel, and that a reader finds them as they are. Assumes nothing.
 use mathlib.Core.Path.{_≡_, refl, ap, _∙_, fun-ext}
 use mathlib.Core.Bool.{Bool, true, false, cond}
-use mathlib.Core.Option.{some, none}
+use mathlib.Core.Option.{Option, some, none}
 use mathlib.Core.List.{List, [], _∷_, _++_}
 use Prim.Native.Nat.{ℕ, _/_, _%_, _<_}
 use native.Mathlib.Omega.{arith}
@@ -10,16 +10,15 @@ use lib.IntN.{ℤ, pos, negsuc}
 use borrow.Author.Tests.{ltb-true, eq-eqb}
 use Rattle.senders.specs.Message.{Message}
 use Rattle.senders.specs.Midi.{meant}
-use Rattle.senders.specs.Mts.{InSteps, tuningMessages}
+use Rattle.models.specs.Steps.{InSteps}
+use Rattle.senders.specs.Mts.{tuningMessages}
 use Rattle.senders.specs.Tuner.{numbered, noteType, noteMessages, stopMessages, pressMessages}
 use Rattle.senders.specs.Receiver.{Channel, Receiver, Other, on, controlled, withNote, withFine, withChoice, parameter, hear, hearAll}
 use Rattle.senders.specs.Meant.{tuned, noteMeant, stopped, pressed}
-use Rattle.senders.specs.declared.mts.ChannelTuning.{ChannelTuning}
-use Rattle.senders.specs.declared.mts.ChannelTuning.the-variants.{Fine, Bend}
+use Rattle.models.specs.declared.steps.Tuning.{Tuning}
+use Rattle.models.specs.declared.steps.Tuning.the-variants.{Fine, Bend}
 use Rattle.senders.specs.declared.tuner.NoteMessage.{NoteMessage}
 use Rattle.senders.specs.declared.tuner.NoteMessage.the-variants.{Off, On, Pressure}
-use Rattle.senders.specs.declared.tuner.Stopped.{Stopped}
-use Rattle.senders.specs.declared.tuner.Stopped.the-variants.{Nothing, Note}
 use Rattle.senders.proofs.Bytes.{Plain, plain-append}
 use Rattle.senders.proofs.Notes.{note-valid}
 
@@ -66,7 +65,7 @@ module _ (other : Other) where
   hear-append [] ns r = refl
   hear-append (m ∷ ms) ns r = hear-append ms ns (hear other m r)
 
-  pub tuning-heard : (ch : ℕ) (t : ChannelTuning) (r : Receiver) → InSteps t → hearAll other (tuningMessages ch t) r ≡ on ch (tuned t) r
+  pub tuning-heard : (ch : ℕ) (t : Tuning) (r : Receiver) → InSteps t → hearAll other (tuningMessages ch t) r ≡ on ch (tuned t) r
   tuning-heard ch (Fine v) r h =
       let a : Channel → Channel = controlled 101 0 in
       let b : Channel → Channel = controlled 100 1 in
@@ -98,12 +97,12 @@ module _ (other : Other) where
   note-heard On ch (negsuc n) v r = on-none ch r
   note-heard Pressure ch (negsuc n) v r = on-none ch r
 
-  stop-heard : (ch : ℕ) (s : Stopped) (v : ℕ) (r : Receiver) → hearAll other (stopMessages ch s v) r ≡ on ch (stopped s) r
-  stop-heard ch Nothing v r = on-none ch r
-  stop-heard ch (Note note) v r = note-heard Off ch note v r
+  stop-heard : (ch : ℕ) (s : Option ℤ) (v : ℕ) (r : Receiver) → hearAll other (stopMessages ch s v) r ≡ on ch (stopped s) r
+  stop-heard ch none v r = on-none ch r
+  stop-heard ch (some note) v r = note-heard Off ch note v r
 
   pub press-heard :
-      (ch : ℕ) (s : Stopped) (t : ChannelTuning) (note : ℤ) (v : ℕ) (r : Receiver) → InSteps t
+      (ch : ℕ) (s : Option ℤ) (t : Tuning) (note : ℤ) (v : ℕ) (r : Receiver) → InSteps t
       → hearAll other (pressMessages ch s t note v) r ≡ on ch (pressed s t note v) r
   press-heard ch s t note v r h =
       let stop : List Message = stopMessages ch s v in
@@ -117,7 +116,7 @@ module _ (other : Other) where
 
 -- ---- they are read as they are
 
-pub tuning-plain : (ch : ℕ) (t : ChannelTuning) → ch < 16 → InSteps t → Plain (tuningMessages ch t)
+pub tuning-plain : (ch : ℕ) (t : Tuning) → ch < 16 → InSteps t → Plain (tuningMessages ch t)
 tuning-plain ch (Fine v) c h =
     record {
       valid = ((c, lit< tt, lit< tt), ((c, lit< tt, lit< tt), ((c, lit< tt, omega arith), ((c, lit< tt, omega arith), tt))));
@@ -137,10 +136,10 @@ pub note-plain : (kind : NoteMessage) (ch : ℕ) (note : ℤ) (v : ℕ) → ch <
 note-plain kind ch (pos n) v c h = numbered-plain kind ch n v (ltb n 128) c (ltb-true n 128) h
 note-plain kind ch (negsuc n) v c h = record { valid = tt; unechoed = refl }
 
-stop-plain : (ch : ℕ) (s : Stopped) (v : ℕ) → ch < 16 → v < 128 → Plain (stopMessages ch s v)
-stop-plain ch Nothing v c h = record { valid = tt; unechoed = refl }
-stop-plain ch (Note note) v c h = note-plain Off ch note v c h
+stop-plain : (ch : ℕ) (s : Option ℤ) (v : ℕ) → ch < 16 → v < 128 → Plain (stopMessages ch s v)
+stop-plain ch none v c h = record { valid = tt; unechoed = refl }
+stop-plain ch (some note) v c h = note-plain Off ch note v c h
 
 pub press-plain :
-    (ch : ℕ) (s : Stopped) (t : ChannelTuning) (note : ℤ) (v : ℕ) → ch < 16 → InSteps t → v < 128 → Plain (pressMessages ch s t note v)
+    (ch : ℕ) (s : Option ℤ) (t : Tuning) (note : ℤ) (v : ℕ) → ch < 16 → InSteps t → v < 128 → Plain (pressMessages ch s t note v)
 press-plain ch s t note v c i h = plain-append (plain-append (stop-plain ch s v c h) (tuning-plain ch t c i)) (note-plain On ch note v c h)

@@ -3,6 +3,7 @@
 use mathlib.Core.Path.{_≡_, refl, sym, ap, _∙_}
 use mathlib.Core.Bool.{true, false}
 use mathlib.Core.List.{List}
+use mathlib.Core.Option.{Option, some, none}
 use Prim.Native.Nat.{ℕ, _+_, _*_, _<_}
 use lib.Dec.{ltb, eqb}
 use lib.IntN.{ℤ, pos, _*ℤ_}
@@ -12,16 +13,16 @@ use Rattle.models.specs.Outcome.{Outcome, value}
 use Rattle.senders.specs.Lent.{Effect, sends, Steps}
 use Rattle.senders.specs.Message.{Message, isBend}
 use Rattle.senders.specs.Midi.{bytesOf}
-use Rattle.senders.specs.Mts.{InSteps, tuningMessages}
+use Rattle.models.specs.Steps.{InSteps}
+use Rattle.senders.specs.Mts.{tuningMessages}
 use Rattle.senders.specs.Tuner.{noteMessages, pressMessages}
 use Rattle.senders.specs.Reader.{State}
 use Rattle.senders.specs.Receiver.{Channel, Receiver, Other, on, withFine, withBend, withSensitivity, parameter, hearAll, hearBytes, usualSensitivity, fineShift, bendShift}
 use Rattle.senders.specs.Meant.{tuned, noteMeant, stopped, pressed, steps, stepSize, shift}
-use Rattle.senders.specs.declared.mts.ChannelTuning.{ChannelTuning}
-use Rattle.senders.specs.declared.mts.ChannelTuning.the-variants.{Fine, Bend}
+use Rattle.models.specs.declared.steps.Tuning.{Tuning}
+use Rattle.models.specs.declared.steps.Tuning.the-variants.{Fine, Bend}
 use Rattle.senders.specs.declared.tuner.NoteMessage.{NoteMessage}
 use Rattle.senders.specs.declared.tuner.NoteMessage.the-variants.{Off, On, Pressure}
-use Rattle.senders.specs.declared.tuner.Stopped.{Stopped}
 use Rattle.senders.proofs.Bytes.{Plain, read-plain, sent-read-plain}
 use Rattle.senders.proofs.Hearing.{on-none, on-here, on-elsewhere, tuning-heard, note-heard, press-heard, tuning-plain, note-plain, press-plain}
 
@@ -34,7 +35,7 @@ module _ (other : Other) (st : State) where
 
   -- After the bytes of a tuning of either kind the channel is tuned.
   pub tuning-received :
-      (ch : ℕ) (t : ChannelTuning) (r : Receiver) → ch < 16 → InSteps t → hearBytes other st (bytesOf (tuningMessages ch t)) r ≡ on ch (tuned t) r
+      (ch : ℕ) (t : Tuning) (r : Receiver) → ch < 16 → InSteps t → hearBytes other st (bytesOf (tuningMessages ch t)) r ≡ on ch (tuned t) r
   tuning-received ch t r c h = plain-received (tuningMessages ch t) r (tuning-plain ch t c h) ∙ tuning-heard other ch t r h
 
   -- After a note's message the note is off, or on, or all is as it was.
@@ -46,7 +47,7 @@ module _ (other : Other) (st : State) where
 
   -- After a press the stopped note is off, the channel tuned, and the new note on.
   pub press-received :
-      (ch : ℕ) (s : Stopped) (t : ChannelTuning) (note : ℤ) (v : ℕ) (r : Receiver) → ch < 16 → InSteps t → v < 128
+      (ch : ℕ) (s : Option ℤ) (t : Tuning) (note : ℤ) (v : ℕ) (r : Receiver) → ch < 16 → InSteps t → v < 128
       → hearBytes other st (bytesOf (pressMessages ch s t note v)) r ≡ on ch (pressed s t note v) r
   press-received ch s t note v r c i h =
       plain-received (pressMessages ch s t note v) r (press-plain ch s t note v c i h) ∙ press-heard other ch s t note v r i
@@ -61,7 +62,7 @@ sent-heard other st ms r e c p = ap (λ (l : List Message). hearAll other l r) (
 -- ---- what it comes to
 
 -- A tuning of either kind moves its channel by its steps, each worth what the Specification says, in cents times 8192.
-pub tuning-shift : (t : ChannelTuning) (x : Channel) → shift t (tuned t x) ≡ steps t *ℤ pos (stepSize t x)
+pub tuning-shift : (t : Tuning) (x : Channel) → shift t (tuned t x) ≡ steps t *ℤ pos (stepSize t x)
 tuning-shift (Fine v) x = refl
 tuning-shift (Bend b) x = refl
 
@@ -86,11 +87,11 @@ changed {ch} f Holds {r} e h =
     }
 
 -- A note is on and its channel is moved as its tuning says.
-pub record Speaks (t : ChannelTuning) (n v : ℕ) (x : Channel) : Type 0 where
+pub record Speaks (t : Tuning) (n v : ℕ) (x : Channel) : Type 0 where
   pub sounding : x .sounds n ≡ ltb 0 v
   pub moved : shift t x ≡ steps t *ℤ pos (stepSize t x)
 
-speaks : (t : ChannelTuning) (n v : ℕ) (x : Channel) → n < 128 → Speaks t n v (noteMeant On (pos n) v (tuned t x))
+speaks : (t : Tuning) (n v : ℕ) (x : Channel) → n < 128 → Speaks t n v (noteMeant On (pos n) v (tuned t x))
 speaks (Fine w) n v x k = rw (lt-ltb n 128 k) (record { sounding = simp (eq-eqb n n refl); moved = refl })
 speaks (Bend b) n v x k = rw (lt-ltb n 128 k) (record { sounding = simp (eq-eqb n n refl); moved = refl })
 
@@ -126,7 +127,7 @@ module _ (other : Other) (st : State) (ch : ℕ) (r : Receiver) (low : ch < 16) 
 
   -- After a press the new note is on, at the pitch that its tuning gives, whatever was stopped.
   pub press-speaks :
-      (s : Stopped) (t : ChannelTuning) (n v : ℕ) → InSteps t → n < 128 → v < 128
+      (s : Option ℤ) (t : Tuning) (n v : ℕ) → InSteps t → n < 128 → v < 128
       → OnlyOn ch (Speaks t n v) r (hearBytes other st (bytesOf (pressMessages ch s t (pos n) v)) r)
   press-speaks s t n v i k h =
       changed (pressed s t (pos n) v) (Speaks t n v) (press-received other st ch s t (pos n) v r low i h) (speaks t n v (stopped s (r ch)) k)

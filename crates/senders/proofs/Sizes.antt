@@ -10,12 +10,10 @@ use Rattle.senders.specs.Message.{Message}
 use Rattle.senders.specs.Midi.{bytesOf, meant}
 use Rattle.senders.specs.Mts.{tuningMessages}
 use Rattle.senders.specs.Tuner.{numberOf, numbered, noteType, noteMessages, stopMessages, pressMessages}
-use Rattle.senders.specs.declared.mts.ChannelTuning.{ChannelTuning}
-use Rattle.senders.specs.declared.mts.ChannelTuning.the-variants.{Fine, Bend}
+use Rattle.models.specs.declared.steps.Tuning.{Tuning}
+use Rattle.models.specs.declared.steps.Tuning.the-variants.{Fine, Bend}
 use Rattle.senders.specs.declared.tuner.NoteMessage.{NoteMessage}
 use Rattle.senders.specs.declared.tuner.NoteMessage.the-variants.{Off, On, Pressure}
-use Rattle.senders.specs.declared.tuner.Stopped.{Stopped}
-use Rattle.senders.specs.declared.tuner.Stopped.the-variants.{Nothing, Note}
 use Rattle.senders.proofs.Messages.{bytes-append}
 
 abbrev size : List Message → ℕ
@@ -35,11 +33,11 @@ numbered-small kind ch v none = omega arith
 pub note-small : (kind : NoteMessage) (ch : ℕ) (note : ℤ) (v : ℕ) → length (bytesOf (noteMessages kind ch note v)) ≤ 64
 note-small kind ch note v = numbered-small kind ch v (numberOf note)
 
-pub stop-small : (ch : ℕ) (s : Stopped) (v : ℕ) → length (bytesOf (stopMessages ch s v)) ≤ 64
-stop-small ch Nothing v = omega arith
-stop-small ch (Note note) v = note-small Off ch note v
+pub stop-small : (ch : ℕ) (s : Option ℤ) (v : ℕ) → length (bytesOf (stopMessages ch s v)) ≤ 64
+stop-small ch none v = omega arith
+stop-small ch (some note) v = note-small Off ch note v
 
-pub tuning-small : (ch : ℕ) (t : ChannelTuning) → length (bytesOf (tuningMessages ch t)) ≤ 64
+pub tuning-small : (ch : ℕ) (t : Tuning) → length (bytesOf (tuningMessages ch t)) ≤ 64
 tuning-small ch (Fine v) = omega arith
 tuning-small ch (Bend b) = omega arith
 
@@ -58,17 +56,17 @@ pub note-size :
     → length (bytesOf (noteMessages kind ch note v)) ≡ length (bytesOf (noteMessages kind 0 note 0))
 note-size kind ch note v = numbered-size kind ch v (numberOf note)
 
-pub stop-size : (ch : ℕ) (s : Stopped) (v : ℕ) → length (bytesOf (stopMessages ch s v)) ≡ length (bytesOf (stopMessages 0 s 0))
-stop-size ch Nothing v = refl
-stop-size ch (Note note) v = note-size Off ch note v
+pub stop-size : (ch : ℕ) (s : Option ℤ) (v : ℕ) → length (bytesOf (stopMessages ch s v)) ≡ length (bytesOf (stopMessages 0 s 0))
+stop-size ch none v = refl
+stop-size ch (some note) v = note-size Off ch note v
 
-pub tuning-size : (ch : ℕ) (t : ChannelTuning) → length (bytesOf (tuningMessages ch t)) ≡ length (bytesOf (tuningMessages 0 t))
+pub tuning-size : (ch : ℕ) (t : Tuning) → length (bytesOf (tuningMessages ch t)) ≡ length (bytesOf (tuningMessages 0 t))
 tuning-size ch (Fine v) = refl
 tuning-size ch (Bend b) = refl
 
 -- a press takes what its parts take
 pub press-parts :
-    (ch : ℕ) (s : Stopped) (t : ChannelTuning) (note : ℤ) (v : ℕ)
+    (ch : ℕ) (s : Option ℤ) (t : Tuning) (note : ℤ) (v : ℕ)
     → length (bytesOf (pressMessages ch s t note v))
     ≡ length (bytesOf (stopMessages ch s v)) + length (bytesOf (tuningMessages ch t)) + length (bytesOf (noteMessages On ch note v))
 press-parts ch s t note v =
@@ -76,7 +74,7 @@ press-parts ch s t note v =
     ∙ ap (λ (n : ℕ). n + size (noteMessages On ch note v)) (size-append (stopMessages ch s v) (tuningMessages ch t))
 
 pub press-size :
-    (ch : ℕ) (s : Stopped) (t : ChannelTuning) (note : ℤ) (v : ℕ)
+    (ch : ℕ) (s : Option ℤ) (t : Tuning) (note : ℤ) (v : ℕ)
     → length (bytesOf (pressMessages ch s t note v)) ≡ length (bytesOf (pressMessages 0 s t note 0))
 press-size ch s t note v =
     let a = press-parts ch s t note v in

@@ -9,3 +9,4 @@ pub mod Reader
 pub mod Padding
 pub mod Receiver
 pub mod Meant
+pub mod Jit

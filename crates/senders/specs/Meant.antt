@@ -1,20 +1,19 @@
 -- What a tuner means by the messages it sends, as a change of the channel they are sent on. Assumes nothing.
 use mathlib.Core.Bool.{Bool, false, cond}
 use mathlib.Core.List.{List, [], _∷_}
+use mathlib.Core.Option.{Option, some, none}
 use Prim.Native.Nat.{ℕ}
 use lib.Dec.{ltb}
 use lib.IntN.{ℤ, pos, negsuc, _-ℤ_}
 use Rattle.senders.specs.Message.{isData}
 use Rattle.senders.specs.Receiver.{Channel, Receiver, on, withChoice, withFine, withBend, withNote, parameter, fineShift, bendShift, sensitivityCents}
-use Rattle.senders.specs.declared.mts.ChannelTuning.{ChannelTuning}
-use Rattle.senders.specs.declared.mts.ChannelTuning.the-variants.{Fine, Bend}
+use Rattle.models.specs.declared.steps.Tuning.{Tuning}
+use Rattle.models.specs.declared.steps.Tuning.the-variants.{Fine, Bend}
 use Rattle.senders.specs.declared.tuner.NoteMessage.{NoteMessage}
 use Rattle.senders.specs.declared.tuner.NoteMessage.the-variants.{Off, On, Pressure}
-use Rattle.senders.specs.declared.tuner.Stopped.{Stopped}
-use Rattle.senders.specs.declared.tuner.Stopped.the-variants.{Nothing, Note}
 
 -- a fine tuning leaves parameter 00 01 chosen
-abbrev pub tuned : ChannelTuning → Channel → Channel
+abbrev pub tuned : Tuning → Channel → Channel
 tuned (Fine v) x = withFine v (withChoice (parameter 0x00 0x01) x)
 tuned (Bend b) x = withBend b x
 
@@ -29,12 +28,12 @@ noteMeant Off note v x = noted false note x
 noteMeant On note v x = noted (ltb 0 v) note x
 noteMeant Pressure note v x = x
 
-abbrev pub stopped : Stopped → Channel → Channel
-stopped Nothing x = x
-stopped (Note note) x = noted false note x
+abbrev pub stopped : Option ℤ → Channel → Channel
+stopped none x = x
+stopped (some note) x = noted false note x
 
 -- the stopped note is off, the channel tuned, and then the new note is on
-abbrev pub pressed : Stopped → ChannelTuning → ℤ → ℕ → Channel → Channel
+abbrev pub pressed : Option ℤ → Tuning → ℤ → ℕ → Channel → Channel
 pressed s t note v x = noteMeant On note v (tuned t (stopped s x))
 
 -- a change for each of a list, in its order, each on a channel of its own
@@ -45,14 +44,14 @@ onEach channel change (x ∷ xs) r = onEach channel change xs (on (channel x) (c
 -- ---- how far a tuning moves its channel, in cents times 8192
 
 -- the value counted from its centre, and what a step is worth
-abbrev pub steps : ChannelTuning → ℤ
+abbrev pub steps : Tuning → ℤ
 steps (Fine v) = pos v -ℤ pos 8192
 steps (Bend b) = b
 
-abbrev pub stepSize : ChannelTuning → Channel → ℕ
+abbrev pub stepSize : Tuning → Channel → ℕ
 stepSize (Fine v) x = 100
 stepSize (Bend b) x = sensitivityCents (x .sensitivity)
 
-abbrev pub shift : ChannelTuning → Channel → ℤ
+abbrev pub shift : Tuning → Channel → ℤ
 shift (Fine v) x = fineShift x
 shift (Bend b) x = bendShift x

@@ -1,5 +1,5 @@
 -- The messages that a tuner sends on a channel ("midi.rs under tuner"). Assumes nothing.
-use mathlib.Core.Bool.{cond}
+use mathlib.Core.Bool.{Bool, true, false, cond}
 use mathlib.Core.Option.{Option, some, none}
 use mathlib.Core.List.{List, [], _∷_, _++_}
 use Prim.Native.Nat.{ℕ}
@@ -8,12 +8,12 @@ use Rattle.senders.specs.Message.{Message, isData}
 use Rattle.senders.specs.Midi.{meant}
 use Rattle.senders.specs.Mts.{tuningMessages}
 use Rattle.senders.specs.declared.midi.ChannelMessageType.{ChannelMessageType}
-use Rattle.senders.specs.declared.midi.ChannelMessageType.the-variants.{NoteOff, NoteOn, PolyphonicKeyPressure}
-use Rattle.senders.specs.declared.mts.ChannelTuning.{ChannelTuning}
+use Rattle.senders.specs.declared.midi.ChannelMessageType.the-variants.{NoteOff, NoteOn, PolyphonicKeyPressure, ControlChange, ProgramChange, ChannelPressure, PitchBendChange}
+use Rattle.models.specs.declared.steps.Tuning.{Tuning}
+use Rattle.models.specs.declared.steps.TuningKind.{TuningKind}
+use Rattle.models.specs.declared.steps.TuningKind.the-variants.{FineTuning, Bend}
 use Rattle.senders.specs.declared.tuner.NoteMessage.{NoteMessage}
 use Rattle.senders.specs.declared.tuner.NoteMessage.the-variants.{Off, On, Pressure}
-use Rattle.senders.specs.declared.tuner.Stopped.{Stopped}
-use Rattle.senders.specs.declared.tuner.Stopped.the-variants.{Nothing, Note}
 
 -- MIDI has numbers for the notes 0 to 127: a note's number is a data byte
 abbrev pub numberOf : ℤ → Option ℕ
@@ -35,15 +35,32 @@ abbrev pub noteMessages : NoteMessage → ℕ → ℤ → ℕ → List Message
 noteMessages kind ch note v = numbered (λ k. meant ch (noteType kind k v)) (numberOf note)
 
 -- the note that a press stops, if any
-abbrev pub stopMessages : ℕ → Stopped → ℕ → List Message
-stopMessages ch Nothing v = []
-stopMessages ch (Note note) v = noteMessages Off ch note v
+abbrev pub stopMessages : ℕ → Option ℤ → ℕ → List Message
+stopMessages ch none v = []
+stopMessages ch (some note) v = noteMessages Off ch note v
 
 -- "Press: note-off of the note Stop reports, with the new press's velocity, tuning, note-on"
-abbrev pub pressMessages : ℕ → Stopped → ChannelTuning → ℤ → ℕ → List Message
+abbrev pub pressMessages : ℕ → Option ℤ → Tuning → ℤ → ℕ → List Message
 pressMessages ch stopped tuning note v = stopMessages ch stopped v ++ tuningMessages ch tuning ++ noteMessages On ch note v
 
 -- what is sent for each of a list, in its order: the tunings of a plan, the releases of a stop, a message to every channel
 abbrev pub each : {A : Type 0} → (A → List Message) → List A → List Message
 each messages [] = []
 each messages (x ∷ xs) = messages x ++ each messages xs
+
+-- "`global_attr` goes to every channel, except bends of a bend sender"
+abbrev pub isBendMessage : ChannelMessageType → Bool
+isBendMessage (NoteOff k v) = false
+isBendMessage (NoteOn k v) = false
+isBendMessage (PolyphonicKeyPressure k p) = false
+isBendMessage (ControlChange n v) = false
+isBendMessage (ProgramChange p) = false
+isBendMessage (ChannelPressure p) = false
+isBendMessage (PitchBendChange b) = true
+
+abbrev pub isKept : TuningKind → ChannelMessageType → Bool
+isKept FineTuning m = false
+isKept Bend m = isBendMessage m
+
+abbrev pub toAll : TuningKind → List ℕ → ChannelMessageType → List Message
+toAll kind channels m = cond (isKept kind m) [] (each (λ ch. meant ch m ∷ []) channels)

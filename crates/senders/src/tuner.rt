@@ -6,14 +6,16 @@ ghost use lib.ListN.{length};
 ghost use Rattle.senders.specs.Lent.{Put};
 ghost use Rattle.senders.specs.Answers.{numberAnswer};
 ghost use Rattle.senders.specs.Midi.{bytesOf};
-ghost use Rattle.senders.specs.Mts.{InSteps};
+ghost use Rattle.models.specs.Steps.{InSteps};
+ghost use Rattle.models.specs.View.{stoppedNote};
 ghost use Rattle.senders.specs.Tuner.{numberOf, noteType, noteMessages, stopMessages, pressMessages};
 use crate::midi::ChannelMessageType;
 use crate::midi::message_len;
 use crate::midi::put_message;
-use crate::mts::ChannelTuning;
 use crate::mts::put_tuning;
 use crate::mts::tuning_len;
+use models::jit::StoppedNote;
+use models::steps::Tuning;
 
 // MIDI's note numbers go from 0.
 const HIGHEST_NOTE_NUMBER: i32 = 127;
@@ -25,12 +27,6 @@ pub(crate) enum NoteMessage {
     Pressure,
 }
 
-// The note that a press stops, if any.
-pub(crate) enum Stopped {
-    Nothing,
-    Note(i32),
-}
-
 // A note's number, if MIDI has one for it.
 enum NoteNumber {
     Number(u8),
@@ -38,8 +34,8 @@ enum NoteNumber {
 }
 
 // How many bytes a press takes, on any channel.
-pub(crate) fn press_len(stopped: Stopped, tuning: ChannelTuning, note: i32) -> usize
-    ensures { λ r. ⌜ r ≡ length (bytesOf (pressMessages 0 stopped tuning note 0)) ⌝ }
+pub(crate) fn press_len(stopped: StoppedNote, tuning: Tuning, note: i32) -> usize
+    ensures { λ r. ⌜ r ≡ length (bytesOf (pressMessages 0 (stoppedNote stopped) tuning note 0)) ⌝ }
 {
     stop_len(stopped) + tuning_len(tuning) + note_len(NoteMessage::On, note)
 }
@@ -49,35 +45,35 @@ pub(crate) fn put_press(
     out: &mut [u8],
     at: usize,
     channel: u8,
-    stopped: Stopped,
-    tuning: ChannelTuning,
+    stopped: StoppedNote,
+    tuning: Tuning,
     note: i32,
     velocity: u8,
 ) -> usize
-    requires { ⌜ (channel < 16) × InSteps tuning × (velocity < 128) × (at + length (bytesOf (pressMessages channel stopped tuning note velocity)) ≤ length (now out)) ⌝ }
-    ensures { λ r. ⌜ Put at (bytesOf (pressMessages channel stopped tuning note velocity)) r (now (out .entry)) (now (out .exit)) ⌝ }
+    requires { ⌜ (channel < 16) × InSteps tuning × (velocity < 128) × (at + length (bytesOf (pressMessages channel (stoppedNote stopped) tuning note velocity)) ≤ length (now out)) ⌝ }
+    ensures { λ r. ⌜ Put at (bytesOf (pressMessages channel (stoppedNote stopped) tuning note velocity)) r (now (out .entry)) (now (out .exit)) ⌝ }
 {
     let at = put_stop(out, at, channel, stopped, velocity);
     let at = put_tuning(out, at, channel, tuning);
     put_note(out, at, NoteMessage::On, channel, note, velocity)
 }
 
-fn stop_len(stopped: Stopped) -> usize
-    ensures { λ r. ⌜ r ≡ length (bytesOf (stopMessages 0 stopped 0)) ⌝ }
+fn stop_len(stopped: StoppedNote) -> usize
+    ensures { λ r. ⌜ r ≡ length (bytesOf (stopMessages 0 (stoppedNote stopped) 0)) ⌝ }
 {
     match stopped {
-        Stopped::Nothing => 0,
-        Stopped::Note(note) => note_len(NoteMessage::Off, note),
+        StoppedNote::Nothing => 0,
+        StoppedNote::Note(note) => note_len(NoteMessage::Off, note),
     }
 }
 
-fn put_stop(out: &mut [u8], at: usize, channel: u8, stopped: Stopped, velocity: u8) -> usize
-    requires { ⌜ (channel < 16) × (velocity < 128) × (at + length (bytesOf (stopMessages channel stopped velocity)) ≤ length (now out)) ⌝ }
-    ensures { λ r. ⌜ Put at (bytesOf (stopMessages channel stopped velocity)) r (now (out .entry)) (now (out .exit)) ⌝ }
+fn put_stop(out: &mut [u8], at: usize, channel: u8, stopped: StoppedNote, velocity: u8) -> usize
+    requires { ⌜ (channel < 16) × (velocity < 128) × (at + length (bytesOf (stopMessages channel (stoppedNote stopped) velocity)) ≤ length (now out)) ⌝ }
+    ensures { λ r. ⌜ Put at (bytesOf (stopMessages channel (stoppedNote stopped) velocity)) r (now (out .entry)) (now (out .exit)) ⌝ }
 {
     match stopped {
-        Stopped::Nothing => at,
-        Stopped::Note(note) => put_note(out, at, NoteMessage::Off, channel, note, velocity),
+        StoppedNote::Nothing => at,
+        StoppedNote::Note(note) => put_note(out, at, NoteMessage::Off, channel, note, velocity),
     }
 }
 

@@ -4,6 +4,7 @@ use mir.Syntax.{w32}
 use mir.Val.{toZ, ofZ}
 use mir.Facts.{toZ-ofZ}
 use native.Mathlib.Omega.{arith}
+use Rattle.models.specs.View.{stoppedNote}
 use Rattle.senders.specs.declared.tuner.NoteMessage.the-variants.{On}
 use Rattle.senders.proofs.Sizes.{stop-small, tuning-small, note-small, press-parts}
 use borrow.Author.Needs.{needs}
@@ -21,7 +22,7 @@ tuning-len-requires : tie.Need-tuning-len-requires
 tuning-len-requires c κs = search needs
 
 add-result : tie.Need-add-result
-add-result c = let a = c .before .before .args in omega (arith, stop-small 0 (a .stopped) 0, tuning-small 0 (a .tuning))
+add-result c = let a = c .before .before .args in omega (arith, stop-small 0 (stoppedNote (a .stopped)) 0, tuning-small 0 (a .tuning))
 
 note-len-requires : tie.Need-note-len-requires
 note-len-requires c κs = search needs
@@ -30,13 +31,13 @@ add-result-2 : tie.Need-add-result-2
 add-result-2 c =
     let a = c .before .before .before .args in
     let n = rw (plain (c .before .before .before)) at (c .note-len .ensures) in
-    omega (arith, stop-small 0 (a .stopped) 0, tuning-small 0 (a .tuning), note-small On 0 (a .note) 0)
+    omega (arith, stop-small 0 (stoppedNote (a .stopped)) 0, tuning-small 0 (a .tuning), note-small On 0 (a .note) 0)
 
 returns : tie.Need-returns
 returns c =
     let a = c .before .before .before .args in
     let n = rw (plain (c .before .before .before)) at (c .note-len .ensures) in
-    omega (arith, press-parts 0 (a .stopped) (a .tuning) (a .note) 0)
+    omega (arith, press-parts 0 (stoppedNote (a .stopped)) (a .tuning) (a .note) 0)
 
 pub press-len-spec : {M : Type 1} → statement M
 press-len-spec =

@@ -8,6 +8,7 @@ use Prim.Native.Nat.{_≤_}
 use native.Mathlib.Omega.{arith}
 use lib.ListN.{length}
 use denote.Ref.{now}
+use Rattle.models.specs.View.{stoppedNote}
 use Rattle.senders.specs.Mts.{tuningMessages}
 use Rattle.senders.specs.Tuner.{stopMessages, noteMessages}
 use Rattle.senders.specs.declared.tuner.NoteMessage.the-variants.{On}
@@ -26,7 +27,7 @@ put-stop-requires : tie.Need-put-stop-requires
 put-stop-requires c κs =
     let s = c .before .before in
     let a = s .args in
-    (s .pre .0, s .pre .2, omega (arith, press-parts (a .channel) (a .stopped) (a .tuning) (a .note) (a .velocity)))
+    (s .pre .0, s .pre .2, omega (arith, press-parts (a .channel) (stoppedNote (a .stopped)) (a .tuning) (a .note) (a .velocity)))
 
 put-tuning-requires : tie.Need-put-tuning-requires
 put-tuning-requires c κs =
@@ -34,7 +35,7 @@ put-tuning-requires c κs =
     let a = s .args in (
       s .pre .0,
       s .pre .1,
-      omega (arith, press-parts (a .channel) (a .stopped) (a .tuning) (a .note) (a .velocity), c .before .before .before .put-stop .ensures .next-is),
+      omega (arith, press-parts (a .channel) (stoppedNote (a .stopped)) (a .tuning) (a .note) (a .velocity), c .before .before .before .put-stop .ensures .next-is),
     )
 
 put-note-requires : tie.Need-put-note-requires
@@ -46,7 +47,7 @@ put-note-requires c κs =
     rw (plain s) (
       s .pre .0,
       s .pre .2,
-      omega (arith, press-parts (a .channel) (a .stopped) (a .tuning) (a .note) (a .velocity), p .put-stop .ensures .next-is, t .put-tuning .ensures .next-is),
+      omega (arith, press-parts (a .channel) (stoppedNote (a .stopped)) (a .tuning) (a .note) (a .velocity), p .put-stop .ensures .next-is, t .put-tuning .ensures .next-is),
     )
 
 same-length : tie.Need-same-length
@@ -59,7 +60,7 @@ returns c =
     let p = t .before .before .before .before in
     let s = p .before .before .before in
     let a = s .args in
-    let stop = stopMessages (a .channel) (a .stopped) (a .velocity) in
+    let stop = stopMessages (a .channel) (stoppedNote (a .stopped)) (a .velocity) in
     let tuning = tuningMessages (a .channel) (a .tuning) in
     let room : a .at ≤ length (now (a .out)) = omega (arith, s .pre .3) in
     rw (bytes-append (stop ++ tuning) (noteMessages On (a .channel) (a .note) (a .velocity)), bytes-append stop tuning)

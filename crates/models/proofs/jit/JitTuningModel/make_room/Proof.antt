@@ -55,14 +55,14 @@ enum-told-4 : tie.Need-enum-told-4
 enum-told-4 c = search needs
 
 returns : tie.Need-returns
-unfolding roomView stoppedNote madeRoom
+unfolding roomView madeRoom
 returns c =
     let a = c .before .before .before .before .before .before .args in
     let s = view (a .self) in
     sym (ap (λ (m : PoolingMode). madeRoom m s (oldest s (a .note))) (c .enum-told .given .1))
 
 returns-2 : tie.Need-returns-2
-unfolding roomView stoppedNote madeRoom
+unfolding roomView madeRoom
 returns-2 c =
     let told = c .before .before .before .before in
     let a = told .before .before .before .before .args in
@@ -71,7 +71,7 @@ returns-2 c =
     (sym (ap (λ (m : PoolingMode). madeRoom m s (oldest s (a .note))) (c .before .before .enum-told2 .given .1) ∙ ap (madeRoom Stop s) (was told)))
 
 returns-3 : tie.Need-returns-3
-unfolding roomView stoppedNote madeRoom
+unfolding roomView madeRoom
 returns-3 c =
     let told = c .before .before .before in
     let a = told .before .before .before .before .args in
@@ -80,7 +80,7 @@ returns-3 c =
     ∙ sym (ap (λ (m : PoolingMode). madeRoom m s (oldest s (a .note))) (c .before .enum-told3 .given .1) ∙ ap (madeRoom Ignore s) (was told))
 
 returns-4 : tie.Need-returns-4
-unfolding roomView stoppedNote old
+unfolding roomView old
 returns-4 c =
     let start = c .before .before .before in
     let s = view (start .args .self) in

@@ -24,7 +24,7 @@ make-room-requires : tie.Need-make-room-requires
 make-room-requires c κs = search needs
 
 returns : tie.Need-returns
-unfolding roomView stoppedNote roomFor roomBy front poolView
+unfolding roomView roomFor roomBy front poolView
 returns c =
     let start = c .before .before .before .before .before in
     let front-pool = sym (c .before .before .before .before .pool .ensures ∙ ap (pool _) (toZ-ofZ (start .fits .note))) in
