@@ -26,14 +26,14 @@ abbrev highNote : Float
 highNote = fin false 1 (pos 45)
 
 -- the notes, counted from the lowest
-abbrev noteAt : ℕ → ℤ
+abbrev pub noteAt : ℕ → ℤ
 noteAt n = pos n -ℤ pos 300
 
-record Counted (z : ℤ) (n : ℕ) : Type 0 where
-  is : noteAt n ≡ z
-  few : n < 801
+pub record Counted (z : ℤ) (n : ℕ) : Type 0 where
+  pub is : noteAt n ≡ z
+  pub few : n < 801
 
-counted : (z : ℤ) → isNote z ≡ true → Counted z (natAbs (z +ℤ pos 300))
+pub counted : (z : ℤ) → isNote z ≡ true → Counted z (natAbs (z +ℤ pos 300))
 counted z e = go (z +ℤ pos 300) refl
   where
     b : (plus z ≤ 500) × (less z ≤ 300)

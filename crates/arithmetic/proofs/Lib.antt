@@ -14,4 +14,5 @@ pub mod Range
 pub mod Steps
 pub mod Nearest
 pub mod Octaves
+pub mod Close
 pub mod Refusals
