@@ -2,5 +2,6 @@
 pub mod Entries
 pub mod ChannelList
 pub mod Pool
-pub mod View
+pub mod JitModel
+pub mod PoolInside
 pub mod Recital
