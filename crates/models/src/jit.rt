@@ -31,6 +31,9 @@ use arithmetic::tuning::RatioAnswer;
 use arithmetic::tuning::detuning;
 use arithmetic::tuning::find_by_pitch;
 
+// A pool for each letter.
+const LETTERS: usize = 12;
+
 // Which notes share a pool: those of a letter, or all. (Rust's `GroupBy` without pools for single notes.)
 pub enum PoolGroupBy {
     NoteLetter,
@@ -83,8 +86,8 @@ pub struct JitTuningModel {
     channels: ChannelList,
     group_by: PoolGroupBy,
     pooling_mode: PoolingMode,
-    // One for each letter; channel groups use the first alone.
-    pools: [JitPool; 12],
+    // Channel groups use the first alone.
+    pools: [JitPool; LETTERS],
     keys: Keys,
 }
 
@@ -239,7 +242,7 @@ impl JitTuningModel {
             channels,
             group_by,
             pooling_mode,
-            pools: [pool; 12],
+            pools: [pool; LETTERS],
             keys,
         }
     }
