@@ -15,7 +15,7 @@ use mir.Val.{SFits, toZ, ofZ}
 use mir.Facts.{toZ-ofZ}
 use Rattle.arithmetic.specs.Note.{isNote}
 use Rattle.models.specs.Pool.{keyCount, Place}
-use Rattle.models.specs.View.{records, recordOf}
+use Rattle.models.specs.JitModel.{records, recordOf}
 use Rattle.models.specs.declared.keys.Slot.{Slot}
 use Rattle.models.specs.declared.keys.Keys.{Keys}
 

@@ -12,5 +12,6 @@ pub mod Times
 pub mod PoolSettings
 pub mod PoolInvariant
 pub mod PoolAnswers
+pub mod PoolStop
 pub mod PoolRefusals
 pub mod PoolExamples

@@ -260,7 +260,7 @@ module _ (n : ℕ) (s : State) (ok : Ok n s) (key : ℕ) (small : key < keyCount
 
 -- ---- a key loses its channel, which goes to the back of the free ones
 
-set-none : (l : List (Option Place)) (i : ℕ) → getD (set l i none) i none ≡ none
+pub set-none : (l : List (Option Place)) (i : ℕ) → getD (set l i none) i none ≡ none
 set-none [] i = refl
 set-none (p ∷ l) zero = refl
 set-none (p ∷ l) (suc i) = set-none l i

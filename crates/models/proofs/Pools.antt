@@ -19,7 +19,7 @@ use Rattle.arithmetic.proofs.Notes.{letter-below}
 use Rattle.arithmetic.proofs.Refusals.{letter-refuses, detuning-refuses}
 use Rattle.models.specs.Entries.{first}
 use Rattle.models.specs.Pool.{Place, State, Held, poolCount, poolOf, pool, found, withPool, withKey, freed, forgotten, released, releasedFrom, releasedAll, heldAt, oldestOf, oldest, Room, room, madeRoom, roomFor, accepted, rejected, taken, pressed, pressedOn, heldFrom}
-use Rattle.models.specs.View.{records, view}
+use Rattle.models.specs.JitModel.{records, view}
 use Rattle.models.specs.declared.jit.PoolGroupBy.{PoolGroupBy}
 use Rattle.models.specs.declared.jit.PoolGroupBy.the-variants.{NoteLetter, Channel}
 use Rattle.models.specs.declared.jit.PoolingMode.{PoolingMode}

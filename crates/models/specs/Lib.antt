@@ -5,6 +5,7 @@ pub mod Steps
 pub mod Entries
 pub mod ChannelList
 pub mod Pool
-pub mod View
+pub mod JitModel
+pub mod PoolInside
 pub mod Recital
 pub mod Answers

@@ -10,7 +10,8 @@ ghost use Rattle.arithmetic.specs.Outcome.{value};
 ghost use Rattle.models.specs.Entries.{range, first};
 ghost use Rattle.models.specs.ChannelList.{entries};
 ghost use Rattle.models.specs.Pool.{poolCount, poolOf, fresh, pool, found, takenIn, freedIn, withPool, freed, forgotten, oldest, roomFor, madeRoom, taken, pressed, released, heldKeys, stopped, replied, unlessHeld, registerRule, repitchRule, openRule};
-ghost use Rattle.models.specs.View.{place, nextHeld, poolView, view, old, roomView, told, repitched, opened};
+ghost use Rattle.models.specs.JitModel.{place, nextHeld, poolView, view, told, repitched, opened};
+ghost use Rattle.models.specs.PoolInside.{old, roomView};
 use crate::channels::ChannelList;
 use crate::channels::ChannelsAnswer;
 use crate::channels::present;
@@ -29,6 +30,9 @@ use arithmetic::tuning::Approximation;
 use arithmetic::tuning::RatioAnswer;
 use arithmetic::tuning::detuning;
 use arithmetic::tuning::find_by_pitch;
+
+// A pool for each letter.
+const LETTERS: usize = 12;
 
 // Which notes share a pool: those of a letter, or all. (Rust's `GroupBy` without pools for single notes.)
 pub enum PoolGroupBy {
@@ -82,8 +86,8 @@ pub struct JitTuningModel {
     channels: ChannelList,
     group_by: PoolGroupBy,
     pooling_mode: PoolingMode,
-    // One for each letter; channel groups use the first alone.
-    pools: [JitPool; 12],
+    // Channel groups use the first alone.
+    pools: [JitPool; LETTERS],
     keys: Keys,
 }
 
@@ -238,7 +242,7 @@ impl JitTuningModel {
             channels,
             group_by,
             pooling_mode,
-            pools: [pool; 12],
+            pools: [pool; LETTERS],
             keys,
         }
     }

@@ -7,7 +7,7 @@ ghost use lib.ListN.{getD, set, replicate, drop};
 ghost use Rattle.arithmetic.specs.Note.{isNote};
 ghost use Rattle.models.specs.Entries.{first};
 ghost use Rattle.models.specs.Pool.{keyCount, heldFrom};
-ghost use Rattle.models.specs.View.{records, place, nextHeld};
+ghost use Rattle.models.specs.JitModel.{records, place, nextHeld};
 use arithmetic::note::is_note;
 
 // The number of keys, as `keyCount` of specs/.

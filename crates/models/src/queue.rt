@@ -5,7 +5,8 @@ ghost use mathlib.Core.List.{[]};
 ghost use Prim.Native.Nat.{_≤_};
 ghost use lib.ListN.{length, take, drop};
 ghost use Rattle.models.specs.Entries.{among, range, without, first};
-ghost use Rattle.models.specs.View.{items, front};
+ghost use Rattle.models.specs.JitModel.{items};
+ghost use Rattle.models.specs.PoolInside.{front};
 ghost use Rattle.models.specs.Pool.{behind};
 
 // As many as there are MIDI channels.

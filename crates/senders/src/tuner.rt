@@ -7,7 +7,7 @@ ghost use Rattle.senders.specs.Lent.{Put};
 ghost use Rattle.senders.specs.Answers.{numberAnswer};
 ghost use Rattle.senders.specs.Midi.{bytesOf};
 ghost use Rattle.models.specs.Steps.{InSteps};
-ghost use Rattle.models.specs.View.{stoppedNote};
+ghost use Rattle.models.specs.JitModel.{stoppedNote};
 ghost use Rattle.senders.specs.Tuner.{numberOf, noteType, noteMessages, stopMessages, pressMessages};
 use crate::midi::ChannelMessageType;
 use crate::midi::message_len;

@@ -2,7 +2,7 @@
 use borrow.Author.Needs.{needs}
 use mathlib.Core.Path.{sym, _∙_}
 use Rattle.models.specs.Pool.{freedIn}
-use Rattle.models.specs.View.{poolView}
+use Rattle.models.specs.JitModel.{poolView}
 use Rattle.models.proofs.jit.JitPool.freed.Statement.{statement}
 use Rattle.models.proofs.jit.JitPool.freed.Tie as tie
 

@@ -1,6 +1,6 @@
 -- `jit::JitPool::new` meets its contract: all channels are free, and no key has one. Assumes nothing.
 use borrow.Author.Needs.{needs}
-use Rattle.models.specs.View.{poolView}
+use Rattle.models.specs.JitModel.{poolView}
 use Rattle.models.proofs.jit.JitPool.new.Statement.{statement}
 use Rattle.models.proofs.jit.JitPool.new.Tie as tie
 

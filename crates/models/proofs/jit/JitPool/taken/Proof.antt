@@ -1,7 +1,7 @@
 -- `jit::JitPool::taken` meets its contract. Assumes nothing.
 use borrow.Author.Needs.{needs}
 use Rattle.models.specs.Pool.{takenIn}
-use Rattle.models.specs.View.{poolView}
+use Rattle.models.specs.JitModel.{poolView}
 use Rattle.models.proofs.jit.JitPool.taken.Statement.{statement}
 use Rattle.models.proofs.jit.JitPool.taken.Tie as tie
 

@@ -1,7 +1,7 @@
 -- `jit::JitTuningModel::access_key` meets its contract: the lookup is that of the keys. Assumes nothing.
 use borrow.Author.Needs.{needs}
 use Rattle.models.specs.Pool.{found}
-use Rattle.models.specs.View.{view}
+use Rattle.models.specs.JitModel.{view}
 use Rattle.models.proofs.jit.JitTuningModel.access_key.Statement.{statement}
 use Rattle.models.proofs.jit.JitTuningModel.access_key.Tie as tie
 

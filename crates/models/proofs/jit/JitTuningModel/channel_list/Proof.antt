@@ -1,6 +1,6 @@
 -- `jit::JitTuningModel::channel_list` meets its contract. Assumes nothing.
 use mathlib.Core.Path.{refl}
-use Rattle.models.specs.View.{view}
+use Rattle.models.specs.JitModel.{view}
 use Rattle.models.proofs.jit.JitTuningModel.channel_list.Statement.{statement}
 use Rattle.models.proofs.jit.JitTuningModel.channel_list.Tie as tie
 

@@ -6,7 +6,7 @@ use mir.Facts.{toZ-ofZ}
 use mir.Syntax.{w32}
 use mir.Val.{toZ, ofZ}
 use Rattle.models.specs.Pool.{Place, State, found, forgotten}
-use Rattle.models.specs.View.{view, place}
+use Rattle.models.specs.JitModel.{view, place}
 use Rattle.models.proofs.Pools.{found-note, released-found, released-none}
 use Rattle.models.proofs.jit.JitTuningModel.deregister_key.Statement.{statement}
 use Rattle.models.proofs.jit.JitTuningModel.deregister_key.Tie as tie

@@ -1,7 +1,7 @@
 -- `jit::JitTuningModel::forgotten` meets its contract. Assumes nothing.
 use borrow.Author.Needs.{needs}
 use Rattle.models.specs.Pool.{forgotten, withKey}
-use Rattle.models.specs.View.{view}
+use Rattle.models.specs.JitModel.{view}
 use Rattle.models.proofs.jit.JitTuningModel.forgotten.Statement.{statement}
 use Rattle.models.proofs.jit.JitTuningModel.forgotten.Tie as tie
 

@@ -6,7 +6,7 @@ use lib.ListN.{take, replicate}
 use Rattle.models.specs.declared.jit.PoolGroupBy.{PoolGroupBy}
 use Rattle.models.specs.declared.jit.PoolGroupBy.the-variants.{NoteLetter, Channel}
 use Rattle.models.specs.Pool.{Pool, fresh, poolCount}
-use Rattle.models.specs.View.{view}
+use Rattle.models.specs.JitModel.{view}
 use Rattle.models.proofs.ChannelLists.{entries-few}
 use Rattle.models.proofs.jit.JitTuningModel.fresh.Statement.{statement}
 use Rattle.models.proofs.jit.JitTuningModel.fresh.Tie as tie

@@ -8,7 +8,8 @@ use mir.Val.{toZ, ofZ}
 use Rattle.models.specs.declared.jit.PoolingMode.{PoolingMode}
 use Rattle.models.specs.declared.jit.PoolingMode.the-variants.{Stop, Ignore}
 use Rattle.models.specs.Pool.{State, Held, oldest, madeRoom, room}
-use Rattle.models.specs.View.{view, old, roomView, stoppedNote}
+use Rattle.models.specs.JitModel.{view, stoppedNote}
+use Rattle.models.specs.PoolInside.{old, roomView}
 use Rattle.models.proofs.Pools.{oldest-is, found-note, made-none}
 use Rattle.models.proofs.jit.JitTuningModel.make_room.Statement.{statement}
 use Rattle.models.proofs.jit.JitTuningModel.make_room.Tie as tie

@@ -1,7 +1,7 @@
 -- `jit::JitTuningModel::next_key` meets its contract: the next key is that of the keys. Assumes nothing.
 use borrow.Author.Needs.{needs}
 use Rattle.models.specs.Pool.{heldKeys}
-use Rattle.models.specs.View.{view}
+use Rattle.models.specs.JitModel.{view}
 use Rattle.models.proofs.jit.JitTuningModel.next_key.Statement.{statement}
 use Rattle.models.proofs.jit.JitTuningModel.next_key.Tie as tie
 

@@ -1,6 +1,6 @@
 -- `jit::JitTuningModel::num_channels` meets its contract. Assumes nothing.
 use borrow.Author.Needs.{needs}
-use Rattle.models.specs.View.{view}
+use Rattle.models.specs.JitModel.{view}
 use Rattle.models.proofs.jit.JitTuningModel.num_channels.Statement.{statement}
 use Rattle.models.proofs.jit.JitTuningModel.num_channels.Tie as tie
 

@@ -4,7 +4,8 @@ use mathlib.Core.Path.{sym, ap, _∙_}
 use mir.Facts.{toZ-ofZ}
 use mir.Syntax.{w32}
 use Rattle.models.specs.Entries.{first}
-use Rattle.models.specs.View.{front, place, old, poolView}
+use Rattle.models.specs.JitModel.{place, poolView}
+use Rattle.models.specs.PoolInside.{front, old}
 use Rattle.models.specs.Pool.{Pool, pool, oldest, oldestOf, heldAt}
 use Rattle.models.proofs.jit.JitTuningModel.oldest.Statement.{statement}
 use Rattle.models.proofs.jit.JitTuningModel.oldest.Tie as tie

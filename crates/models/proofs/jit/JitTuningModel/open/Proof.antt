@@ -1,7 +1,7 @@
 -- `jit::JitTuningModel::open` meets its contract: the channel list's answer, and a fresh model with the channels present. Assumes nothing.
 use borrow.Author.Needs.{needs}
 use Rattle.models.specs.Pool.{openRule}
-use Rattle.models.specs.View.{opened}
+use Rattle.models.specs.JitModel.{opened}
 use Rattle.models.proofs.jit.JitTuningModel.open.Statement.{statement}
 use Rattle.models.proofs.jit.JitTuningModel.open.Tie as tie
 

@@ -6,7 +6,7 @@ use lib.ListN.{getD, take, List·getD-map}
 use lib.Seq.{getD-take}
 use mir.Facts.{toZ-ofZ}
 use Rattle.models.specs.Pool.{pool, poolOf, poolCount, emptyPool}
-use Rattle.models.specs.View.{view, poolView, items}
+use Rattle.models.specs.JitModel.{view, poolView, items}
 use Rattle.models.proofs.jit.JitTuningModel.pool.Statement.{statement}
 use Rattle.models.proofs.jit.JitTuningModel.pool.Tie as tie
 

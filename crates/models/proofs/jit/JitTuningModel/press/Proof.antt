@@ -3,7 +3,7 @@ use borrow.Author.Needs.{needs}
 use mathlib.Core.Path.{sym, ap, _∙_}
 use mir.Facts.{toZ-ofZ}
 use Rattle.models.specs.Pool.{replied, unlessHeld, isHeld}
-use Rattle.models.specs.View.{place, told, press}
+use Rattle.models.specs.JitModel.{place, told, press}
 use Rattle.models.proofs.jit.JitTuningModel.press.Statement.{statement}
 use Rattle.models.proofs.jit.JitTuningModel.press.Tie as tie
 

@@ -4,7 +4,8 @@ use mathlib.Core.Path.{sym, ap, _∙_}
 use mir.Facts.{toZ-ofZ}
 use Rattle.models.specs.Entries.{first}
 use Rattle.models.specs.Pool.{Pool, pool, roomFor, replied}
-use Rattle.models.specs.View.{view, front, poolView, roomView, told, press}
+use Rattle.models.specs.JitModel.{view, poolView, told, press}
+use Rattle.models.specs.PoolInside.{front, roomView}
 use Rattle.models.proofs.Pools.{pressed-free, pressed-none}
 use Rattle.models.proofs.jit.JitTuningModel.press_new.Statement.{statement}
 use Rattle.models.proofs.jit.JitTuningModel.press_new.Tie as tie

@@ -11,7 +11,7 @@ use Rattle.arithmetic.specs.Nearest.{nearestNote}
 use Rattle.arithmetic.proofs.Nearest.{nearest-is-note}
 use Rattle.arithmetic.proofs.Refusals.{nearest-refuses}
 use Rattle.models.specs.Pool.{registerRule, replied}
-use Rattle.models.specs.View.{told, press}
+use Rattle.models.specs.JitModel.{told, press}
 use Rattle.models.proofs.Pools.{nearest-is}
 use Rattle.models.proofs.jit.JitTuningModel.register_key.Statement.{statement}
 use Rattle.models.proofs.jit.JitTuningModel.register_key.Tie as tie

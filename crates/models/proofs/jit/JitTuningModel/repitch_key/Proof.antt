@@ -10,7 +10,7 @@ use Rattle.arithmetic.specs.Answers.{ratioAnswer}
 use Rattle.arithmetic.specs.Note.{isNote}
 use Rattle.arithmetic.specs.Pitch.{isPitch, detuningRule}
 use Rattle.models.specs.Pool.{Place, found, repitchRule, tuning}
-use Rattle.models.specs.View.{view, place, repitched}
+use Rattle.models.specs.JitModel.{view, place, repitched}
 use Rattle.models.proofs.Pools.{found-note, not-true, not-false, detuning-is, detuning-not}
 use Rattle.models.proofs.jit.JitTuningModel.repitch_key.Statement.{statement}
 use Rattle.models.proofs.jit.JitTuningModel.repitch_key.Tie as tie

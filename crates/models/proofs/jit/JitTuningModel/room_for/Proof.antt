@@ -4,7 +4,8 @@ use mathlib.Core.Path.{sym, ap, _∙_}
 use mir.Facts.{toZ-ofZ}
 use Rattle.models.specs.Entries.{first}
 use Rattle.models.specs.Pool.{Pool, pool, roomFor, roomBy}
-use Rattle.models.specs.View.{view, front, poolView, roomView, stoppedNote}
+use Rattle.models.specs.JitModel.{view, poolView, stoppedNote}
+use Rattle.models.specs.PoolInside.{front, roomView}
 use Rattle.models.proofs.jit.JitTuningModel.room_for.Statement.{statement}
 use Rattle.models.proofs.jit.JitTuningModel.room_for.Tie as tie
 

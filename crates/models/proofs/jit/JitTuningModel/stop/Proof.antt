@@ -5,7 +5,7 @@ use mathlib.Core.Path.{_≡_, refl, sym, ap, _∙_}
 use native.Mathlib.Omega.{arith}
 use lib.ListN.{length, drop}
 use Rattle.models.specs.Pool.{keyCount, State, found, heldFrom, heldKeys, releasedAll, stopped}
-use Rattle.models.specs.View.{view}
+use Rattle.models.specs.JitModel.{view}
 use Rattle.models.proofs.Arrays.{long-field}
 use Rattle.models.proofs.KeyRecords.{records-long}
 use Rattle.models.proofs.HeldKeys.{held-past}

@@ -4,7 +4,7 @@ use mathlib.Core.Path.{_≡_, ap, _∙_}
 use mathlib.Core.Option.{some}
 use mir.Facts.{toZ-ofZ}
 use Rattle.models.specs.Pool.{Place, State, taken, takenIn, pool, withKey, withPool}
-use Rattle.models.specs.View.{view}
+use Rattle.models.specs.JitModel.{view}
 use Rattle.models.proofs.jit.JitTuningModel.taken.Statement.{statement}
 use Rattle.models.proofs.jit.JitTuningModel.taken.Tie as tie
 

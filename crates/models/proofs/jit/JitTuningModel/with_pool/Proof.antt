@@ -5,7 +5,7 @@ use lib.Seq.{take-set-lt}
 use mathlib.Core.List.{map}
 use mir.Facts.{toZ-ofZ}
 use Rattle.models.specs.Pool.{withPool, poolOf, poolCount}
-use Rattle.models.specs.View.{view, poolView}
+use Rattle.models.specs.JitModel.{view, poolView}
 use Rattle.models.proofs.KeyRecords.{map-set}
 use Rattle.models.proofs.jit.JitTuningModel.with_pool.Statement.{statement}
 use Rattle.models.proofs.jit.JitTuningModel.with_pool.Tie as tie

@@ -1,6 +1,6 @@
 -- `keys::Keys::clear` meets its contract: the record that is stored has no note. Assumes nothing.
 use borrow.Author.Needs.{needs}
-use Rattle.models.specs.View.{records, recordOf}
+use Rattle.models.specs.JitModel.{records, recordOf}
 use Rattle.models.proofs.KeyRecords.{map-set}
 use Rattle.models.proofs.keys.Keys.clear.Statement.{statement}
 use Rattle.models.proofs.keys.Keys.clear.Tie as tie

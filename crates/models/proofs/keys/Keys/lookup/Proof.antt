@@ -11,7 +11,7 @@ use mir.Val.{SFits}
 use Rattle.arithmetic.specs.Note.{isNote}
 use Rattle.models.specs.declared.keys.Slot.{Slot}
 use Rattle.models.specs.Pool.{keyCount}
-use Rattle.models.specs.View.{records, recordOf, place}
+use Rattle.models.specs.JitModel.{records, recordOf, place}
 use Rattle.models.proofs.KeyRecords.{getD-map-below, wider, read-wider, record-found, record-none}
 use Rattle.models.proofs.keys.Keys.lookup.Statement.{statement}
 use Rattle.models.proofs.keys.Keys.lookup.Tie as tie

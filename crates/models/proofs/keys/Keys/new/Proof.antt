@@ -1,6 +1,6 @@
 -- `keys::Keys::new` meets its contract: no record has a note. Assumes nothing.
 use mathlib.Core.Path.{refl}
-use Rattle.models.specs.View.{records, recordOf}
+use Rattle.models.specs.JitModel.{records, recordOf}
 use Rattle.models.proofs.keys.Keys.new.Statement.{statement}
 use Rattle.models.proofs.keys.Keys.new.Tie as tie
 

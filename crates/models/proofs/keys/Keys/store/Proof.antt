@@ -3,7 +3,7 @@ use borrow.Author.Needs.{needs}
 use mathlib.Core.Path.{sym, ap, _∙_}
 use lib.ListN.{set}
 use mir.Facts.{toZ-ofZ}
-use Rattle.models.specs.View.{records, recordOf}
+use Rattle.models.specs.JitModel.{records, recordOf}
 use Rattle.models.proofs.KeyRecords.{map-set, note-fits, read-narrower, record-found}
 use Rattle.models.proofs.keys.Keys.store.Statement.{statement}
 use Rattle.models.proofs.keys.Keys.store.Tie as tie

@@ -3,7 +3,7 @@ use Prim.Native.Nat.{min}
 use mathlib.Core.Path.{_≡_, ap, _∙_}
 use native.Mathlib.Omega.{arith}
 use Rattle.models.specs.Entries.{range}
-use Rattle.models.specs.View.{items}
+use Rattle.models.specs.JitModel.{items}
 use Rattle.models.proofs.Queues.{take-range}
 use Rattle.models.proofs.queue.Queue.counting.Statement.{statement}
 use Rattle.models.proofs.queue.Queue.counting.Tie as tie

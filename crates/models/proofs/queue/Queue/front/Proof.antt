@@ -1,7 +1,8 @@
 -- `queue::Queue::front` meets its contract: the first of the items, where there is one. Assumes nothing.
 use borrow.Author.Needs.{needs}
 use native.Mathlib.Omega.{arith}
-use Rattle.models.specs.View.{items, front}
+use Rattle.models.specs.JitModel.{items}
+use Rattle.models.specs.PoolInside.{front}
 use Rattle.models.proofs.Queues.{front-some, front-none}
 use Rattle.models.proofs.queue.Queue.front.Statement.{statement}
 use Rattle.models.proofs.queue.Queue.front.Tie as tie

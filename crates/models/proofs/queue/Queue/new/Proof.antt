@@ -1,6 +1,6 @@
 -- `queue::Queue::new` meets its contract: it has no items. Assumes nothing.
 use mathlib.Core.Path.{refl}
-use Rattle.models.specs.View.{items}
+use Rattle.models.specs.JitModel.{items}
 use Rattle.models.proofs.queue.Queue.new.Statement.{statement}
 use Rattle.models.proofs.queue.Queue.new.Tie as tie
 

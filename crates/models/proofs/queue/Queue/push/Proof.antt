@@ -3,7 +3,7 @@ use borrow.Author.Needs.{needs}
 use mathlib.Core.Path.{ap, _∙_}
 use native.Mathlib.Omega.{arith}
 use Rattle.models.specs.Pool.{behind}
-use Rattle.models.specs.View.{items}
+use Rattle.models.specs.JitModel.{items}
 use Rattle.models.proofs.Queues.{push-room, push-full}
 use Rattle.models.proofs.queue.Queue.push.Statement.{statement}
 use Rattle.models.proofs.queue.Queue.push.Tie as tie

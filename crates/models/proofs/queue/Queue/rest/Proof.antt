@@ -6,7 +6,7 @@ use native.Mathlib.Omega.{arith}
 use lib.ListN.{take, drop}
 use lib.Seq.{length-take-le, getD-take}
 use Rattle.models.specs.Pool.{behind}
-use Rattle.models.specs.View.{items}
+use Rattle.models.specs.JitModel.{items}
 use Rattle.models.proofs.Queues.{rest-begun, rest-turn, rest-ended}
 use Rattle.models.proofs.queue.Queue.rest.Statement.{statement}
 use Rattle.models.proofs.queue.Queue.rest.Tie as tie

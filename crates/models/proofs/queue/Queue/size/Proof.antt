@@ -4,7 +4,7 @@ use native.Mathlib.Omega.{arith}
 use borrow.Author.Needs.{needs}
 use lib.ListN.{length, length-map}
 use lib.Seq.{length-take-le, take-all}
-use Rattle.models.specs.View.{items}
+use Rattle.models.specs.JitModel.{items}
 use Rattle.models.proofs.queue.Queue.size.Statement.{statement}
 use Rattle.models.proofs.queue.Queue.size.Tie as tie
 

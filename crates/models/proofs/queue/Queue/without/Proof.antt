@@ -9,7 +9,7 @@ use lib.ListN.{length, getD, take, drop}
 use lib.Seq.{length-take-le, getD-take}
 use Rattle.models.specs.Entries.{without}
 use Rattle.models.specs.Pool.{behind}
-use Rattle.models.specs.View.{items}
+use Rattle.models.specs.JitModel.{items}
 use Rattle.models.proofs.Queues.{length-behind, without-here, without-other, without-ended}
 use Rattle.models.proofs.queue.Queue.without.Statement.{statement}
 use Rattle.models.proofs.queue.Queue.without.Tie as tie

@@ -9,20 +9,17 @@ use lib.ListN.{take}
 use Rattle.arithmetic.specs.Outcome.{Outcome, value, refused}
 use Rattle.arithmetic.specs.Note.{isNote}
 use Rattle.models.specs.ChannelList.{entries, channelsAnswer}
-use Rattle.models.specs.Pool.{Place, Held, Pool, State, poolCount, Room, room, Press, accepted, rejected}
+use Rattle.models.specs.Pool.{Place, Held, Pool, State, poolCount, Press, accepted, rejected}
 use Rattle.models.specs.declared.queue.Queue.{Queue}
-use Rattle.models.specs.declared.queue.Front as F
 use Rattle.models.specs.declared.keys.AccessKeyResult as A
 use Rattle.models.specs.declared.keys.NextKey as N
 use Rattle.models.specs.declared.keys.Slot.{Slot}
 use Rattle.models.specs.declared.keys.Keys.{Keys}
 use Rattle.models.specs.declared.jit.StoppedNote as S
-use Rattle.models.specs.declared.jit.Oldest as O
 use Rattle.models.specs.declared.jit.RegisterKeyResult as R
 use Rattle.models.specs.declared.jit.RepitchKeyResult as P
 use Rattle.models.specs.declared.jit.JitPool.{JitPool}
 use Rattle.models.specs.declared.jit.JitTuningModel.{JitTuningModel}
-use Rattle.models.specs.declared.jit.Room as C
 use Rattle.models.specs.declared.jit.Registered.{Registered}
 use Rattle.models.specs.declared.jit.Opened.{Opened}
 
@@ -54,10 +51,6 @@ view m =
 
 -- ---- the answers
 
-unfoldable pub front : F.Front → Option ℕ
-front (F.the-variants.Item x) = some x
-front F.the-variants.Empty = none
-
 unfoldable pub place : A.AccessKeyResult → Option Place
 place (A.the-variants.Found channel note) = some (record { channel = channel; note = note })
 place A.the-variants.NotFound = none
@@ -65,10 +58,6 @@ place A.the-variants.NotFound = none
 unfoldable pub nextHeld : N.NextKey → Option Held
 nextHeld (N.the-variants.Held key channel note) = some (record { key = key; place = record { channel = channel; note = note } })
 nextHeld N.the-variants.NoMore = none
-
-unfoldable pub old : O.Oldest → Option Held
-old (O.the-variants.Key key channel note) = some (record { key = key; place = record { channel = channel; note = note } })
-old O.the-variants.Nothing = none
 
 abbrev pub stoppedNote : S.StoppedNote → Option ℤ
 stoppedNote (S.the-variants.Note note) = some note
@@ -91,6 +80,3 @@ opened r = (channelsAnswer (r .answer), view (r .model))
 
 unfoldable pub told : Registered → Outcome Press × State
 told r = (press (r .result), view (r .model))
-
-unfoldable pub roomView : C.Room → Room
-roomView r = room (view (r .model)) (stoppedNote (r .«stopped_note»))
