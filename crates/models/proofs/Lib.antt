@@ -1,0 +1,6 @@
+pub mod ListLaws
+pub mod Joins
+pub mod Rising
+pub mod Sweep
+pub mod Plan
+pub mod OnePass

@@ -1,0 +1,8 @@
+-- What the crate's contracts cite, each file a rule of document 01.
+pub mod Entries
+pub mod ChannelList
+pub mod Lists
+pub mod Line
+pub mod Walk
+pub mod Placing
+pub mod PlanLists
