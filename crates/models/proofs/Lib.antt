@@ -4,3 +4,5 @@ pub mod Rising
 pub mod Sweep
 pub mod Plan
 pub mod OnePass
+pub mod Seats
+pub mod Demand3

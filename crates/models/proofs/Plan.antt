@@ -10,22 +10,17 @@ use native.Mathlib.Omega.{arith}
 use lib.IntN.{ℤ}
 use lib.Dec.{T, eqb, eqb-refl, leb, leb→le, nleb→lt, not-T}
 use lib.ListN.{length, getD}
-use lib.Ieee.Positive.{positive}
-use Rattle.models.specs.Lists.{Each, keep, member, once, Distinct}
+use Rattle.models.specs.Lists.{Each, keep, member, once}
 use Rattle.models.specs.declared.aot.GroupBy.{GroupBy}
 use Rattle.models.specs.Line.{Line, group, ofGroup, joins, rising}
 use Rattle.models.specs.Walk.{walk, count, channels}
+use Rattle.models.specs.Inside.{Accepted}
 use Rattle.models.specs.Placing.{Placing, together, Steps, InOrder, uses, Best, NoneFits}
 use Rattle.models.proofs.ListLaws.{outcome, passed, failed, T→true, true→T, not-false, Each-map, Each-keep, Each-image, own-image, map-same, within, once-within, once-new, once-cons, once-exact, Pairwise, Pairwise-keep, keep-yes, keep-no, keep-same, keep-keep, keep-swap}
 use Rattle.models.proofs.Joins.{joins-mono}
 use Rattle.models.specs.PlanLists.{keys}
 use Rattle.models.proofs.Rising.{UpTo, Sorted, Other, Each-rising, rising-Each, length-rising, rising-keep, rising-sorted, rising-apart, distinct-apart}
 use Rattle.models.proofs.Sweep.{numberOf, runs, fullest, channels-steps, channels-full, channels-are, channels-below}
-
--- An accepted list: its keys are distinct, and its detunings are finite and above zero.
-pub record Accepted (lines : List Line) : Type 0 where
-  pub distinct : Distinct (keys lines)
-  pub detunings : Each (λ (l : Line). T (positive (l .detuning))) lines
 
 -- the walk as a placing: the channel that takes the key
 unfoldable pub channel : GroupBy → List Line → Placing

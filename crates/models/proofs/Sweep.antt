@@ -151,7 +151,7 @@ module _ (kind : GroupBy) where
     ]
 
     -- none of the group joins: all are left
-    all-left : (a : Float) (taken w : List Line) → latest kind g taken ≡ some a → Each (λ (y : Line). joins a (y .detuning) ≡ false) w
+    pub all-left : (a : Float) (taken w : List Line) → latest kind g taken ≡ some a → Each (λ (y : Line). joins a (y .detuning) ≡ false) w
         → keep (ofGroup kind g) (later kind taken w) ≡ keep (ofGroup kind g) w
     unfolding later accepts
     all-left a taken [] l h = refl
@@ -220,7 +220,7 @@ module _ (kind : GroupBy) where
     | failed u ↦ rw u (Each-here P (next kind taken x) w (h .1))
   ]
 
-  Each-later : (P : Line → Type 0) (taken w : List Line) → Each P w → Each P (later kind taken w)
+  pub Each-later : (P : Line → Type 0) (taken w : List Line) → Each P w → Each P (later kind taken w)
   unfolding later
   Each-later P taken [] h = tt
   Each-later P taken (x ∷ w) h = elim (outcome (takes kind taken x)) [
@@ -248,7 +248,7 @@ module _ (kind : GroupBy) where
     | failed u ↦ rw u (Each-later (R x) (next kind taken x) w (h .0), Pairwise-later R (next kind taken x) w (h .1))
   ]
 
-  length-later : (taken w : List Line) → length (later kind taken w) ≤ length w
+  pub length-later : (taken w : List Line) → length (later kind taken w) ≤ length w
   unfolding later
   length-later taken [] = le-refl 0
   length-later taken (x ∷ w) =
@@ -256,7 +256,7 @@ module _ (kind : GroupBy) where
       elim (outcome (takes kind taken x)) [ passed u ↦ rw u (omega arith) | failed u ↦ rw u (omega arith) ]
 
   -- those whose key the channel has, and the others
-  here-is : (taken w : List Line) → Pairwise Other w → keep (λ (l : Line). member (l .key) (keys (here kind taken w))) w ≡ here kind taken w
+  pub here-is : (taken w : List Line) → Pairwise Other w → keep (λ (l : Line). member (l .key) (keys (here kind taken w))) w ≡ here kind taken w
   unfolding here
   here-is taken [] a = refl
   here-is taken (x ∷ w) a =
@@ -267,7 +267,7 @@ module _ (kind : GroupBy) where
         | failed u ↦ rw (u, absent x t (Each-here (Other x) (next kind taken x) w (a .0)), r)
       ]
 
-  later-is : (taken w : List Line) → Pairwise Other w → keep (λ (l : Line). not (member (l .key) (keys (here kind taken w)))) w ≡ later kind taken w
+  pub later-is : (taken w : List Line) → Pairwise Other w → keep (λ (l : Line). not (member (l .key) (keys (here kind taken w)))) w ≡ later kind taken w
   unfolding here later
   later-is taken [] a = refl
   later-is taken (x ∷ w) a =

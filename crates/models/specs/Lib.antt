@@ -6,3 +6,5 @@ pub mod Line
 pub mod Walk
 pub mod Placing
 pub mod PlanLists
+pub mod AotModel
+pub mod Inside
