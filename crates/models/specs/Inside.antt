@@ -1,12 +1,13 @@
 -- What the private functions of a plan yield. No public contract cites it. Assumes nothing.
 use mathlib.Core.Path.{_≡_}
+use mathlib.Core.Logic.{_⊎_}
 use mathlib.Core.Bool.{Bool, true, false, cond}
 use mathlib.Core.List.{List, [], _∷_, _++_, map}
 use mathlib.Core.Option.{Option, none, some}
-use Prim.Native.Nat.{ℕ, zero, suc, _<_, _≤_}
+use Prim.Native.Nat.{ℕ, zero, suc, _+_, _-_, _<_}
 use lib.Dec.{T, eqb}
-use lib.IntN.{ℤ, pos}
-use lib.Signed.{_≤ℤ_}
+use lib.IntN.{ℤ, pos, negsuc}
+use lib.Signed.{leZ, ltZ}
 use lib.ListN.{length, getD, take, drop}
 use lib.Ieee.{Float, nan, binary64, fits, lt}
 use lib.Ieee.Positive.{positive}
@@ -19,7 +20,7 @@ use Rattle.models.specs.declared.waiting.Waiting.{Waiting}
 use Rattle.models.specs.Lists.{Each, member, Distinct}
 use Rattle.models.specs.Line.{Line, joins, rising, group}
 use Rattle.models.specs.Walk.{count, seat}
-use Rattle.models.specs.AotModel.{nobody, isIn, counts}
+use Rattle.models.specs.AotModel.{nobody, isIn, counts, highest}
 use Rattle.models.specs.PlanLists.{keys}
 
 -- What a list is that meets no refusal: its keys are distinct bytes, its notes are notes, its detunings are f64s, finite and above zero.
@@ -47,6 +48,10 @@ abbrev pub inOrder : Outcome (List Line) → Outcome (List Line)
 inOrder (value lines) = value (rising lines)
 inOrder (refused n) = refused n
 
+abbrev pub Fine : Outcome (List Line) → Type 0
+Fine (value lines) = Accepted lines
+Fine (refused n) = Unit {0}
+
 -- these lines wait, here in list order
 pub record Holds (w : Waiting) (lines : List Line) : Type 0 where
   pub fine : w .refusal ≡ 0
@@ -64,6 +69,11 @@ unfoldable pub putIn : List Float → ℕ → List ℕ → List ℕ
 putIn ds k ks = let b = before ds (getD ds k nan) ks in take b ks ++ (k ∷ drop b ks)
 
 -- ---- the pass
+
+-- a group's place in a table of all groups, from -300 on
+unfoldable pub slotOf : ℤ → ℕ
+slotOf (pos n) = n + 300
+slotOf (negsuc n) = 299 - n
 
 -- how many channels a group uses with one key more
 unfoldable pub channelsWith : ℕ → Float → Float → ℕ
@@ -88,5 +98,5 @@ Ready (refused n) = Unit {0}
 
 -- g is the least group from `from` on of the records that count up to channel c; 501, above all groups, if there is none
 pub record Least (by : GroupBy) (c : ℕ) (from : ℤ) (rs : List KeyRecord) (g : ℤ) : Type 0 where
-  pub none-below : (h : ℤ) → from ≤ℤ h → (g ≤ℤ h → ⊥) → Each (λ (r : KeyRecord). counts by c h r ≡ false) rs
-  pub from-on : from ≤ℤ g
+  pub none-below : (h : ℤ) → T (leZ from h) → T (ltZ h g) → Each (λ (r : KeyRecord). counts by c h r ≡ false) rs
+  pub attained : (g ≡ pos 501) ⊎ (T (leZ from g) × (highest by c g rs ≡ none → ⊥))

@@ -1,5 +1,19 @@
 // Plans ("ahead of time"): every key gets a channel and a note before anyone plays.
 
+ghost use mathlib.Core.Path.{_≡_};
+ghost use mathlib.Core.Bool.{true, _&&_};
+ghost use mathlib.Core.List.{List};
+ghost use Prim.Native.Nat.{_<_, _≤_};
+ghost use lib.Dec.{leb};
+ghost use Rattle.arithmetic.specs.Note.{isNote};
+ghost use Rattle.models.specs.ChannelList.{channelsAnswer, entries};
+ghost use Rattle.models.specs.Line.{Line, group, joins, rising};
+ghost use Rattle.models.specs.PlanLists.{noteLists, pitchLists};
+ghost use Rattle.models.specs.AotModel.{
+    Smallest, accepted, accessAnswer, detuningAnswer, empty, highest, isIn, larger, modelOf, nextAnswer, nextRule, openRule, openedOf, planned, setTuning, setTuningOfPitches,
+    tuningOf,
+};
+ghost use Rattle.models.specs.Inside.{Accepted, Least, Ready, Seats, channelsWith, linesOf, slotOf, waits};
 use crate::channels::ChannelList;
 use crate::channels::ChannelsAnswer;
 use crate::waiting::KEYS;
@@ -88,7 +102,9 @@ pub struct Opened {
 
 impl AotTuningModel {
     // A model with no keys, for the channels of a list. Refuses, entry by entry, 6 a channel over 15 and 7 one that came before.
-    pub fn open(channels: &[u8], group_by: GroupBy) -> Opened {
+    pub fn open(channels: &[u8], group_by: GroupBy) -> Opened
+        ensures { λ r. ⌜ openedOf r ≡ openRule (now (channels .entry)) «group_by» ⌝ }
+    {
         let answer = ChannelList::of(channels);
         let list = listed_channels(answer);
         Opened {
@@ -98,7 +114,9 @@ impl AotTuningModel {
     }
 
     // A model with no keys.
-    pub fn empty(channels: ChannelList, group_by: GroupBy) -> AotTuningModel {
+    pub fn empty(channels: ChannelList, group_by: GroupBy) -> AotTuningModel
+        ensures { λ r. ⌜ modelOf r ≡ empty (entries channels) «group_by» ⌝ }
+    {
         let num_channels = channels.len();
         AotTuningModel {
             records: [KeyRecord {
@@ -114,17 +132,25 @@ impl AotTuningModel {
     }
 
     // Plans keys with their notes and detunings. Refuses 12, then line by line 4, 3, 5.
-    pub fn set_tuning(self, keys: &[u8], notes: &[i32], detunings: &[f64]) -> SetTuning {
+    pub fn set_tuning(self, keys: &[u8], notes: &[i32], detunings: &[f64]) -> SetTuning
+        ensures { λ r. ⌜ tuningOf r ≡ setTuning (modelOf self) (now (keys .entry)) (now (notes .entry)) (now (detunings .entry)) ⌝ }
+        ensures { λ r. ⌜ Smallest (modelOf self) (noteLists (now (keys .entry)) (now (notes .entry)) (now (detunings .entry))) (tuningOf r) ⌝ }
+    {
         self.with_plan(note_lists(keys, notes, detunings))
     }
 
     // Plans keys with their pitches in Hz: each has the nearest note. Refuses 12, then line by line 1, 5.
-    pub fn set_tuning_of_pitches(self, keys: &[u8], pitches: &[f64]) -> SetTuning {
+    pub fn set_tuning_of_pitches(self, keys: &[u8], pitches: &[f64]) -> SetTuning
+        ensures { λ r. ⌜ tuningOf r ≡ setTuningOfPitches (modelOf self) (now (keys .entry)) (now (pitches .entry)) ⌝ }
+        ensures { λ r. ⌜ Smallest (modelOf self) (pitchLists (now (keys .entry)) (now (pitches .entry))) (tuningOf r) ⌝ }
+    {
         self.with_plan(pitch_lists(keys, pitches))
     }
 
     // The channel and the note of a key of the plan.
-    pub fn access_key(self, key: u8) -> Access {
+    pub fn access_key(self, key: u8) -> Access
+        ensures { λ r. ⌜ accessAnswer r ≡ modelOf self .keys key ⌝ }
+    {
         let at = key as usize;
         let record = self.records[at];
         if record.is_planned() {
@@ -134,28 +160,38 @@ impl AotTuningModel {
     }
 
     // How many channels the plan uses, and without a plan how many there are.
-    pub fn num_channels(self) -> u8 {
+    pub fn num_channels(self) -> u8
+        ensures { λ r. ⌜ r ≡ modelOf self .numChannels ⌝ }
+    {
         self.num_channels
     }
 
     // Whether there is a plan.
-    pub fn tuned(self) -> bool {
+    pub fn tuned(self) -> bool
+        ensures { λ r. ⌜ r ≡ modelOf self .tuned ⌝ }
+    {
         self.tuned
     }
 
     // The channel list that the model was opened with.
-    pub fn channels(self) -> ChannelList {
+    pub fn channels(self) -> ChannelList
+        ensures { λ r. ⌜ entries r ≡ modelOf self .channels ⌝ }
+    {
         self.channels
     }
 
     // What the model retunes together.
-    pub fn group_by(self) -> GroupBy {
+    pub fn group_by(self) -> GroupBy
+        ensures { λ r. ⌜ r ≡ modelOf self .groupBy ⌝ }
+    {
         self.group_by
     }
 
     // The detuning of a group on a channel of the plan, carried over from the channels before where it was not replaced. A note is its own group's number,
     // a letter's is 0 to 11, a whole channel's 0.
-    pub fn detuning(self, channel: u8, group: i32) -> DetuningAnswer {
+    pub fn detuning(self, channel: u8, group: i32) -> DetuningAnswer
+        ensures { λ r. ⌜ detuningAnswer r ≡ modelOf self .detunings channel group ⌝ }
+    {
         if self.num_channels <= channel {
             return DetuningAnswer::NoEntry;
         }
@@ -165,7 +201,9 @@ impl AotTuningModel {
     }
 
     // The first of a channel's detunings whose group is `from` or higher: they are listed by rising group.
-    pub fn next_detuning(self, channel: u8, from: i32) -> NextAnswer {
+    pub fn next_detuning(self, channel: u8, from: i32) -> NextAnswer
+        ensures { λ r. ⌜ nextAnswer r ≡ nextRule (modelOf self) channel from ⌝ }
+    {
         let records = self.records;
         let by = self.group_by;
         let group = least_group(records, by, channel, from);
@@ -176,7 +214,10 @@ impl AotTuningModel {
     }
 
     // The model with the plan of the keys that wait, if there are channels enough.
-    fn with_plan(self, waiting: Waiting) -> SetTuning {
+    fn with_plan(self, waiting: Waiting) -> SetTuning
+        requires { ⌜ (waiting .count ≤ 256) × Ready (waits waiting) ⌝ }
+        ensures { λ r. ⌜ tuningOf r ≡ planned (modelOf self) (waits waiting) ⌝ }
+    {
         let refusal = waiting.refusal;
         if refusal != 0 {
             return SetTuning {
@@ -210,7 +251,9 @@ impl AotTuningModel {
     }
 }
 
-fn listed_channels(answer: ChannelsAnswer) -> ChannelList {
+fn listed_channels(answer: ChannelsAnswer) -> ChannelList
+    ensures { λ r. ⌜ entries r ≡ accepted (channelsAnswer answer) ⌝ }
+{
     match answer {
         ChannelsAnswer::Listed(list) => list,
         ChannelsAnswer::Refused(_) => ChannelList::none(),
@@ -219,18 +262,25 @@ fn listed_channels(answer: ChannelsAnswer) -> ChannelList {
 
 impl KeyRecord {
     // Whether the key is in the plan.
-    fn is_planned(self) -> bool {
+    fn is_planned(self) -> bool
+        ensures { λ r. ⌜ r ≡ isIn self ⌝ }
+    {
         self.channel < MOST_CHANNELS && is_note(self.note)
     }
 
     // Whether the key is in the plan on a channel or one before it.
-    fn is_up_to(self, channel: u8) -> bool {
+    fn is_up_to(self, channel: u8) -> bool
+        ensures { λ r. ⌜ r ≡ (leb (self .channel) channel && isIn self) ⌝ }
+    {
         self.channel <= channel && self.is_planned()
     }
 }
 
 // The number of a note's group.
-fn group_of(by: GroupBy, note: i32) -> i32 {
+fn group_of(by: GroupBy, note: i32) -> i32
+    requires { ⌜ isNote note ≡ true ⌝ }
+    ensures { λ r. ⌜ r ≡ group by note ⌝ }
+{
     match by {
         GroupBy::Note => note,
         GroupBy::NoteLetter => match letter(note) {
@@ -243,12 +293,17 @@ fn group_of(by: GroupBy, note: i32) -> i32 {
 }
 
 // Whether a key may stand behind the last one of its group on that one's channel.
-fn joins(before: f64, detuning: f64) -> bool {
+fn joins(before: f64, detuning: f64) -> bool
+    ensures { λ r. ⌜ r ≡ joins before detuning ⌝ }
+{
     Ratio::from_float(detuning).deviation_from(Ratio::from_float(before)).is_negligible()
 }
 
 // How many channels a group uses with one key more, where it used so many and its last detuning is `before`.
-fn channels_with(used: u16, before: f64, detuning: f64) -> u16 {
+fn channels_with(used: u16, before: f64, detuning: f64) -> u16
+    requires { ⌜ used < 65535 ⌝ }
+    ensures { λ r. ⌜ r ≡ channelsWith used before detuning ⌝ }
+{
     if used == 0 {
         return 1;
     }
@@ -265,7 +320,10 @@ struct Plan {
 }
 
 // One pass over the keys in order. Each group's last detuning and the channels that it uses so far tell a key's channel.
-fn place_keys(waiting: Waiting, by: GroupBy) -> Plan {
+fn place_keys(waiting: Waiting, by: GroupBy) -> Plan
+    requires { ⌜ (waiting .count ≤ 256) × Accepted (linesOf waiting) × (rising (linesOf waiting) ≡ linesOf waiting) ⌝ }
+    ensures { λ r. ⌜ Seats by (linesOf waiting) r ⌝ }
+{
     let order = waiting.order;
     let notes = waiting.notes;
     let detunings = waiting.detunings;
@@ -305,12 +363,17 @@ fn place_keys(waiting: Waiting, by: GroupBy) -> Plan {
 }
 
 // A group's place in a table of all groups.
-fn slot(group: i32) -> usize {
+fn slot(group: i32) -> usize
+    requires { ⌜ isNote group ≡ true ⌝ }
+    ensures { λ r. ⌜ r ≡ slotOf group ⌝ }
+{
     (group - LOWEST_NOTE) as usize
 }
 
 // The larger of a detuning and another one, if there is one.
-fn larger(detuning: f64, other: DetuningAnswer) -> DetuningAnswer {
+fn larger(detuning: f64, other: DetuningAnswer) -> DetuningAnswer
+    ensures { λ r. ⌜ detuningAnswer r ≡ larger detuning (detuningAnswer other) ⌝ }
+{
     match other {
         DetuningAnswer::NoEntry => DetuningAnswer::Detuning(detuning),
         DetuningAnswer::Detuning(d) => {
@@ -324,7 +387,9 @@ fn larger(detuning: f64, other: DetuningAnswer) -> DetuningAnswer {
 }
 
 // The largest detuning of a group's keys up to a channel. The keys of a group come to their channels by rising detuning, so it is the one that came last.
-fn highest(records: [KeyRecord; 256], by: GroupBy, channel: u8, group: i32) -> DetuningAnswer {
+fn highest(records: [KeyRecord; 256], by: GroupBy, channel: u8, group: i32) -> DetuningAnswer
+    ensures { λ r. ⌜ detuningAnswer r ≡ highest by channel group records ⌝ }
+{
     let mut best = DetuningAnswer::NoEntry;
     let mut i: usize = KEYS;
     while 0 < i {
@@ -340,7 +405,9 @@ fn highest(records: [KeyRecord; 256], by: GroupBy, channel: u8, group: i32) -> D
 }
 
 // The least group, not below `from`, of a key up to a channel; the number above all groups if there is none.
-fn least_group(records: [KeyRecord; 256], by: GroupBy, channel: u8, from: i32) -> i32 {
+fn least_group(records: [KeyRecord; 256], by: GroupBy, channel: u8, from: i32) -> i32
+    ensures { λ r. ⌜ Least by channel from records r ⌝ }
+{
     let mut least = HIGHEST_NOTE + 1;
     let mut i: usize = 0;
     while i < KEYS {

@@ -1,9 +1,16 @@
 // The keys that wait for a channel: a plan's lists, checked line by line and put in order.
 
 ghost use mathlib.Core.Path.{_≡_};
+ghost use mathlib.Core.Bool.{false};
 ghost use mathlib.Core.List.{List, _∷_, _++_, []};
 ghost use Prim.Native.Nat.{_<_, _≤_, _+_};
-ghost use lib.ListN.{getD, length, take};
+ghost use lib.Dec.{T};
+ghost use lib.ListN.{take};
+ghost use lib.Ieee.Positive.{positive};
+ghost use Rattle.models.specs.Lists.{member};
+ghost use Rattle.models.specs.Line.{Line};
+ghost use Rattle.models.specs.PlanLists.{isPlanned, keys, noteLists, pitchLists};
+ghost use Rattle.models.specs.Inside.{Accepted, Fine, Holds, before, inOrder, putIn, waits};
 use arithmetic::note::is_note;
 use arithmetic::pitch::Pitch;
 use arithmetic::pitch::Ratio;
@@ -30,7 +37,10 @@ pub struct Waiting {
 }
 
 // The lists of keys, notes and detunings. Refuses 12, then line by line 4, 3, 5.
-pub(crate) fn note_lists(keys: &[u8], notes: &[i32], detunings: &[f64]) -> Waiting {
+pub(crate) fn note_lists(keys: &[u8], notes: &[i32], detunings: &[f64]) -> Waiting
+    ensures { λ r. ⌜ waits r ≡ inOrder (noteLists (now (keys .entry)) (now (notes .entry)) (now (detunings .entry))) ⌝ }
+    ensures { λ r. ⌜ Fine (noteLists (now (keys .entry)) (now (notes .entry)) (now (detunings .entry))) ⌝ }
+{
     let n = keys.len();
     if notes.len() != n {
         return Waiting::none(LISTS_UNEQUAL);
@@ -61,7 +71,10 @@ pub(crate) fn note_lists(keys: &[u8], notes: &[i32], detunings: &[f64]) -> Waiti
 }
 
 // The lists of keys and pitches in Hz. Refuses 12, then line by line 1, 5.
-pub(crate) fn pitch_lists(keys: &[u8], pitches: &[f64]) -> Waiting {
+pub(crate) fn pitch_lists(keys: &[u8], pitches: &[f64]) -> Waiting
+    ensures { λ r. ⌜ waits r ≡ inOrder (pitchLists (now (keys .entry)) (now (pitches .entry))) ⌝ }
+    ensures { λ r. ⌜ Fine (pitchLists (now (keys .entry)) (now (pitches .entry))) ⌝ }
+{
     let n = keys.len();
     if pitches.len() != n {
         return Waiting::none(LISTS_UNEQUAL);
@@ -89,13 +102,17 @@ pub(crate) fn pitch_lists(keys: &[u8], pitches: &[f64]) -> Waiting {
 }
 
 // A detuning that can be planned: 0.5 to 2.
-fn is_planned(detuning: f64) -> bool {
+fn is_planned(detuning: f64) -> bool
+    ensures { λ r. ⌜ r ≡ isPlanned detuning ⌝ }
+{
     0.5 <= detuning && detuning <= 2.0
 }
 
 impl Waiting {
     // No key.
-    fn none(refusal: u8) -> Waiting {
+    fn none(refusal: u8) -> Waiting
+        ensures { λ r. ⌜ (r .refusal ≡ refusal) × (refusal ≡ 0 → Holds r []) ⌝ }
+    {
         Waiting {
             refusal: refusal,
             order: [0; 256],
@@ -107,7 +124,14 @@ impl Waiting {
     }
 
     // One key more.
-    fn with(self, key: u8, note: i32, detuning: f64) -> Waiting {
+    fn with(self, key: u8, note: i32, detuning: f64) -> Waiting
+        requires { ⌜ self .count < 256 ⌝ }
+        ensures {
+            λ r.
+            ⌜ ((lines : List Line) → Holds self lines → Accepted lines → member key (keys lines) ≡ false → T (positive detuning)
+                → Holds r (lines ++ (record { key = key; note = note; detuning = detuning } ∷ []))) ⌝
+        }
+    {
         let mut seen = self.seen;
         let mut notes = self.notes;
         let mut detunings = self.detunings;
@@ -130,11 +154,15 @@ impl Waiting {
 }
 
 // How many of the first `n` keys come before a detuning: those up to the first with a higher one.
-fn place(order: [u8; 256], n: usize, detuning: Ratio, detunings: &[f64; 256]) -> usize {
+fn place(order: [u8; 256], n: usize, detuning: f64, detunings: &[f64; 256]) -> usize
+    requires { ⌜ n ≤ 256 ⌝ }
+    ensures { λ r. ⌜ r ≡ before (now (detunings .entry)) detuning (take n order) ⌝ }
+{
     let mut at: usize = 0;
     while at < n {
         let key = order[at] as usize;
-        if detuning.lt(Ratio::from_float(detunings[key])) {
+        let other = detunings[key];
+        if Ratio::from_float(detuning).lt(Ratio::from_float(other)) {
             return at;
         }
         at += 1;
@@ -143,10 +171,15 @@ fn place(order: [u8; 256], n: usize, detuning: Ratio, detunings: &[f64; 256]) ->
 }
 
 // The first `n` keys, and one more at its place.
-fn insert(order: [u8; 256], n: usize, key: u8, detunings: &[f64; 256]) -> [u8; 256] {
+fn insert(order: [u8; 256], n: usize, key: u8, detunings: &[f64; 256]) -> [u8; 256]
+    requires { ⌜ n < 256 ⌝ }
+    ensures { λ r. ⌜ take (n + 1) r ≡ putIn (now (detunings .entry)) key (take n order) ⌝ }
+{
+    let own = key as usize;
+    let detuning = detunings[own];
     let mut order = order;
     let mut carry = key;
-    let mut at = place(order, n, Ratio::from_float(detunings[key as usize]), detunings);
+    let mut at = place(order, n, detuning, detunings);
     while at < n {
         let next = order[at];
         order[at] = carry;
