@@ -1,3 +1,6 @@
+pub mod Arrays
+pub mod Pigeonhole
+pub mod ChannelLists
 pub mod ListLaws
 pub mod Joins
 pub mod Rising

@@ -5,9 +5,9 @@ ghost use mathlib.Core.List.{[]};
 ghost use Prim.Native.Nat.{ℕ, _≤_, _<_};
 ghost use lib.ListN.{length, getD, getElem?};
 ghost use Rattle.models.specs.ChannelList.{entries, listRule, channelsAnswer, entryAnswer};
+use crate::lists::listed;
 use arithmetic::refusal::CHANNEL_OVER_15;
 use arithmetic::refusal::CHANNEL_TWICE;
-use crate::lists::listed;
 
 // The highest MIDI channel.
 const HIGHEST_CHANNEL: u8 = 15;
