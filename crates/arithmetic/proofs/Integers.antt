@@ -1,13 +1,13 @@
 -- Integers by their two parts, whole numbers of which one is 0: k = plus k - less k. What is linear in integers is linear in their parts, for `omega`.
 -- Assumes nothing.
 use mathlib.Core.Path.{_≡_, refl, sym, ap, _∙_}
-use Prim.Native.Nat.{ℕ, zero, suc, _+_, _*_, _-_, _/_, _%_, _^_, _≤_, _<_, zero-le}
-use native.Mathlib.Nat.{mul-comm, mul-zero, zero-mul, add-zero, zero-add, lt-of-le-of-lt, le-refl}
+use Prim.Native.Nat.{ℕ, zero, suc, _+_, _*_, _-_, _/_, _%_, _^_, _≤_, _<_, zero-le, suc-le-suc}
+use native.Mathlib.Nat.{mul-comm, mul-zero, zero-mul, add-zero, zero-add, lt-of-le-of-lt, le-refl, le-of-suc-le-suc}
 use native.Mathlib.Omega.{arith}
 use mathlib.Core.Bool.{Bool, true, false, not, cond}
-use lib.Dec.{T, ltb, ltb→lt, nltb→le}
+use lib.Dec.{T, ltb, ltb→lt, nltb→le, leb→le, le→leb}
 use lib.IntN.{ℤ, pos, negsuc, negℤ, subℕ, _+ℤ_, _-ℤ_, _*ℤ_}
-use lib.Signed.{mag, shrZ}
+use lib.Signed.{mag, _≤ℤ_, leZ-yes}
 use lib.Ieee.{up, down}
 use mir.Syntax.{Width, w32, w64}
 use mir.Val.{SFits, hbits, toZ, ofZ}
@@ -93,6 +93,19 @@ widens z f = rw (toZ-ofZ w32 z f) (sfits-widen {w = w32} {w′ = w64} tt f)
 pub mul-parts : (a : ℤ) (n : ℕ) → plus (a *ℤ pos n) + less a * n ≡ less (a *ℤ pos n) + plus a * n
 mul-parts (pos a) n = omega (arith, zero-mul n)
 mul-parts (negsuc a) n = omega (arith, neg-parts (pos (suc a * n)), zero-mul n)
+
+-- from its parts, an integer lies between two
+pub between-parts : (a b : ℕ) (z : ℤ) → plus z ≤ a → less z ≤ suc b → (negsuc b ≤ℤ z) × (z ≤ℤ pos a)
+between-parts a b (pos n) h k = (leZ-yes tt, leZ-yes (le→leb n a h))
+between-parts a b (negsuc n) h k = (leZ-yes (le→leb n b (le-of-suc-le-suc k)), leZ-yes tt)
+
+pub at-least-parts : (b : ℕ) (z : ℤ) → negsuc b ≤ℤ z → less z ≤ suc b
+at-least-parts b (pos n) h = zero-le
+at-least-parts b (negsuc n) h = suc-le-suc (leb→le n b (h .le))
+
+pub at-most-parts : (a : ℕ) (z : ℤ) → z ≤ℤ pos a → plus z ≤ a
+at-most-parts a (pos n) h = leb→le n a (h .le)
+at-most-parts a (negsuc n) h = zero-le
 
 pub up-is : (k : ℤ) → up k ≡ 2 ^ plus k
 up-is (pos n) = refl

@@ -1,7 +1,16 @@
+pub mod Outcomes
 pub mod Integers
+pub mod Quotients
 pub mod Powers
 pub mod Tables
+pub mod Notes
+pub mod Pitches
 pub mod FloatDivision
+pub mod Bounds
 pub mod Measure
 pub mod Scaled
 pub mod Fields
+pub mod Steps
+pub mod Nearest
+pub mod Octaves
+pub mod Refusals

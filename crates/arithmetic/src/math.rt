@@ -12,8 +12,10 @@ pub(crate) fn i32_div_u(numer: i32, denom: u32) -> i32
     let n = numer as i64;
     let d = denom as i64;
     let cut = n / d;
-    let down = if n % d < 0 { cut - 1 } else { cut };
-    down as i32
+    if n % d < 0 {
+        return (cut - 1) as i32;
+    }
+    cut as i32
 }
 
 // The remainder, from 0 to denom - 1. The machine's remainder has the sign of `numer`.
@@ -21,8 +23,11 @@ pub(crate) fn i32_rem_u(numer: i32, denom: u32) -> u32
     requires { ⌜ 0 < denom ⌝ }
     ensures { λ r. ⌜ r ≡ remainder numer denom ⌝ }
 {
+    let n = numer as i64;
     let d = denom as i64;
-    let rest = numer as i64 % d;
-    let up = if rest < 0 { rest + d } else { rest };
-    up as u32
+    let rest = n % d;
+    if rest < 0 {
+        return (rest + d) as u32;
+    }
+    rest as u32
 }

@@ -8,8 +8,8 @@ ghost use lib.Signed.{_≤ℤ_};
 ghost use mir.Syntax.{w32};
 ghost use mir.Val.{SFits};
 ghost use Rattle.arithmetic.specs.Note.{isNote};
-ghost use Rattle.arithmetic.specs.Pitch.{octavePitch, factor, pitchOf, pitchRule, detuningRule};
-ghost use Rattle.arithmetic.specs.Nearest.{semitones, nearestRule};
+ghost use Rattle.arithmetic.specs.Pitch.{isPitch, octavePitch, factor, pitchOf, pitchRule, detuningRule};
+ghost use Rattle.arithmetic.specs.Nearest.{semitones, nearestNote, nearestRule};
 ghost use Rattle.arithmetic.specs.Answers.{pitchAnswer, ratioAnswer, approximation};
 use crate::math::i32_div_u;
 use crate::math::i32_rem_u;
@@ -158,21 +158,29 @@ pub fn detuning(pitch: Pitch, note: i32) -> RatioAnswer
     RatioAnswer::Value(Ratio::between_pitches(note_pitch(note), pitch).as_float())
 }
 
-// The nearest note, by the measure of the ratio to A4, and the ratio to its pitch. Refuses 1.
+// The nearest note, and the ratio of the pitch to its pitch. Refuses 1.
 pub fn find_by_pitch(pitch: Pitch) -> Approximation
     ensures { λ r. ⌜ approximation r ≡ nearestRule (pitch .hz) ⌝ }
 {
     if !pitch.is_in_range() {
         return Approximation::Refused(PITCH_OUT_OF_RANGE);
     }
-    let above_a4 = Ratio::between_pitches(Pitch::from_hz(A4_HZ), pitch);
-    let Measured::Measure(l) = above_a4.measure() else {
-        // A pitch over 440 Hz is always measured.
-        return Approximation::Refused(PITCH_OUT_OF_RANGE);
-    };
-    let note = A4 + semitones(l);
+    let note = nearest_note(pitch);
     let deviation = Ratio::between_pitches(note_pitch(note), pitch);
     Approximation::Nearest(note, deviation.as_float())
+}
+
+// The note nearest to a pitch in range, by the measure of the ratio to A4.
+fn nearest_note(pitch: Pitch) -> i32
+    requires { ⌜ isPitch (pitch .hz) ≡ true ⌝ }
+    ensures { λ r. ⌜ r ≡ nearestNote (pitch .hz) ⌝ }
+{
+    let over_a4 = Ratio::between_pitches(Pitch::from_hz(A4_HZ), pitch);
+    let Measured::Measure(l) = over_a4.measure() else {
+        // Not reached: a pitch over 440 Hz is positive and finite.
+        return A4;
+    };
+    A4 + semitones(l)
 }
 
 // How many semitones above A4 the nearest note is, from the measure of the ratio to A4. The shift rounds down.

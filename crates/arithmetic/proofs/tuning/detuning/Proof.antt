@@ -1,45 +1,61 @@
+-- `arithmetic::tuning::detuning` meets its contract. Assumes nothing.
+use mathlib.Core.Path.{_≡_, sym, ap, _∙_}
+use mathlib.Core.Bool.{true}
+use lib.Ieee.{Float, binary64, div}
+use mir.Syntax.{w32}
+use mir.ValLaws.{toZ-ofZ}
 use borrow.Author.Needs.{needs}
+use borrow.Author.Tests.{not-true, not-false}
+use Rattle.arithmetic.specs.Outcome.{value}
+use Rattle.arithmetic.specs.Refusal.{pitchOutOfRange, noteOutOfRange}
+use Rattle.arithmetic.specs.Note.{isNote}
+use Rattle.arithmetic.specs.Pitch.{isPitch, pitchOf, detuningOf, detuningRule}
+use Rattle.arithmetic.proofs.Outcomes.{stops, passes}
+use Rattle.arithmetic.proofs.Notes.{no-note, a-note}
 use Rattle.arithmetic.proofs.tuning.detuning.Statement.{statement}
 use Rattle.arithmetic.proofs.tuning.detuning.Tie as tie
-use Rattle.arithmetic.proofs.tuning.detuning.Reads as reads
-use Rattle.arithmetic.proofs.tuning.detuning.Lts as lts
-use Rattle.arithmetic.proofs.note.is_note.Reads as is-note-reads
-use Rattle.arithmetic.proofs.pitch.Pitch.is_in_range.Reads as is-in-range-reads
-use Rattle.arithmetic.proofs.pitch.Ratio.as_float.Reads as as-float-reads
-use Rattle.arithmetic.proofs.pitch.Ratio.between_pitches.Reads as between-pitches-reads
-use Rattle.arithmetic.proofs.tuning.note_pitch.Reads as note-pitch-reads
 
--- src/tuning.rt:152:9
 is-in-range-requires : tie.Need-is-in-range-requires
 is-in-range-requires c κs = search needs
 
--- src/tuning.rt:153:9
 returns : tie.Need-returns
-returns c = ?
+unfolding detuningRule
+returns c = stops pitchOutOfRange _ (sym (c .before .is-in-range .ensures) ∙ not-true _ (c .if1 .taken))
 
--- src/tuning.rt:155:9
+is-pitch : (c : tie.Else1) → isPitch (c .before .before .args .pitch .hz) ≡ true
+is-pitch c = sym (c .before .is-in-range .ensures) ∙ not-false _ (c .if1 .left)
+
 is-note-requires : tie.Need-is-note-requires
 is-note-requires c κs = search needs
 
--- src/tuning.rt:156:9
 returns-2 : tie.Need-returns-2
-returns-2 c = ?
+unfolding detuningRule
+returns-2 c =
+    let s = c .before .before .before .before in
+    passes pitchOutOfRange _ (is-pitch (c .before .before))
+    (stops noteOutOfRange (value (detuningOf (s .args .pitch .hz) (s .args .note))) (no-note (s .args .note) (s .fits .note) (c .before .is-note .ensures) (c .if2 .taken)))
 
--- src/tuning.rt:158:47
+is-note : (c : tie.Else2) → isNote (c .before .before .before .before .args .note) ≡ true
+is-note c = let s = c .before .before .before .before in a-note (s .args .note) (s .fits .note) (c .before .is-note .ensures) (c .if2 .left)
+
 note-pitch-requires : tie.Need-note-pitch-requires
-note-pitch-requires c κs = ?
+note-pitch-requires c κs = let s = c .before .before .before .before in rw (toZ-ofZ w32 (s .args .note) (s .fits .note)) (is-note c)
 
--- src/tuning.rt:158:24
 between-pitches-requires : tie.Need-between-pitches-requires
 between-pitches-requires c κs = search needs
 
--- src/tuning.rt:158:24
 as-float-requires : tie.Need-as-float-requires
 as-float-requires c κs = search needs
 
--- src/tuning.rt:149:1
 returns-3 : tie.Need-returns-3
-returns-3 c = ?
+unfolding detuningRule detuningOf
+returns-3 c =
+    let n = c .before .before in
+    let s = n .before .before .before .before .before in
+    passes pitchOutOfRange _ (is-pitch (n .before .before .before))
+    (passes noteOutOfRange _ (is-note (n .before))
+    (ap value (c .as-float .ensures ∙ c .before .between-pitches .ensures
+    ∙ ap (λ (x : Float). div binary64 (s .args .pitch .hz) x) (n .note-pitch .ensures ∙ ap pitchOf (toZ-ofZ w32 (s .args .note) (s .fits .note))))))
 
 pub detuning-spec : {M : Type 1} → statement M
 detuning-spec =

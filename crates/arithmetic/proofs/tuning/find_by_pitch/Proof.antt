@@ -1,71 +1,63 @@
+-- `arithmetic::tuning::find_by_pitch` meets its contract: the nearest note of a pitch in range is a note, so it has a pitch. Assumes nothing.
+use mathlib.Core.Path.{_≡_, sym, ap, _∙_, subst}
+use mathlib.Core.Bool.{true}
+use lib.Dec.{T}
+use lib.IntN.{ℤ}
+use lib.Ieee.{Float, binary64, div}
+use mir.Syntax.{w32}
+use mir.Val.{toZ, ofZ}
+use mir.ValLaws.{toZ-ofZ}
 use borrow.Author.Needs.{needs}
+use borrow.Author.Tests.{not-true, not-false}
+use Rattle.arithmetic.specs.Outcome.{value}
+use Rattle.arithmetic.specs.Refusal.{pitchOutOfRange}
+use Rattle.arithmetic.specs.Note.{isNote}
+use Rattle.arithmetic.specs.Pitch.{isPitch, pitchOf, detuningOf}
+use Rattle.arithmetic.specs.Nearest.{nearestNote, nearestRule}
+use Rattle.arithmetic.proofs.Outcomes.{stops, passes}
+use Rattle.arithmetic.proofs.Notes.{note-fits}
+use Rattle.arithmetic.proofs.Nearest.{nearest-is-note}
 use Rattle.arithmetic.proofs.tuning.find_by_pitch.Statement.{statement}
 use Rattle.arithmetic.proofs.tuning.find_by_pitch.Tie as tie
-use Rattle.arithmetic.proofs.tuning.find_by_pitch.Reads as reads
-use Rattle.arithmetic.proofs.tuning.find_by_pitch.Lts as lts
-use Rattle.arithmetic.proofs.pitch.Pitch.from_hz.Reads as from-hz-reads
-use Rattle.arithmetic.proofs.pitch.Pitch.is_in_range.Reads as is-in-range-reads
-use Rattle.arithmetic.proofs.pitch.Ratio.as_float.Reads as as-float-reads
-use Rattle.arithmetic.proofs.pitch.Ratio.between_pitches.Reads as between-pitches-reads
-use Rattle.arithmetic.proofs.pitch.Ratio.measure.Reads as measure-reads
-use Rattle.arithmetic.proofs.tuning.note_pitch.Reads as note-pitch-reads
-use Rattle.arithmetic.proofs.tuning.semitones.Reads as semitones-reads
 
--- src/tuning.rt:165:9
 is-in-range-requires : tie.Need-is-in-range-requires
 is-in-range-requires c κs = search needs
 
--- src/tuning.rt:166:9
 returns : tie.Need-returns
-returns c = ?
+unfolding nearestRule
+returns c = stops pitchOutOfRange _ (sym (c .before .is-in-range .ensures) ∙ not-true _ (c .if1 .taken))
 
--- src/tuning.rt:168:43
-from-hz-requires : tie.Need-from-hz-requires
-from-hz-requires c κs = search needs
+is-pitch : (c : tie.Else1) → isPitch (c .before .before .args .pitch .hz) ≡ true
+is-pitch c = sym (c .before .is-in-range .ensures) ∙ not-false _ (c .if1 .left)
 
--- src/tuning.rt:168:9
+nearest-note-requires : tie.Need-nearest-note-requires
+nearest-note-requires c κs = is-pitch c
+
+is-note : (c : tie.After-nearest-note) → isNote (nearestNote (c .before .before .before .args .pitch .hz)) ≡ true
+is-note c = nearest-is-note (c .before .before .before .args .pitch .hz) (subst T (sym (is-pitch (c .before))) tt)
+
+back : (c : tie.After-nearest-note) → toZ w32 (ofZ w32 (c .nearest-note .result)) ≡ nearestNote (c .before .before .before .args .pitch .hz)
+back c =
+    let note = nearestNote (c .before .before .before .args .pitch .hz) in
+    rw (c .nearest-note .ensures) (toZ-ofZ w32 note (note-fits note (is-note c)))
+
+note-pitch-requires : tie.Need-note-pitch-requires
+note-pitch-requires c κs = rw (back c) (is-note c)
+
 between-pitches-requires : tie.Need-between-pitches-requires
 between-pitches-requires c κs = search needs
 
--- src/tuning.rt:169:32
-measure-requires : tie.Need-measure-requires
-measure-requires c κs = search needs
-
--- src/tuning.rt:169:27
-enum-known-l : tie.Need-enum-known-l
-enum-known-l c = search needs
-
--- src/tuning.rt:171:9
-enum-told : tie.Need-enum-told
-enum-told c = search needs
-
--- src/tuning.rt:171:9
-returns-2 : tie.Need-returns-2
-returns-2 c = ?
-
--- src/tuning.rt:173:21
-semitones-requires : tie.Need-semitones-requires
-semitones-requires c κs = ?
-
--- src/tuning.rt:173:16
-add-note : tie.Need-add-note
-add-note c = ?
-
--- src/tuning.rt:174:44
-note-pitch-requires : tie.Need-note-pitch-requires
-note-pitch-requires c κs = ?
-
--- src/tuning.rt:174:9
-between-pitches-requires-2 : tie.Need-between-pitches-requires-2
-between-pitches-requires-2 c κs = search needs
-
--- src/tuning.rt:175:34
 as-float-requires : tie.Need-as-float-requires
 as-float-requires c κs = search needs
 
--- src/tuning.rt:162:1
-returns-3 : tie.Need-returns-3
-returns-3 c = ?
+returns-2 : tie.Need-returns-2
+unfolding nearestRule detuningOf
+returns-2 c =
+    let n = c .before .before .before in
+    let hz = n .before .before .before .args .pitch .hz in
+    let deviation = c .as-float .ensures ∙ c .before .between-pitches .ensures
+    ∙ ap (λ (x : Float). div binary64 hz x) (c .before .before .note-pitch .ensures ∙ ap pitchOf (back n)) in
+    passes pitchOutOfRange _ (is-pitch (n .before)) (rw (back n, deviation))
 
 pub find-by-pitch-spec : {M : Type 1} → statement M
 find-by-pitch-spec =
@@ -73,15 +65,8 @@ find-by-pitch-spec =
     (tie.spec
     is-in-range-requires
     returns
-    from-hz-requires
-    between-pitches-requires
-    measure-requires
-    enum-known-l
-    enum-told
-    returns-2
-    semitones-requires
-    add-note
+    nearest-note-requires
     note-pitch-requires
-    between-pitches-requires-2
+    between-pitches-requires
     as-float-requires
-    returns-3)
+    returns-2)

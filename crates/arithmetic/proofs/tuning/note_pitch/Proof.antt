@@ -1,41 +1,65 @@
+-- `arithmetic::tuning::note_pitch` meets its contract: the octave of a note lies in the table, and its semitone is below 12. Assumes nothing.
+use mathlib.Core.Path.{_≡_, ap, _∙_}
+use Prim.Native.Nat.{ℕ}
+use native.Mathlib.Omega.{arith}
+use lib.IntN.{ℤ, pos, _-ℤ_}
+use lib.Ieee.{Float, binary64, mul}
+use mir.Syntax.{w32}
+use mir.Val.{toZ, ofZ}
+use mir.ValLaws.{toZ-ofZ}
 use borrow.Author.Needs.{needs}
+use Rattle.arithmetic.specs.Division.{quotient, remainder}
+use Rattle.arithmetic.specs.Note.{a4}
+use Rattle.arithmetic.specs.Pitch.{octavePitch, factor, pitchOf}
+use Rattle.arithmetic.proofs.Quotients.{remainder-below, quotient-fits}
+use Rattle.arithmetic.proofs.Pitches.{above-fits, octave-range}
 use Rattle.arithmetic.proofs.tuning.note_pitch.Statement.{statement}
 use Rattle.arithmetic.proofs.tuning.note_pitch.Tie as tie
-use Rattle.arithmetic.proofs.tuning.note_pitch.Reads as reads
-use Rattle.arithmetic.proofs.tuning.note_pitch.Lts as lts
-use Rattle.arithmetic.proofs.math.i32_div_u.Reads as i32-div-u-reads
-use Rattle.arithmetic.proofs.math.i32_rem_u.Reads as i32-rem-u-reads
-use Rattle.arithmetic.proofs.pitch.Pitch.from_hz.Reads as from-hz-reads
-use Rattle.arithmetic.proofs.tuning.octave_pitch.Reads as octave-pitch-reads
-use Rattle.arithmetic.proofs.tuning.semitone_factor.Reads as semitone-factor-reads
 
--- src/tuning.rt:191:20
+module _ (s : tie.Start) where
+  abbrev above : ℤ
+  above = s .args .note -ℤ a4
+
+  above-is : toZ w32 (ofZ w32 (s .args .note)) -ℤ pos 69 ≡ above
+  above-is = rw (toZ-ofZ w32 (s .args .note) (s .fits .note))
+
+  back : toZ w32 (ofZ w32 (toZ w32 (ofZ w32 (s .args .note)) -ℤ pos 69)) ≡ above
+  back = rw above-is (toZ-ofZ w32 above (above-fits (s .args .note) (s .pre)))
+
 sub-above-a4 : tie.Need-sub-above-a4
-sub-above-a4 c = ?
+sub-above-a4 c = rw (above-is c) (above-fits (c .args .note) (c .pre))
 
--- src/tuning.rt:192:9
 i32-div-u-requires : tie.Need-i32-div-u-requires
 i32-div-u-requires c κs = search needs
 
--- src/tuning.rt:193:9
 i32-rem-u-requires : tie.Need-i32-rem-u-requires
 i32-rem-u-requires c κs = search needs
 
--- src/tuning.rt:194:20
+octaves : (c : tie.After-i32-div-u) → toZ w32 (ofZ w32 (c .i32-div-u .result)) ≡ quotient (above (c .before)) 12
+octaves c =
+    let s = c .before in
+    rw (c .i32-div-u .ensures ∙ ap (λ (z : ℤ). quotient z 12) (back s))
+    (toZ-ofZ w32 (quotient (above s) 12) (quotient-fits w32 (above s) (above-fits (s .args .note) (s .pre)) 12))
+
+semitones : (c : tie.After-i32-rem-u) → c .i32-rem-u .result ≡ remainder (above (c .before .before)) 12
+semitones c = c .i32-rem-u .ensures ∙ ap (λ (z : ℤ). remainder z 12) (back (c .before .before))
+
 octave-pitch-requires : tie.Need-octave-pitch-requires
-octave-pitch-requires c κs = ?
+octave-pitch-requires c κs = let s = c .before .before in rw (octaves (c .before)) (octave-range (s .args .note) (s .pre))
 
--- src/tuning.rt:194:44
 semitone-factor-requires : tie.Need-semitone-factor-requires
-semitone-factor-requires c κs = ?
+semitone-factor-requires c κs = rw (semitones (c .before)) (remainder-below (above (c .before .before .before)) 12 (omega arith))
 
--- src/tuning.rt:194:5
 from-hz-requires : tie.Need-from-hz-requires
 from-hz-requires c κs = search needs
 
--- src/tuning.rt:187:1
 returns : tie.Need-returns
-returns c = ?
+unfolding pitchOf
+returns c =
+    let r = c .before .before .before in
+    let o = c .before .before .octave-pitch .ensures ∙ ap octavePitch (octaves (r .before)) in
+    let f = c .before .semitone-factor .ensures ∙ ap factor (semitones r) in
+    c .from-hz .ensures ∙ rw (o, f)
 
 pub note-pitch-spec : {M : Type 1} → statement M
 note-pitch-spec =

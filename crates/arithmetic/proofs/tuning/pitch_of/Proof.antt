@@ -1,32 +1,40 @@
+-- `arithmetic::tuning::pitch_of` meets its contract. Assumes nothing.
+use mathlib.Core.Path.{_≡_, ap, _∙_}
+use mathlib.Core.Bool.{true}
+use mir.Syntax.{w32}
+use mir.ValLaws.{toZ-ofZ}
 use borrow.Author.Needs.{needs}
+use Rattle.arithmetic.specs.Outcome.{value}
+use Rattle.arithmetic.specs.Refusal.{noteOutOfRange}
+use Rattle.arithmetic.specs.Note.{isNote}
+use Rattle.arithmetic.specs.Pitch.{pitchOf, pitchRule}
+use Rattle.arithmetic.proofs.Outcomes.{stops, passes}
+use Rattle.arithmetic.proofs.Notes.{no-note, a-note}
 use Rattle.arithmetic.proofs.tuning.pitch_of.Statement.{statement}
 use Rattle.arithmetic.proofs.tuning.pitch_of.Tie as tie
-use Rattle.arithmetic.proofs.tuning.pitch_of.Reads as reads
-use Rattle.arithmetic.proofs.tuning.pitch_of.Lts as lts
-use Rattle.arithmetic.proofs.note.is_note.Reads as is-note-reads
-use Rattle.arithmetic.proofs.pitch.Pitch.as_hz.Reads as as-hz-reads
-use Rattle.arithmetic.proofs.tuning.note_pitch.Reads as note-pitch-reads
 
--- src/tuning.rt:142:9
 is-note-requires : tie.Need-is-note-requires
 is-note-requires c κs = search needs
 
--- src/tuning.rt:143:9
 returns : tie.Need-returns
-returns c = ?
+unfolding pitchRule
+returns c = let s = c .before .before in stops noteOutOfRange _ (no-note (s .args .note) (s .fits .note) (c .before .is-note .ensures) (c .if1 .taken))
 
--- src/tuning.rt:145:21
+is-note : (c : tie.Else1) → isNote (c .before .before .args .note) ≡ true
+is-note c = let s = c .before .before in a-note (s .args .note) (s .fits .note) (c .before .is-note .ensures) (c .if1 .left)
+
 note-pitch-requires : tie.Need-note-pitch-requires
-note-pitch-requires c κs = ?
+note-pitch-requires c κs = let s = c .before .before in rw (toZ-ofZ w32 (s .args .note) (s .fits .note)) (is-note c)
 
--- src/tuning.rt:145:21
 as-hz-requires : tie.Need-as-hz-requires
 as-hz-requires c κs = search needs
 
--- src/tuning.rt:139:1
 returns-2 : tie.Need-returns-2
-returns-2 c = ?
+unfolding pitchRule
+returns-2 c =
+    let s = c .before .before .before .before in
+    passes noteOutOfRange _ (is-note (c .before .before))
+    (ap value (c .as-hz .ensures ∙ c .before .note-pitch .ensures ∙ ap pitchOf (toZ-ofZ w32 (s .args .note) (s .fits .note))))
 
 pub pitch-of-spec : {M : Type 1} → statement M
-pitch-of-spec =
-    tie.close (tie.spec is-note-requires returns note-pitch-requires as-hz-requires returns-2)
+pitch-of-spec = tie.close (tie.spec is-note-requires returns note-pitch-requires as-hz-requires returns-2)
