@@ -1,6 +1,7 @@
 pub mod Arrays
 pub mod Pigeonhole
 pub mod ChannelLists
+pub mod Records
 pub mod ListLaws
 pub mod Joins
 pub mod Rising
@@ -9,3 +10,6 @@ pub mod Plan
 pub mod OnePass
 pub mod Seats
 pub mod Demand3
+pub mod Insertion
+pub mod Slots
+pub mod Models

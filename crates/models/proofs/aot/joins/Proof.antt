@@ -1,4 +1,5 @@
 -- `models::aot::joins` meets its contract: what the ratios' methods ensure, one after the other. Assumes nothing.
+
 use mathlib.Core.Path.{_≡_, ap, _∙_}
 use lib.Ieee.{Float, binary64, div}
 use Rattle.arithmetic.specs.Pitch.{negligible}
@@ -22,8 +23,12 @@ is-negligible-requires c κs = search needs
 returns : tie.Need-returns
 unfolding joins
 returns c =
+    let s = c .before .before .before .before in
     c .is-negligible .ensures
-    ∙ ap negligible (c .before .deviation-from .ensures ∙ ap (λ (x : Float). div binary64 x _) (c .before .before .before .from-float .ensures) ∙ ap (λ (x : Float). div binary64 _ x) (c .before .before .from-float2 .ensures))
+    ∙ ap negligible
+    (c .before .deviation-from .ensures
+    ∙ ap (λ (x : Float). div binary64 x (c .before .before .from-float2 .result .«float_value»)) (c .before .before .before .from-float .ensures)
+    ∙ ap (λ (x : Float). div binary64 (s .args .detuning) x) (c .before .before .from-float2 .ensures))
 
 pub joins-spec : {M : Type 1} → statement M
 joins-spec =

@@ -1,5 +1,6 @@
 -- `models::aot::larger` meets its contract, by its cases. Assumes nothing.
 use mathlib.Core.Path.{_≡_, sym, ap, _∙_}
+use lib.Ieee.{Float, le}
 use borrow.Author.Needs.{needs}
 use Rattle.models.proofs.aot.larger.Statement.{statement}
 use Rattle.models.proofs.aot.larger.Tie as tie
@@ -22,11 +23,18 @@ le-requires c κs = search needs
 returns : tie.Need-returns
 returns c = rw (c .enum-told .given .1)
 
+-- the two detunings, compared
+compared : (c : tie.After-le) → le (c .before .before .before .before .before .before .args .detuning) (c .before .before .before .before .other .given .0 .0) ≡ c .le .result
+compared c =
+    sym
+    (c .le .ensures ∙ ap (λ (x : Float). le x (c .before .from-float2 .result .«float_value»)) (c .before .before .from-float .ensures)
+    ∙ ap (λ (x : Float). le (c .before .before .before .before .before .before .args .detuning) x) (c .before .from-float2 .ensures))
+
 returns-2 : tie.Need-returns-2
-returns-2 c = rw (c .before .before .before .before .before .other .given .1, compared c ∙ c .if1 .taken)
+returns-2 c = rw (c .before .before .before .before .before .other .given .1, compared (c .before) ∙ c .if1 .taken)
 
 returns-3 : tie.Need-returns-3
-returns-3 c = rw (c .before .before .before .before .before .other .given .1, compared c ∙ c .if1 .left)
+returns-3 c = rw (c .before .before .before .before .before .other .given .1, compared (c .before) ∙ c .if1 .left)
 
 pub larger-spec : {M : Type 1} → statement M
 larger-spec =

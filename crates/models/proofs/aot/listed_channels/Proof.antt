@@ -1,29 +1,27 @@
+-- `models::aot::listed_channels` meets its contract, by the answer's cases. Assumes nothing.
+
+use mathlib.Core.Path.{_≡_, sym, ap, _∙_}
+use Rattle.models.specs.ChannelList.{channelsAnswer}
 use borrow.Author.Needs.{needs}
 use Rattle.models.proofs.aot.listed_channels.Statement.{statement}
 use Rattle.models.proofs.aot.listed_channels.Tie as tie
-use Rattle.models.proofs.aot.listed_channels.Reads as reads
-use Rattle.models.proofs.aot.listed_channels.Lts as lts
-use Rattle.models.proofs.channels.ChannelList.none.Reads as none-reads
 
--- src/aot.rt:258:32
 enum-known-answer : tie.Need-enum-known-answer
 enum-known-answer c = search needs
 
--- src/aot.rt:259:39
 enum-told : tie.Need-enum-told
 enum-told c = search needs
 
--- src/aot.rt:259:39
 none-requires : tie.Need-none-requires
 none-requires c κs = search needs
 
--- src/aot.rt:254:1
 returns : tie.Need-returns
-returns c = ?
+unfolding channelsAnswer
+returns c = rw (c .before .answer .given .1)
 
--- src/aot.rt:254:1
 returns-2 : tie.Need-returns-2
-returns-2 c = ?
+unfolding channelsAnswer
+returns-2 c = rw (c .before .enum-told .given .1) (c .none .ensures)
 
 pub listed-channels-spec : {M : Type 1} → statement M
 listed-channels-spec =

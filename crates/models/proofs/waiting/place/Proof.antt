@@ -1,67 +1,89 @@
+-- `models::waiting::place` meets its contract. The loop's invariant: what stands before the place is as many as were passed and those still to pass. Assumes nothing.
+
+use lib.Ieee.{Float, nan, lt}
+use lib.ListN.{length, getD}
+use Prim.Native.Nat.{ℕ, _<_}
+use mir.Syntax.{w8}
+use mir.Val.{Fits}
+use Rattle.models.proofs.Insertion.{place-begins, place-here, place-next, place-ends}
+use mathlib.Core.Path.{_≡_, refl, sym, ap, _∙_}
+use Prim.Native.Nat.{_≤_, _+_, _-_}
+use native.Mathlib.Omega.{arith}
+use borrow.Author.Needs.{needs}
+use lib.ListN.{take, drop}
+use Rattle.models.specs.Inside.{before}
 use Rattle.models.proofs.waiting.place.Statement.{statement}
 use Rattle.models.proofs.waiting.place.Tie as tie
-use Rattle.models.proofs.waiting.place.Reads as reads
-use Rattle.models.proofs.waiting.place.Lts as lts
-use Rattle.arithmetic.proofs.pitch.Ratio.from_float.Reads as from-float-reads
-use Rattle.arithmetic.proofs.pitch.Ratio.lt.Reads as lt-reads
 
 abbrev Inv-loop : tie.InvT-loop
-Inv-loop n detuning detunings order at₀ at = ?
+Inv-loop n detuning detunings order at₀ at = (at ≤ n) × (before detunings detuning (take n order) ≡ at + before detunings detuning (drop at (take n order)))
 
 abbrev μ-loop : tie.MeasureT-loop
-μ-loop n detuning detunings order at₀ at = ?
+μ-loop n detuning detunings order at₀ at = n - at
 
--- src/waiting.rt:162:5
 loop-holds : tie.Need-loop-holds Inv-loop μ-loop
-loop-holds c = ?
+loop-holds c = (omega arith, place-begins (c .args .detunings .now) (c .args .detuning) (c .args .n) (c .args .t1) 0)
 
--- src/waiting.rt:163:19
 array-read-key : tie.Need-array-read-key Inv-loop μ-loop
-array-read-key c = ?
+array-read-key c = omega arith
 
--- src/waiting.rt:163:19
 cast-key : tie.Need-cast-key Inv-loop μ-loop
-cast-key c = ?
+cast-key c = search needs
 
--- src/waiting.rt:164:21
+byte : (c : tie.Start Inv-loop μ-loop) (i : ℕ) → getD (c .args .t1) i 0 < 256
+byte c i = let f : Fits w8 (getD (c .args .t1) i 0) = search needs in omega arith
+
+long : (c : tie.Start Inv-loop μ-loop) → length (c .args .t1) ≡ 256
+long c = search needs
+
+
 mul-other : tie.Need-mul-other Inv-loop μ-loop
-mul-other c = ?
+mul-other c = omega (arith, byte (c .before .before .before) (c .before .before .loop .at))
 
--- src/waiting.rt:164:21
 element-copy-out-other : tie.Need-element-copy-out-other Inv-loop μ-loop
-element-copy-out-other c = ?
+element-copy-out-other c = omega (arith, byte (c .before .before .before) (c .before .before .loop .at))
 
--- src/waiting.rt:165:12
 from-float-requires : tie.Need-from-float-requires Inv-loop μ-loop
-from-float-requires c κs = ?
+from-float-requires c κs = search needs
 
--- src/waiting.rt:165:43
 from-float-requires-2 : tie.Need-from-float-requires-2 Inv-loop μ-loop
-from-float-requires-2 c κs = ?
+from-float-requires-2 c κs = search needs
 
--- src/waiting.rt:165:12
 lt-requires : tie.Need-lt-requires Inv-loop μ-loop
-lt-requires c κs = ?
+lt-requires c κs = search needs
 
--- src/waiting.rt:166:13
+compared : (c : tie.After-lt Inv-loop μ-loop) →
+    lt (c .before .before .before .before .before .before .args .detuning) (getD (c .before .before .before .before .before .before .args .detunings .now) (getD (c .before .before .before .before .before .before .args .t1) (c .before .before .before .before .before .loop .at) 0) nan) ≡ c .lt .result
+compared c =
+    sym
+    (c .lt .ensures ∙ ap (λ (x : Float). lt x (c .before .from-float2 .result .«float_value»)) (c .before .before .from-float .ensures)
+    ∙ ap (λ (x : Float). lt (c .before .before .before .before .before .before .args .detuning) x) (c .before .from-float2 .ensures))
+
 returns : tie.Need-returns Inv-loop μ-loop
-returns c = ?
+returns c =
+    let l = c .before .before .before .before .before .before in
+    let a = l .before .args in
+    let z : before (a .detunings .now) (a .detuning) (drop (l .loop .at) (take (a .n) (a .t1))) ≡ 0 = place-here (a .detunings .now) (a .detuning) (a .n) (a .t1) (l .loop .at) (omega arith) (omega (arith, long (l .before))) (compared (c .before) ∙ c .if1 .taken) in
+    omega (arith, l .loop .inv .1, z)
 
--- src/waiting.rt:168:9
 add-at : tie.Need-add-at Inv-loop μ-loop
-add-at c = ?
+add-at c = omega arith
 
--- src/waiting.rt:162:5
 loop-less : tie.Need-loop-less Inv-loop μ-loop
-loop-less c = ?
+loop-less c = omega arith
 
--- src/waiting.rt:162:5
 loop-again : tie.Need-loop-again Inv-loop μ-loop
-loop-again c = ?
+loop-again c =
+    let l = c .before .before .before .before .before .before in
+    let a = l .before .args in
+    let z = place-next (a .detunings .now) (a .detuning) (a .n) (a .t1) (l .loop .at) (omega arith) (omega (arith, long (l .before))) (compared (c .before) ∙ c .if1 .left) in
+    (omega arith, omega (arith, l .loop .inv .1, z))
 
--- src/waiting.rt:157:1
 returns-2 : tie.Need-returns-2 Inv-loop μ-loop
-returns-2 c = ?
+returns-2 c =
+    let a = c .before .before .args in
+    let z = place-ends (a .detunings .now) (a .detuning) (a .n) (a .t1) (c .before .loop .at) (omega arith) in
+    omega (arith, c .before .loop .inv .1, z)
 
 pub place-spec : {M : Type 1} → statement M
 place-spec =

@@ -17,7 +17,7 @@ returns : tie.Need-returns
 unfolding isIn
 returns c =
     let f : SFits w32 (c .before .before .before .before .args .self .note) = search needs in
-    rw (lt-ltb _ _ (c .before .before .before .if1 .taken)) (c .is-note .ensures ∙ ap isNote (toZ-ofZ f))
+    rw (lt-ltb _ _ (c .before .before .if1 .taken)) (c .is-note .ensures ∙ ap isNote (toZ-ofZ f))
 
 returns-2 : tie.Need-returns-2
 unfolding isIn

@@ -9,7 +9,7 @@ is-planned-requires : tie.Need-is-planned-requires
 is-planned-requires c κs = search needs
 
 returns : tie.Need-returns
-returns c = rw (le-leb _ _ (c .before .before .if1 .taken)) (c .is-planned .ensures)
+returns c = rw (le-leb _ _ (c .before .if1 .taken)) (c .is-planned .ensures)
 
 returns-2 : tie.Need-returns-2
 returns-2 c = rw (lt-leb _ _ (c .if1 .left))
