@@ -10,7 +10,7 @@ use lib.Dec.{T}
 use lib.IntN.{ℤ}
 use lib.Ieee.{Float, nan, lt, le}
 use lib.ListN.{length, getD, take, drop, set, length-take}
-use lib.Seq.{take-suc-set, take-set-lt, drop-set-lt}
+use lib.Seq.{take-take, take-suc-set, take-set-lt, drop-set-lt}
 use mathlib.Core.List.{append-assoc}
 use Rattle.models.specs.Inside.{before, putIn}
 use Rattle.models.proofs.Arrays.{rest-cons, rest-nil}
@@ -43,6 +43,14 @@ before-fits ds d (k ∷ l) = go (lt d (getD ds k nan)) (before ds d l) (before-f
     go : (b : Bool) (m : ℕ) → m ≤ length l → cond b 0 (suc m) ≤ suc (length l)
     go true m h = omega arith
     go false m h = omega arith
+
+-- the place among the first n is one in the whole
+pub put-at : (ds : List Float) (k n : ℕ) (xs : List ℕ)
+    → let b = before ds (getD ds k nan) (take n xs) in take b xs ++ (k ∷ drop b (take n xs)) ≡ putIn ds k (take n xs)
+unfolding putIn
+put-at ds k n xs =
+    let b = before ds (getD ds k nan) (take n xs) in
+    rw (take-take b n xs (omega (arith, before-fits ds (getD ds k nan) (take n xs), length-take n xs)))
 
 -- ---- the shift: what stands from `at` on moves up by one, and `carry` goes to `at`
 module _ (n : ℕ) (xs : List ℕ) (fits : n < length xs) (at carry : ℕ) where

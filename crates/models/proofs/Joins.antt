@@ -1,13 +1,15 @@
 -- The one fact of f64 that plans rest on: where of two detunings that are not below a third the larger joins it, the smaller does too.
 -- Division by a positive value keeps the order, since rounding does, and what is not below the divisor gives 1 at least. Assumes nothing.
 use mathlib.Core.Path.{_≡_}
-use mathlib.Core.Bool.{true, false}
+use mathlib.Core.Bool.{Bool, true, false, not}
 use native.Mathlib.Nat.{le-of-eq, lt-of-not-le, le-of-lt}
 use mathlib.Core.Path.{refl}
-use lib.Dec.{T}
-use lib.Ieee.{Float, nan, inf, fin, binary64, round, div, le, lt}
+use Prim.Native.Nat.{_*_, _≤_}
+use borrow.Author.Tests.{le-ltb, lt-ltb}
+use lib.Dec.{T, ltb}
+use lib.Ieee.{Float, nan, inf, fin, up, down, binary64, round, div, le, lt}
 use lib.Ieee.Fits.{and-i, and-l, and-r}
-use lib.Ieee.Positive.{positive, above-of-le, above, between, cross→le, le-trans-positive}
+use lib.Ieee.Positive.{positive, above-of-le, above, between, cross→le, le→cross, le-trans-positive}
 use Rattle.arithmetic.specs.Pitch.{negligibleFrom, negligibleBelow, negligible}
 use Rattle.arithmetic.proofs.FloatDivision.{one, div-mono, div-at-least, not-below-mono}
 use Rattle.models.specs.Line.{joins}
@@ -54,3 +56,18 @@ joins-mono a b c p q r h k t =
 -- the order of two positive values is total
 pub le-total : (x y : Float) → T (positive x) → T (positive y) → le x y ≡ false → T (le y x)
 le-total x y p q e = cross→le y x q p (le-of-lt (lt-of-not-le λ h. not-false e (cross→le x y p q h)))
+
+-- of two positive values one is below the other, or not below it
+pub lt-not-le : (x y : Float) → T (positive x) → T (positive y) → lt x y ≡ not (le y x)
+unfolding lt le
+lt-not-le nan y p q = absurd p
+lt-not-le (inf s) y p q = absurd p
+lt-not-le (fin true m e) y p q = absurd p
+lt-not-le (fin false m e) nan p q = absurd q
+lt-not-le (fin false m e) (inf t) p q = absurd q
+lt-not-le (fin false m e) (fin true n d) p q = absurd q
+lt-not-le (fin false m e) (fin false n d) p q = go (le (fin false n d) (fin false m e)) (le→cross (fin false n d) (fin false m e) q p) (cross→le (fin false n d) (fin false m e) q p)
+  where
+    go : (b : Bool) → (T b → n * up d * down e ≤ m * up e * down d) → (n * up d * down e ≤ m * up e * down d → T b) → ltb (m * up e * down d) (n * up d * down e) ≡ not b
+    go true h k = le-ltb (m * up e * down d) (n * up d * down e) (h tt)
+    go false h k = lt-ltb (m * up e * down d) (n * up d * down e) (lt-of-not-le λ u. k u)

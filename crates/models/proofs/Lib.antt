@@ -11,5 +11,6 @@ pub mod OnePass
 pub mod Seats
 pub mod Demand3
 pub mod Insertion
+pub mod Waits
 pub mod Slots
 pub mod Models

@@ -6,8 +6,7 @@ use native.Mathlib.Omega.{arith}
 use borrow.Author.Needs.{needs}
 use lib.Ieee.{nan}
 use lib.ListN.{length, getD, take, drop, length-set, length-take}
-use Rattle.models.specs.Inside.{putIn}
-use Rattle.models.proofs.Insertion.{before-fits, shift-turn, shift-end}
+use Rattle.models.proofs.Insertion.{before-fits, put-at, shift-turn, shift-end}
 use Rattle.models.proofs.waiting.insert.Statement.{statement}
 use Rattle.models.proofs.waiting.insert.Tie as tie
 
@@ -27,15 +26,15 @@ element-copy-out-detuning c = search needs
 place-requires : tie.Need-place-requires Inv-loop μ-loop
 place-requires c κs = omega arith
 
-long : (c : tie.Start Inv-loop μ-loop) → length (c .args .t1) ≡ 256
+long : (c : tie.Start Inv-loop μ-loop) → length (c .args .order) ≡ 256
 long c = search needs
 
 loop-holds : tie.Need-loop-holds Inv-loop μ-loop
 loop-holds c =
     let s = c .before .before in
     let n = s .args .n in
-    let b = before-fits (s .args .detunings .now) (getD (s .args .detunings .now) (s .args .key) nan) (take n (s .args .t1)) in
-    (omega (arith, c .place .ensures, b, length-take n (s .args .t1)), long s, refl)
+    let b = before-fits (s .args .detunings .now) (getD (s .args .detunings .now) (s .args .key) nan) (take n (s .args .order)) in
+    (omega (arith, c .place .ensures, b, length-take n (s .args .order)), long s, refl)
 
 array-read-next : tie.Need-array-read-next Inv-loop μ-loop
 array-read-next c = omega arith
@@ -58,11 +57,10 @@ array-write-order-2 : tie.Need-array-write-order-2 Inv-loop μ-loop
 array-write-order-2 c = omega arith
 
 returns : tie.Need-returns Inv-loop μ-loop
-unfolding putIn
 returns c =
     let s = c .before .before .before .before in
     let l = c .before .loop in
-    shift-end (s .args .n) (l .order) (omega arith) (l .at) (l .carry) (omega arith) ∙ l .inv .2 ∙ rw (c .before .before .place .ensures)
+    shift-end (s .args .n) (l .order) (omega arith) (l .at) (l .carry) (omega arith) ∙ l .inv .2 ∙ rw (c .before .before .place .ensures) (put-at (s .args .detunings .now) (s .args .key) (s .args .n) (s .args .order))
 
 pub insert-spec : {M : Type 1} → statement M
 insert-spec =

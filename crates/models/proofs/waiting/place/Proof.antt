@@ -38,10 +38,10 @@ long c = search needs
 
 
 mul-other : tie.Need-mul-other Inv-loop μ-loop
-mul-other c = omega (arith, byte (c .before .before .before) (c .before .before .loop .at))
+mul-other c = omega (arith, byte (c .before .before) (c .before .loop .at))
 
 element-copy-out-other : tie.Need-element-copy-out-other Inv-loop μ-loop
-element-copy-out-other c = omega (arith, byte (c .before .before .before) (c .before .before .loop .at))
+element-copy-out-other c = omega (arith, byte (c .before .before) (c .before .loop .at))
 
 from-float-requires : tie.Need-from-float-requires Inv-loop μ-loop
 from-float-requires c κs = search needs
