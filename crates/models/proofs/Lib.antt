@@ -12,5 +12,6 @@ pub mod Seats
 pub mod Demand3
 pub mod Insertion
 pub mod Waits
+pub mod Lines
 pub mod Slots
 pub mod Models
