@@ -15,3 +15,4 @@ pub mod Waits
 pub mod Lines
 pub mod Slots
 pub mod Models
+pub mod Pass

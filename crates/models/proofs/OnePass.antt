@@ -97,7 +97,7 @@ agree-left x {w} (past d a c b) u e = elim (outcome (joins d (x .detuning))) [
 ]
 
 -- a key's number in the pass over w, after `before`
-find : GroupBy → ℕ → List Line → List Line → ℕ
+unfoldable pub find : GroupBy → ℕ → List Line → List Line → ℕ
 find kind k before [] = 0
 find kind k before (x ∷ w) = let r = find kind k (x ∷ before) w in cond (eqb (x .key) k) (numberOfNext kind before x) r
 
@@ -191,13 +191,17 @@ top-ge [] = tt
 top-ge (n ∷ l) = (omega arith, Each-map (λ j h. let k : j < top l = h in omega arith) l (top-ge l))
 
 module _ (kind : GroupBy) (lines : List Line) (ok : Accepted lines) where
+  pub find-channel : (k : ℕ) → T (member k (keys (rising lines))) → find kind k [] (rising lines) ≡ channel kind lines k
+  unfolding channel walk
+  find-channel k h = find-is kind k (length lines) (rising lines) (enough kind lines ok) (sorted kind lines ok) (different kind lines ok) h
+
   -- The pass gives each key its channel,
   pub one-pass : numbers kind [] (rising lines) ≡ map (λ (l : Line). channel kind lines (l .key)) (rising lines)
   unfolding channel walk
   one-pass =
       numbers-are kind [] (rising lines) (different kind lines ok)
       ∙ map-same (λ (l : Line). find kind (l .key) [] (rising lines)) (λ (l : Line). channel kind lines (l .key)) (rising lines)
-      (Each-map (λ l h. find-is kind (l .key) (length lines) (rising lines) (enough kind lines ok) (sorted kind lines ok) (different kind lines ok) h) (rising lines) (own-image (λ (l : Line). l .key) (rising lines)))
+      (Each-map (λ l h. find-channel (l .key) h) (rising lines) (own-image (λ (l : Line). l .key) (rising lines)))
 
   -- and the count.
   pub one-pass-count : top (numbers kind [] (rising lines)) ≡ count kind lines

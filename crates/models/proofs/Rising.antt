@@ -99,7 +99,7 @@ rising-sorted (x ∷ l) h = insert-sorted x (rising l) (h .0) (Each-rising Posit
 abbrev pub Other : Line → Line → Type 0
 Other x y = eqb (x .key) (y .key) ≡ false
 
-other-sym : (x y : Line) → Other x y → Other y x
+pub other-sym : (x y : Line) → Other x y → Other y x
 other-sym x y e = elim (outcome (eqb (y .key) (x .key))) [
   | passed u ↦ absurd (not-false e (subst (λ (k : ℕ). T (eqb (x .key) k)) (sym (eqb→eq (y .key) (x .key) (true→T u))) (eqb-refl (x .key))))
   | failed u ↦ u

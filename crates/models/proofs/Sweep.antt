@@ -37,6 +37,11 @@ pub own-group : (kind : GroupBy) (x : Line) → ofGroup kind (group kind (x .not
 unfolding ofGroup
 own-group kind x = T→true (same (group kind (x .note)) (group kind (x .note))) (same-refl (group kind (x .note)))
 
+-- a line is of one group
+pub group-of : (kind : GroupBy) (g : ℤ) (x : Line) → ofGroup kind g x ≡ true → group kind (x .note) ≡ g
+unfolding ofGroup
+group-of kind g x e = same-eq (group kind (x .note)) g (true→T e)
+
 -- ---- runs
 
 abbrev pub gap : Option Float → Float → Bool
