@@ -1,11 +1,11 @@
 pub mod Arrays
 pub mod Pigeonhole
 pub mod ChannelLists
-pub mod Records
 pub mod ListLaws
 pub mod Joins
 pub mod Rising
 pub mod Sweep
+pub mod Records
 pub mod Plan
 pub mod OnePass
 pub mod Seats

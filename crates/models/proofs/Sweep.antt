@@ -23,13 +23,13 @@ use Rattle.models.specs.PlanLists.{keys}
 use Rattle.models.proofs.Rising.{UpTo, Sorted, Other, absent}
 
 -- ---- groups
-same-eq : (a b : ℤ) → T (same a b) → a ≡ b
+pub same-eq : (a b : ℤ) → T (same a b) → a ≡ b
 same-eq (pos a) (pos b) t = ap pos (eqb→eq a b t)
 same-eq (pos a) (negsuc b) t = absurd t
 same-eq (negsuc a) (pos b) t = absurd t
 same-eq (negsuc a) (negsuc b) t = ap negsuc (eqb→eq a b t)
 
-same-refl : (a : ℤ) → T (same a a)
+pub same-refl : (a : ℤ) → T (same a a)
 same-refl (pos a) = eqb-refl a
 same-refl (negsuc a) = eqb-refl a
 
