@@ -16,3 +16,6 @@ pub mod Lines
 pub mod Slots
 pub mod Models
 pub mod Pass
+pub mod Unique
+pub mod Carried
+pub mod Held

@@ -148,7 +148,7 @@ module _ (kind : GroupBy) where
 
   -- ---- what is left of a group
   module _ (g : ℤ) where
-    later-other : (taken : List Line) (x : Line) (w : List Line) → ofGroup kind g x ≡ false
+    pub later-other : (taken : List Line) (x : Line) (w : List Line) → ofGroup kind g x ≡ false
         → keep (ofGroup kind g) (later kind taken (x ∷ w)) ≡ keep (ofGroup kind g) (later kind (next kind taken x) w)
     later-other taken x w e = elim (outcome (takes kind taken x)) [
       | passed u ↦ rw (later-yes taken x w u)
