@@ -19,3 +19,4 @@ pub mod Pass
 pub mod Unique
 pub mod Carried
 pub mod Held
+pub mod Planned
