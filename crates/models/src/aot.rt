@@ -5,6 +5,7 @@ ghost use mathlib.Core.Bool.{true, _&&_};
 ghost use mathlib.Core.List.{List};
 ghost use Prim.Native.Nat.{_<_, _≤_};
 ghost use lib.Dec.{leb};
+ghost use lib.IntN.{pos};
 ghost use Rattle.arithmetic.specs.Note.{isNote};
 ghost use Rattle.models.specs.ChannelList.{channelsAnswer, entries};
 ghost use Rattle.models.specs.Line.{Line, group, joins, rising};
@@ -13,7 +14,7 @@ ghost use Rattle.models.specs.AotModel.{
     Smallest, accepted, accessAnswer, detuningAnswer, empty, highest, isIn, larger, modelOf, nextAnswer, nextRule, openRule, openedOf, planned, setTuning, setTuningOfPitches,
     tuningOf,
 };
-ghost use Rattle.models.specs.Inside.{Accepted, Least, Ready, Seats, channelsWith, linesOf, slotOf, waits};
+ghost use Rattle.models.specs.Inside.{Accepted, Ready, Seats, channelsWith, leastFrom, linesOf, lower, slotOf, waits};
 use crate::channels::ChannelList;
 use crate::channels::ChannelsAnswer;
 use crate::waiting::KEYS;
@@ -406,19 +407,31 @@ fn highest(records: [KeyRecord; 256], by: GroupBy, channel: u8, group: i32) -> D
 
 // The least group, not below `from`, of a key up to a channel; the number above all groups if there is none.
 fn least_group(records: [KeyRecord; 256], by: GroupBy, channel: u8, from: i32) -> i32
-    ensures { λ r. ⌜ Least by channel from records r ⌝ }
+    ensures { λ r. ⌜ r ≡ leastFrom by channel from (pos 501) records ⌝ }
 {
     let mut least = HIGHEST_NOTE + 1;
     let mut i: usize = 0;
     while i < KEYS {
         let record = records[i];
-        if record.is_up_to(channel) {
-            let group = group_of(by, record.note);
-            if from <= group && group < least {
-                least = group;
-            }
-        }
+        least = lower(record, by, channel, from, least);
         i += 1;
     }
     least
+}
+
+// The record's group where it is up to a channel, not below `from` and lower than the least so far.
+fn lower(record: KeyRecord, by: GroupBy, channel: u8, from: i32, least: i32) -> i32
+    ensures { λ r. ⌜ r ≡ lower by channel from least «record» ⌝ }
+{
+    if !record.is_up_to(channel) {
+        return least;
+    }
+    let group = group_of(by, record.note);
+    if group < from {
+        return least;
+    }
+    if least <= group {
+        return least;
+    }
+    group
 }

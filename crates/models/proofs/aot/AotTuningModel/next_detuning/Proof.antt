@@ -6,27 +6,27 @@ use Rattle.models.proofs.aot.AotTuningModel.next_detuning.Lts as lts
 use Rattle.models.proofs.aot.AotTuningModel.detuning.Reads as detuning-reads
 use Rattle.models.proofs.aot.least_group.Reads as least-group-reads
 
--- src/aot.rt:209:13
+-- src/aot.rt:210:13
 least-group-requires : tie.Need-least-group-requires
 least-group-requires c κs = search needs
 
--- src/aot.rt:210:15
+-- src/aot.rt:211:15
 detuning-requires : tie.Need-detuning-requires
 detuning-requires c κs = search needs
 
--- src/aot.rt:211:38
+-- src/aot.rt:212:38
 enum-known-detuning : tie.Need-enum-known-detuning
 enum-known-detuning c = search needs
 
--- src/aot.rt:212:40
+-- src/aot.rt:213:40
 enum-told : tie.Need-enum-told
 enum-told c = search needs
 
--- src/aot.rt:204:5
+-- src/aot.rt:205:5
 returns : tie.Need-returns
 returns c = ?
 
--- src/aot.rt:204:5
+-- src/aot.rt:205:5
 returns-2 : tie.Need-returns-2
 returns-2 c = ?
 
