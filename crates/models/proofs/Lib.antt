@@ -1,9 +1,9 @@
 -- Laws of the definitions, and the theorems about them.
-pub mod Values
-pub mod StepBounds
 pub mod Arrays
 pub mod Pigeonhole
 pub mod ChannelLists
+pub mod Values
+pub mod StepBounds
 pub mod Queues
 pub mod KeyRecords
 pub mod HeldKeys
@@ -15,3 +15,22 @@ pub mod PoolAnswers
 pub mod PoolStop
 pub mod PoolRefusals
 pub mod PoolExamples
+pub mod ListLaws
+pub mod Joins
+pub mod Rising
+pub mod Sweep
+pub mod Records
+pub mod Plan
+pub mod OnePass
+pub mod Seats
+pub mod Demand3
+pub mod Insertion
+pub mod Waits
+pub mod Lines
+pub mod Slots
+pub mod Models
+pub mod Pass
+pub mod Unique
+pub mod Carried
+pub mod Held
+pub mod Planned

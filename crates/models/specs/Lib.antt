@@ -1,11 +1,18 @@
 -- What the crate's contracts cite, each file a rule of document 01.
 pub mod Outcome
 pub mod Refusal
-pub mod Steps
 pub mod Entries
+pub mod Lists
 pub mod ChannelList
+pub mod Steps
+pub mod Answers
 pub mod Pool
 pub mod JitModel
 pub mod PoolInside
 pub mod Recital
-pub mod Answers
+pub mod Line
+pub mod Walk
+pub mod Placing
+pub mod PlanLists
+pub mod AotModel
+pub mod Inside

@@ -1,10 +1,13 @@
-// Models over arithmetic's contracts (document 01): channel lists, pools, and the values in which a detuning is sent.
+// Models over arithmetic's contracts (document 01): channel lists, the values in which a detuning is sent, plans that give every key a channel and a note
+// before anyone plays, and pools of channels handed out while somebody plays.
+pub mod aot;
 pub mod channels;
 pub mod jit;
 pub mod keys;
 mod lists;
 pub mod queue;
 pub mod steps;
+mod waiting;
 
 // What the crates above need of arithmetic, passed on.
 pub use arithmetic::pitch::Pitch;
