@@ -32,5 +32,6 @@ pub mod Models
 pub mod Pass
 pub mod Unique
 pub mod Carried
+pub mod NextEntry
 pub mod Held
 pub mod Planned

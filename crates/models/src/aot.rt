@@ -11,8 +11,23 @@ ghost use Rattle.models.specs.ChannelList.{channelsAnswer, entries};
 ghost use Rattle.models.specs.Line.{Line, group, joins, rising};
 ghost use Rattle.models.specs.PlanLists.{noteLists, pitchLists};
 ghost use Rattle.models.specs.AotModel.{
-    Smallest, accepted, accessAnswer, detuningAnswer, empty, highest, isIn, larger, modelOf, nextAnswer, nextRule, openRule, openedOf, planned, setTuning, setTuningOfPitches,
-    tuningOf,
+  Smallest,
+  accepted,
+  accessAnswer,
+  detuningAnswer,
+  empty,
+  highest,
+  isIn,
+  larger,
+  modelOf,
+  nextAnswer,
+  nextRule,
+  openRule,
+  openedOf,
+  planned,
+  setTuning,
+  setTuningOfPitches,
+  tuningOf,
 };
 ghost use Rattle.models.specs.Inside.{Accepted, Ready, Seats, channelsWith, leastFrom, linesOf, lower, slotOf, waits};
 use crate::channels::ChannelList;
@@ -297,7 +312,9 @@ fn group_of(by: GroupBy, note: i32) -> i32
 fn joins(before: f64, detuning: f64) -> bool
     ensures { λ r. ⌜ r ≡ joins before detuning ⌝ }
 {
-    Ratio::from_float(detuning).deviation_from(Ratio::from_float(before)).is_negligible()
+    Ratio::from_float(detuning)
+        .deviation_from(Ratio::from_float(before))
+        .is_negligible()
 }
 
 // How many channels a group uses with one key more, where it used so many and its last detuning is `before`.

@@ -126,11 +126,9 @@ impl Waiting {
     // One key more.
     fn with(self, key: u8, note: i32, detuning: f64) -> Waiting
         requires { ⌜ self .count < 256 ⌝ }
-        ensures {
-            λ r.
+        ensures { λ r.
             ⌜ ((lines : List Line) → Holds self lines → Accepted lines → member key (keys lines) ≡ false → T (positive detuning)
-                → Holds r (lines ++ (record { key = key; note = note; detuning = detuning } ∷ []))) ⌝
-        }
+            → Holds r (lines ++ (record { key = key; note = note; detuning = detuning } ∷ []))) ⌝ }
     {
         let mut seen = self.seen;
         let mut notes = self.notes;

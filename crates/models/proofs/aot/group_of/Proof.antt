@@ -8,7 +8,6 @@ use Rattle.arithmetic.specs.Outcome.{Outcome, value, refused}
 use Rattle.arithmetic.specs.Answers.{letterAnswer}
 use Rattle.arithmetic.specs.Note.{isNote, letterOf}
 use Rattle.arithmetic.proofs.Notes.{letter-below}
-
 use mathlib.Core.Path.{_≡_, sym, ap, _∙_}
 use mir.Facts.{toZ-ofZ}
 use mir.Syntax.{w32}

@@ -49,16 +49,14 @@ blank = record { note = pos 0; channel = 0; detuning = nan }
 long : (c : tie.Start Inv-loop μ-loop) → length (c .args .t1) ≡ 256
 long c = search needs
 
-
 loop-again : tie.Need-loop-again Inv-loop μ-loop
 loop-again c =
     let a = c .before .before .before .before .args in
     let l = c .before .before .before .loop in
-    let f : SFits w32 (c .lower .result) = search needs in
-    (
+    let f : SFits w32 (c .lower .result) = search needs in (
       omega arith,
       l .inv .1 ∙ least-next (a .by) (a .channel) (toZ w32 (ofZ w32 (a .from))) (toZ w32 (l .least)) (a .t1) (l .i) blank (omega (arith, long (c .before .before .before .before)))
-      ∙ ap (λ (z : ℤ). leastFrom (a .by) (a .channel) (toZ w32 (ofZ w32 (a .from))) z (drop (l .i + 1) (a .t1))) (sym (toZ-ofZ f ∙ c .lower .ensures)),
+          ∙ ap (λ (z : ℤ). leastFrom (a .by) (a .channel) (toZ w32 (ofZ w32 (a .from))) z (drop (l .i + 1) (a .t1))) (sym (toZ-ofZ f ∙ c .lower .ensures)),
     )
 
 returns : tie.Need-returns Inv-loop μ-loop

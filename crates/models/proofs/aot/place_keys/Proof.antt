@@ -227,11 +227,10 @@ loop-again c =
     let u = t (e d) in
     let l = u .before .loop in
     let one : d .channels-with .result - 1 ≡ number d = omega (arith, channels d) in
-    let grown : c .if1 .count ≡ max (l .count) (suc (number d)) = ⊎-elim (λ w. omega (arith, channels d)) (λ w. omega (arith, channels d)) (c .if1 .came) in
-    (
+    let grown : c .if1 .count ≡ max (l .count) (suc (number d)) = ⊎-elim (λ w. omega (arith, channels d)) (λ w. omega (arith, channels d)) (c .if1 .came) in (
       omega arith,
       pass-next (by u) (all u) (l .records) (l .latest) (l .used) (l .count) (i u) (x u) (rest u) (pass u) (a-note u) (small u) (c .if1 .count) grown
-      (toZ w32 (ofZ w32 (x u .note))) (d .channels-with .result) (d .channels-with .result - 1) (e d .slot .result) (read u) (channels d) one (slot-at (e d)),
+          (toZ w32 (ofZ w32 (x u .note))) (d .channels-with .result) (d .channels-with .result - 1) (e d .slot .result) (read u) (channels d) one (slot-at (e d)),
     )
 
 returns : tie.Need-returns Inv-loop μ-loop

@@ -36,7 +36,6 @@ byte c i = let f : Fits w8 (getD (c .args .t1) i 0) = search needs in omega arit
 long : (c : tie.Start Inv-loop μ-loop) → length (c .args .t1) ≡ 256
 long c = search needs
 
-
 mul-other : tie.Need-mul-other Inv-loop μ-loop
 mul-other c = omega (arith, byte (c .before .before) (c .before .loop .at))
 
