@@ -8,7 +8,7 @@ use lib.ListN.{length, getD, take, drop, drop-of-length-le, length-take, length-
 use lib.Seq.{drop-cons, getD-take}
 use lib.Dec.{eqb}
 use mathlib.Core.Bool.{false, _||_}
-use Rattle.models.specs.Entries.{among}
+use Rattle.models.specs.Lists.{member}
 
 -- The list of an array of structs stands in what a need is handed at `map` of the struct's parts. `search long-field` finds its length there.
 pub long-field : {X Y : Type 0} (f : X → Y) (l : List X) (n : ℕ) → length (map f l) ≡ n → length l ≡ n
@@ -26,14 +26,11 @@ module _ {A : Type 0} (n : ℕ) (xs : List A) (j : ℕ) where
 
 -- a search among the first n of a list, from index j on
 module _ (x n : ℕ) (xs : List ℕ) (j : ℕ) where
-  pub among-turn : j < n → j < length xs → among x (drop j (take n xs)) ≡ eqb (getD xs j 0) x || among x (drop (j + 1) (take n xs))
-  unfolding among
-  among-turn h k = rw (rest-cons n xs j 0 h k)
+  pub member-turn : j < n → j < length xs → member x (drop j (take n xs)) ≡ eqb (getD xs j 0) x || member x (drop (j + 1) (take n xs))
+  member-turn h k = rw (rest-cons n xs j 0 h k)
 
-  pub among-end : n ≤ j → among x (drop j (take n xs)) ≡ false
-  unfolding among
-  among-end h = rw (rest-nil n xs j h)
+  pub member-end : n ≤ j → member x (drop j (take n xs)) ≡ false
+  member-end h = rw (rest-nil n xs j h)
 
-  pub among-out : length xs ≤ j → among x (drop j (take n xs)) ≡ false
-  unfolding among
-  among-out h = rw (rest-out n xs j h)
+  pub member-out : length xs ≤ j → member x (drop j (take n xs)) ≡ false
+  member-out h = rw (rest-out n xs j h)

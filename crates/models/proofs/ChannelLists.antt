@@ -15,7 +15,7 @@ use lib.Dec.{leb}
 use lib.ListN.{length, getD, getElem?, take, drop, drop-of-length-le, length-drop}
 use lib.Seq.{drop-cons, take-suc, take-all, getD-drop}
 use Rattle.arithmetic.specs.Outcome.{value, refused}
-use Rattle.models.specs.Entries.{among}
+use Rattle.models.specs.Lists.{member}
 use Rattle.models.specs.ChannelList.{listFrom, listRule, digits, entries}
 use Rattle.models.specs.declared.channels.ChannelList.{ChannelList}
 use Rattle.models.proofs.Pigeonhole.{Fresh, pigeonhole}
@@ -25,12 +25,12 @@ use Rattle.models.proofs.Pigeonhole.{Fresh, pigeonhole}
 -- each entry is a MIDI channel, and none is among `before` or among those before it
 abbrev pub Channels : List ℕ → List ℕ → Type 0
 Channels before [] = Unit {0}
-Channels before (c ∷ cs) = (c ≤ 15) × (among c before ≡ false) × Channels (before ++ (c ∷ [])) cs
+Channels before (c ∷ cs) = (c ≤ 15) × (member c before ≡ false) × Channels (before ++ (c ∷ [])) cs
 
 -- what is wrong with an entry behind others: 6 or 7
 pub data Offends (before : List ℕ) (c : ℕ) : ℕ → Type 0 where
   over : 15 < c → Offends before c 6
-  twice : c ≤ 15 → among c before ≡ true → Offends before c 7
+  twice : c ≤ 15 → member c before ≡ true → Offends before c 7
 
 -- The first entry with something wrong decides.
 pub record Offence (before cs : List ℕ) (n : ℕ) : Type 0 where
@@ -46,19 +46,19 @@ module _ (before : List ℕ) (c : ℕ) (cs : List ℕ) where
   unfolding listFrom
   entry-over h = rw (lt-leb c 15 h)
 
-  pub entry-twice : c ≤ 15 → among c before ≡ true → listFrom before (c ∷ cs) ≡ refused 7
+  pub entry-twice : c ≤ 15 → member c before ≡ true → listFrom before (c ∷ cs) ≡ refused 7
   unfolding listFrom
   entry-twice h e = rw (le-leb c 15 h, e)
 
-  pub entry-fine : c ≤ 15 → among c before ≡ false → listFrom before (c ∷ cs) ≡ listFrom (before ++ (c ∷ [])) cs
+  pub entry-fine : c ≤ 15 → member c before ≡ false → listFrom before (c ∷ cs) ≡ listFrom (before ++ (c ∷ [])) cs
   unfolding listFrom
   entry-fine h e = rw (le-leb c 15 h, e)
 
   -- one of the three
-  entry-cases : {P : Type 0} → (15 < c → P) → (c ≤ 15 → among c before ≡ true → P) → (c ≤ 15 → among c before ≡ false → P) → P
-  entry-cases {P} f g h = go (leb c 15) refl (among c before) refl
+  entry-cases : {P : Type 0} → (15 < c → P) → (c ≤ 15 → member c before ≡ true → P) → (c ≤ 15 → member c before ≡ false → P) → P
+  entry-cases {P} f g h = go (leb c 15) refl (member c before) refl
     where
-      go : (a : Bool) → leb c 15 ≡ a → (b : Bool) → among c before ≡ b → P
+      go : (a : Bool) → leb c 15 ≡ a → (b : Bool) → member c before ≡ b → P
       go false p b q = f (leb-false c 15 p)
       go true p true q = g (leb-true c 15 p) q
       go true p false q = h (leb-true c 15 p) q
@@ -98,7 +98,7 @@ verdict before (c ∷ cs) =
     first : (n : ℕ) → Offends before c n → Offence before (c ∷ cs) n
     first n w = record { good = []; entry = c; behind = cs; parts = refl; fine = tt; wrong = rw append-nil w }
 
-    later : c ≤ 15 → among c before ≡ false → Verdict (before ++ (c ∷ [])) cs → Verdict before (c ∷ cs)
+    later : c ≤ 15 → member c before ≡ false → Verdict (before ++ (c ∷ [])) cs → Verdict before (c ∷ cs)
     later h e (listed f) = listed (h, e, f)
     later h e (offended n o) =
         offended n
@@ -156,10 +156,10 @@ module _ (cs : List ℕ) (i : ℕ) (inv : listRule cs ≡ listFrom (take i cs) (
   pub over-at : i < length cs → 15 < getD cs i 0 → refused 6 ≡ listRule cs
   over-at h p = sym (inv ∙ rw (drop-cons cs i 0 h) (entry-over (take i cs) (getD cs i 0) (drop (suc i) cs) p))
 
-  pub twice-at : i < length cs → getD cs i 0 ≤ 15 → among (getD cs i 0) (take i cs) ≡ true → refused 7 ≡ listRule cs
+  pub twice-at : i < length cs → getD cs i 0 ≤ 15 → member (getD cs i 0) (take i cs) ≡ true → refused 7 ≡ listRule cs
   twice-at h p e = sym (inv ∙ rw (drop-cons cs i 0 h) (entry-twice (take i cs) (getD cs i 0) (drop (suc i) cs) p e))
 
-  pub fine-at : i < length cs → getD cs i 0 ≤ 15 → among (getD cs i 0) (take i cs) ≡ false → listRule cs ≡ listFrom (take (i + 1) cs) (drop (i + 1) cs)
+  pub fine-at : i < length cs → getD cs i 0 ≤ 15 → member (getD cs i 0) (take i cs) ≡ false → listRule cs ≡ listFrom (take (i + 1) cs) (drop (i + 1) cs)
   fine-at h p e = inv ∙ rw (drop-cons cs i 0 h, add-one, take-suc cs i 0 h) (entry-fine (take i cs) (getD cs i 0) (drop (suc i) cs) p e)
 
   pub ended : length cs ≤ i → listRule cs ≡ value cs

@@ -23,7 +23,7 @@ use Rattle.models.specs.Line.{Line, group, same, ofGroup, rising}
 use Rattle.models.specs.PlanLists.{keys}
 use Rattle.models.specs.Walk.{count, seat, entry}
 use Rattle.models.specs.AotModel.{nobody, isIn, keyIn, larger, counts, highest}
-use Rattle.models.specs.Inside.{Accepted, Seats}
+use Rattle.models.specs.PlanInside.{Accepted, Seats}
 use Rattle.models.proofs.ListLaws.{outcome, passed, failed, T→true, true→T, not-false, or-cases, Each-map, Each-keep, Pairwise, Pairwise-keep, own-image}
 use mathlib.Core.Logic.{_⊎_, inl, inr}
 use Rattle.models.proofs.Joins.{le-total}

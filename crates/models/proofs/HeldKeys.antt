@@ -10,7 +10,7 @@ use borrow.Author.Tests.{ltb-true, ltb-false}
 use lib.Dec.{ltb}
 use lib.ListN.{length, getD, drop, drop-of-length-le}
 use lib.Seq.{drop-cons}
-use Rattle.models.specs.Entries.{first}
+use Rattle.models.specs.Lists.{first}
 use Rattle.models.specs.Pool.{Place, State, Held, found, heldFrom, heldKeys}
 
 module _ (l : List (Option Place)) (key : ℕ) where

@@ -12,7 +12,7 @@ use lib.Ieee.{Float, nan, lt, le}
 use lib.ListN.{length, getD, take, drop, set, length-take}
 use lib.Seq.{take-take, take-suc-set, take-set-lt, drop-set-lt}
 use mathlib.Core.List.{append-assoc}
-use Rattle.models.specs.Inside.{before, putIn}
+use Rattle.models.specs.PlanInside.{before, putIn}
 use Rattle.models.proofs.Arrays.{rest-cons, rest-nil}
 
 -- ---- the place

@@ -23,7 +23,7 @@ use Rattle.models.specs.declared.waiting.Waiting.{Waiting}
 use Rattle.models.specs.Lists.{Each, member}
 use Rattle.models.specs.Line.{Line, rising}
 use Rattle.models.specs.PlanLists.{isPlanned, noteLine, pitchLine, noteLines, pitchLines, keys, lineByLine, noteLists, pitchLists, withKey}
-use Rattle.models.specs.Inside.{Accepted, Fine, Holds, inOrder, linesOf, waits}
+use Rattle.models.specs.PlanInside.{Accepted, Fine, Holds, inOrder, linesOf, waits}
 use Rattle.models.proofs.ListLaws.{true→T, T→true, outcome, passed, failed}
 use Rattle.models.proofs.Waits.{accepted-snoc, accepted-few, accepted-nil}
 

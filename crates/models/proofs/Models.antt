@@ -15,7 +15,7 @@ use Rattle.models.specs.declared.aot.GroupBy.{GroupBy}
 use Rattle.models.specs.declared.aot.KeyRecord.{KeyRecord}
 use Rattle.models.specs.Line.{Line, group, same}
 use Rattle.models.specs.Walk.{count}
-use Rattle.models.specs.Inside.{linesOf, waits}
+use Rattle.models.specs.PlanInside.{linesOf, waits}
 use Rattle.models.specs.AotModel.{Model, tuned, untuned, empty, holding, planned, nobody, isIn, keyIn, counts, highest}
 use Rattle.models.proofs.ListLaws.{T→false, outcome, passed, failed}
 

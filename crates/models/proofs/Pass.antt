@@ -19,7 +19,7 @@ use Rattle.models.specs.Line.{Line, group, ofGroup, joins, rising}
 use Rattle.models.specs.PlanLists.{keys}
 use Rattle.models.specs.Walk.{count, seat}
 use Rattle.models.specs.AotModel.{nobody, isIn}
-use Rattle.models.specs.Inside.{Accepted, Seats, channelsWith, slotOf}
+use Rattle.models.specs.PlanInside.{Accepted, Seats, channelsWith, slotOf}
 use Rattle.models.proofs.ListLaws.{outcome, passed, failed, T→true, true→T, not-false, Each-map, Each-all, Pairwise, own-image}
 use Rattle.models.proofs.Rising.{Other, other-sym, distinct-apart}
 use Rattle.models.proofs.Sweep.{own-group, group-of}

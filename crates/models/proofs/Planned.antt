@@ -16,7 +16,7 @@ use Rattle.models.specs.Lists.{Distinct}
 use Rattle.models.specs.Line.{Line, rising}
 use Rattle.models.specs.PlanLists.{keys}
 use Rattle.models.specs.Walk.{walk, count, seat, seatFrom, entry, entryFrom, channels}
-use Rattle.models.specs.Inside.{Accepted, Fine, Ready, inOrder, waits}
+use Rattle.models.specs.PlanInside.{Accepted, Fine, Ready, inOrder, waits}
 use Rattle.models.specs.AotModel.{Model, Answer, tuned, untuned, empty, holding, planned, Smallest}
 use Rattle.models.proofs.ListLaws.{Pairwise, false→T}
 use Rattle.models.proofs.Rising.{Other, Each-rising, length-rising, rising-sorted, rising-of-sorted, absent}

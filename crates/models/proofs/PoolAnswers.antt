@@ -18,7 +18,7 @@ use Rattle.arithmetic.specs.Nearest.{nearestNote}
 use Rattle.models.specs.declared.jit.PoolGroupBy.{PoolGroupBy}
 use Rattle.models.specs.declared.jit.PoolingMode.{PoolingMode}
 use Rattle.models.specs.declared.jit.PoolingMode.the-variants.{Block, Stop, Ignore}
-use Rattle.models.specs.Entries.{among, without, first}
+use Rattle.models.specs.Lists.{member, without, first}
 use Rattle.models.specs.ChannelList.{listRule, present}
 use Rattle.models.specs.Pool.{Place, State, Held, emptyPool, poolOf, pool, found, withPool, withKey, behind, freedIn, freed, forgotten, heldAt, oldestOf, oldest, room, madeRoom, roomBy, roomFor, Press, accepted, rejected, pressedOn, pressed, isHeld, unlessHeld, registerRule}
 use Rattle.models.specs.Recital.{Call, times}
@@ -59,9 +59,8 @@ module _ (s : State) (key : ℕ) (note : ℤ) (d : Float) where
 
 -- ---- the channel of the longest-held key, once that key is released or ignored
 
-among-front : (k : ℕ) (l : List ℕ) → among k (k ∷ l) ≡ true
-unfolding among
-among-front k l = rw (eq-eqb k k refl)
+member-front : (k : ℕ) (l : List ℕ) → member k (k ∷ l) ≡ true
+member-front k l = rw (eq-eqb k k refl)
 
 module _ (n : ℕ) (s : State) (ok : Ok n s) (note : ℤ) (full : first (pool s note .free) ≡ none) (o : Held)
     (at : first (pool s note .order) ≡ some (o .key)) (is : found s (o .key) ≡ some (o .place)) where
@@ -79,7 +78,7 @@ module _ (n : ℕ) (s : State) (ok : Ok n s) (note : ℤ) (full : first (pool s 
   unfolding pool freed withPool freedIn first behind
   freed-front =
       rw (same-pool, getD-set-same (s .pools) (poolOf (s .group) note) _ emptyPool (rw (ok .pools) (pool-small (s .group) note)))
-      (ap (λ (b : Bool). first (cond b (record { free = behind (pool s note .free) (o .place .channel); order = without (o .key) (pool s note .order) }) (pool s note) .free)) (ap (among (o .key)) (first-rest (pool s note .order) (o .key) at) ∙ among-front (o .key) _)
+      (ap (λ (b : Bool). first (cond b (record { free = behind (pool s note .free) (o .place .channel); order = without (o .key) (pool s note .order) }) (pool s note) .free)) (ap (member (o .key)) (first-rest (pool s note .order) (o .key) at) ∙ member-front (o .key) (drop 1 (pool s note .order)))
       ∙ ap (λ (l : List ℕ). first (behind l (o .place .channel))) (first-none (pool s note .free) full))
 
   forgotten-front : first (pool (forgotten (freed s (o .key) (o .place)) (o .key)) note .free) ≡ some (o .place .channel)

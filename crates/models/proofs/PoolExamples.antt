@@ -12,7 +12,7 @@ use Rattle.arithmetic.specs.Nearest.{nearestNote}
 use Rattle.models.specs.declared.jit.PoolGroupBy.the-variants.{Channel}
 use Rattle.models.specs.declared.jit.PoolingMode.{PoolingMode}
 use Rattle.models.specs.declared.jit.PoolingMode.the-variants.{Stop}
-use Rattle.models.specs.Entries.{among, without, range, first}
+use Rattle.models.specs.Lists.{member, without, upward, first}
 use Rattle.models.specs.ChannelList.{listFrom, listRule}
 use Rattle.models.specs.Pool.{State, poolCount, poolOf, pool, found, fresh, openRule, withPool, withKey, behind, takenIn, taken, freedIn, freed, forgotten, released, releasedFrom, heldAt, oldestOf, oldest, madeRoom, roomBy, roomFor, Press, accepted, pressedOn, pressed, registerRule, replied}
 use Rattle.models.proofs.PoolAnswers.{register-pressed}
@@ -50,20 +50,20 @@ module _ (s : State) (key : ℕ) (hz : Float) (p : isPitch hz ≡ true) (new : f
 
 module _ (mode : PoolingMode) (a b : ℤ) (d e : Float) where
   first-press : (found (two mode) 1 ≡ none) × (pressed (two mode) 1 a d .0 ≡ accepted 0 none a d)
-  unfolding two among range first listFrom listRule poolCount poolOf pool found fresh openRule roomBy roomFor pressedOn pressed
+  unfolding two upward first listFrom listRule poolCount poolOf pool found fresh openRule roomBy roomFor pressedOn pressed
   first-press = (refl, refl)
 
   second-press : let s = released (pressed (two mode) 1 a d .1) 1 in (found s 2 ≡ none) × (pressed s 2 b e .0 ≡ accepted 1 none b e)
-  unfolding two among without range first listFrom listRule poolCount poolOf pool found fresh openRule withPool withKey behind takenIn taken freedIn freed forgotten released releasedFrom roomBy roomFor pressedOn pressed
+  unfolding two without upward first listFrom listRule poolCount poolOf pool found fresh openRule withPool withKey behind takenIn taken freedIn freed forgotten released releasedFrom roomBy roomFor pressedOn pressed
   second-press = (refl, refl)
 
 module _ (a b c : ℤ) (d e f : Float) where
   two-held : (found (pressed (two Stop) 1 a d .1) 2 ≡ none) × (found (pressed (pressed (two Stop) 1 a d .1) 2 b e .1) 3 ≡ none)
-  unfolding two among range first listFrom listRule poolCount poolOf pool found fresh openRule withPool withKey behind takenIn taken roomBy roomFor pressedOn pressed
+  unfolding two upward first listFrom listRule poolCount poolOf pool found fresh openRule withPool withKey behind takenIn taken roomBy roomFor pressedOn pressed
   two-held = (refl, refl)
 
   third-press : let r = pressed (pressed (pressed (two Stop) 1 a d .1) 2 b e .1) 3 c f in (r .0 ≡ accepted 0 (some a) c f) × (found (r .1) 1 ≡ none)
-  unfolding two among without range first listFrom listRule poolCount poolOf pool found fresh openRule withPool withKey behind takenIn taken freedIn freed forgotten released releasedFrom heldAt oldestOf oldest madeRoom roomBy roomFor pressedOn pressed
+  unfolding two without upward first listFrom listRule poolCount poolOf pool found fresh openRule withPool withKey behind takenIn taken freedIn freed forgotten released releasedFrom heldAt oldestOf oldest madeRoom roomBy roomFor pressedOn pressed
   third-press = (refl, refl)
 
 -- 11. "Two channels, press 1, release 1, press 2: channels 0 then 1."

@@ -19,14 +19,14 @@ use Rattle.arithmetic.specs.Nearest.{nearestNote}
 use Rattle.models.specs.declared.jit.PoolGroupBy.{PoolGroupBy}
 use Rattle.models.specs.declared.jit.PoolingMode.{PoolingMode}
 use Rattle.models.specs.declared.jit.PoolingMode.the-variants.{Block, Stop, Ignore}
-use Rattle.models.specs.Entries.{among, without, range, first}
+use Rattle.models.specs.Lists.{member, without, upward, first}
 use Rattle.models.specs.ChannelList.{listRule, present}
 use Rattle.models.specs.Pool.{keyCount, Place, Pool, State, Held, emptyPool, poolCount, poolOf, pool, found, fresh, openRule, withPool, withKey, behind, takenIn, taken, freedIn, freed, forgotten, released, releasedAll, stopped, oldest, madeRoom, roomBy, roomFor, pressedOn, pressed, isHeld, unlessHeld, registerRule, replied}
 use Rattle.models.specs.Recital.{Call, press, release, lookup, repitch, stop, after, played, times, channelAt, keysOn, standing}
 use Rattle.models.proofs.ChannelLists.{Verdict, listed, offended, verdict, fine-listed, offence-refused, channels-few}
 use Rattle.models.proofs.Queues.{behind-room}
 use Rattle.models.proofs.Pools.{pool-small, oldest-is, released-found, released-none, released-other}
-use Rattle.models.proofs.Times.{times-none, times-cons, times-same, times-other, times-one, either, among-times, among-not, sum-append, sum-without, times-append, times-without, length-without, times-range, times-past, length-range}
+use Rattle.models.proofs.Times.{times-none, times-cons, times-same, times-other, times-one, either, member-times, member-not, sum-append, sum-without, times-append, times-without, length-without, times-range, times-past, length-range}
 
 -- ---- the keys on a channel
 
@@ -60,7 +60,7 @@ pub record Holds (s : State) (i k : ℕ) : Type 0 where
   pub here : poolOf (s .group) (place .note) ≡ i
 
 pub record PoolOk (n : ℕ) (s : State) (i : ℕ) (p : Pool) : Type 0 where
-  pub once : (c : ℕ) → standing s p c ≡ times c (range 0 n)
+  pub once : (c : ℕ) → standing s p c ≡ times c (upward 0 n)
   pub total : length (p .free) + length (p .order) ≡ n
   pub holds : (k : ℕ) → 0 < times k (p .order) → Holds s i k
   pub distinct : (k : ℕ) → times k (p .order) ≤ 1
@@ -92,7 +92,7 @@ module _ (n : ℕ) (s t : State) (i : ℕ) (g : t .group ≡ s .group) where
   -- a key takes a channel that stood apart
   seated : (free order : List ℕ) (key : ℕ) (q : Place)
       → n ≤ 16
-      → ((c : ℕ) → times c free + keysOn s c order + times c (q .channel ∷ []) ≡ times c (range 0 n))
+      → ((c : ℕ) → times c free + keysOn s c order + times c (q .channel ∷ []) ≡ times c (upward 0 n))
       → length free + suc (length order) ≡ n
       → ((k : ℕ) → 0 < times k order → Holds s i k)
       → ((k : ℕ) → times k order ≤ 1)
@@ -192,7 +192,7 @@ module _ (n : ℕ) (s : State) (ok : Ok n s) (note : ℤ) where
   pool-ok = ok .each (poolOf (s .group) note) (pool-small (s .group) note)
 
 -- a number that stands somewhere among the first n is one of them
-below : (c n : ℕ) → 0 < times c (range 0 n) → c < n
+below : (c n : ℕ) → 0 < times c (upward 0 n) → c < n
 below c n h = go (leb n c) refl
   where
     go : (b : Bool) → leb n c ≡ b → c < n
@@ -277,13 +277,13 @@ module _ (n : ℕ) (s : State) (ok : Ok n s) (key : ℕ) (q : Place) (e : found 
   q-ok = pool-ok n s ok (q .note)
 
   module _ (t : State) (g : t .group ≡ s .group) (agree : (k : ℕ) → k ≢ key → found t k ≡ found s k) where
-    freed-by : (has : Bool) → among key (pool s (q .note) .order) ≡ has
+    freed-by : (has : Bool) → member key (pool s (q .note) .order) ≡ has
         → PoolOk n t (poolOf (s .group) (q .note))
         (cond has (record { free = behind (pool s (q .note) .free) (q .channel); order = without key (pool s (q .note) .order) }) (pool s (q .note)))
     unfolding standing
     freed-by true h =
         let p : Pool = pool s (q .note) in
-        let inside : times key (p .order) ≡ 1 = omega (arith, among-times (p .order) key h, q-ok .distinct key) in
+        let inside : times key (p .order) ≡ 1 = omega (arith, member-times (p .order) key h, q-ok .distinct key) in
         let gone : times key (without key (p .order)) ≡ 0 = omega (arith, times-without key (p .order) key inside, times-same key) in
         let other : (k : ℕ) → 0 < times k (without key (p .order)) → k ≢ key = λ k m same. omega (arith, ap (λ (x : ℕ). times x (without key (p .order))) same) in
         let less : (k : ℕ) → times k (without key (p .order)) ≤ times k (p .order) = λ k. omega (arith, times-without k (p .order) key inside) in
@@ -305,7 +305,7 @@ module _ (n : ℕ) (s : State) (ok : Ok n s) (key : ℕ) (q : Place) (e : found 
         })
     freed-by false h =
         frame n s t (poolOf (s .group) (q .note)) g (pool s (q .note))
-        (λ k m. agree k (λ same. omega (arith, among-not (pool s (q .note) .order) key h, ap (λ (x : ℕ). times x (pool s (q .note) .order)) same)))
+        (λ k m. agree k (λ same. omega (arith, member-not (pool s (q .note) .order) key h, ap (λ (x : ℕ). times x (pool s (q .note) .order)) same)))
         q-ok
 
     -- whether or not the key is still found afterwards
@@ -317,7 +317,7 @@ module _ (n : ℕ) (s : State) (ok : Ok n s) (key : ℕ) (q : Place) (e : found 
         change n s t (poolOf (s .group) (q .note)) (freedIn (pool s (q .note)) key (q .channel)) ok (pool-small (s .group) (q .note)) c g pools keys
         (λ k p f.
         either key k (λ same. low p (subst (λ (x : ℕ). found t x ≡ some p) same f)) (λ ne. ok .low k p (sym (agree k ne) ∙ f)))
-        (freed-by (among key (pool s (q .note) .order)) refl)
+        (freed-by (member key (pool s (q .note) .order)) refl)
         (λ j a ne k m. agree k (λ same. ne (one-pool s j (poolOf (s .group) (q .note)) key (subst (Holds s j) same (ok .each j a .holds k m)) held)))
 
   -- Ignore: the key stays found
@@ -433,9 +433,9 @@ fresh-ok channels few group mode =
     nothing k p f = let g = fresh-none channels group mode k in let z : _≡_ {A = ℕ} 0 1 = cc in omega arith
 
     unused : Pool
-    unused = record { free = range 0 (length channels); order = [] }
+    unused = record { free = upward 0 (length channels); order = [] }
 
-    all-free : {i : ℕ} → PoolOk (length channels) (fresh channels group mode) i (record { free = range 0 (length channels); order = [] })
+    all-free : {i : ℕ} → PoolOk (length channels) (fresh channels group mode) i (record { free = upward 0 (length channels); order = [] })
     all-free =
         record {
           once = λ c. omega (arith, keys-none (fresh channels group mode) c);

@@ -12,7 +12,7 @@ use Rattle.arithmetic.specs.Nearest.{nearestNote}
 use Rattle.models.specs.declared.jit.PoolGroupBy.{PoolGroupBy}
 use Rattle.models.specs.declared.jit.PoolingMode.{PoolingMode}
 use Rattle.models.specs.declared.jit.PoolingMode.the-variants.{Block, Stop, Ignore}
-use Rattle.models.specs.Entries.{first}
+use Rattle.models.specs.Lists.{first}
 use Rattle.models.specs.ChannelList.{listRule, present}
 use Rattle.models.specs.Pool.{Place, State, Held, pool, found, fresh, openRule, withPool, withKey, taken, freed, forgotten, released, releasedFrom, releasedAll, stopped, oldest, Room, madeRoom, roomBy, roomFor, pressedOn, pressed, isHeld, unlessHeld, registerRule, replied}
 use Rattle.models.specs.Recital.{Call, press, release, lookup, repitch, stop, after, played}

@@ -17,7 +17,7 @@ use Rattle.arithmetic.specs.Nearest.{nearestNote, nearestRule}
 use Rattle.arithmetic.proofs.Outcomes.{no-value}
 use Rattle.arithmetic.proofs.Notes.{letter-below}
 use Rattle.arithmetic.proofs.Refusals.{letter-refuses, detuning-refuses}
-use Rattle.models.specs.Entries.{first}
+use Rattle.models.specs.Lists.{first}
 use Rattle.models.specs.Pool.{Place, State, Held, poolCount, poolOf, pool, found, withPool, withKey, freed, forgotten, released, releasedFrom, releasedAll, heldAt, oldestOf, oldest, Room, room, madeRoom, roomFor, accepted, rejected, taken, pressed, pressedOn, heldFrom}
 use Rattle.models.specs.JitModel.{records, view}
 use Rattle.models.specs.declared.jit.PoolGroupBy.{PoolGroupBy}

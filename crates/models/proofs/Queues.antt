@@ -9,14 +9,14 @@ use native.Mathlib.Numerals.{add-one}
 use lib.ListN.{length, take, drop, getD, set, length-append, length-take, drop-of-length-le}
 use lib.Seq.{take-all, length-take-le, take-append-le, take-suc, take-suc-set, drop-append-le, drop-cons}
 use borrow.Author.Tests.{eq-eqb, ne-eqb}
-use Rattle.models.specs.Entries.{range, first, without}
+use Rattle.models.specs.Lists.{upward, first, without}
 use Rattle.models.specs.Pool.{behind}
 
-pub take-range : (n a m : ℕ) → take n (range a m) ≡ range a (min n m)
-unfolding range
-take-range zero a m = ap (range a) (sym (zero-min m))
-take-range (suc n) a zero = ap (range a) (sym (min-zero (suc n)))
-take-range (suc n) a (suc m) = ap (λ (t : List ℕ). a ∷ t) (take-range n (suc a) m) ∙ ap (range a) (sym (suc-min-suc n m))
+pub take-range : (n a m : ℕ) → take n (upward a m) ≡ upward a (min n m)
+unfolding upward
+take-range zero a m = ap (upward a) (sym (zero-min m))
+take-range (suc n) a zero = ap (upward a) (sym (min-zero (suc n)))
+take-range (suc n) a (suc m) = ap (λ (t : List ℕ). a ∷ t) (take-range n (suc a) m) ∙ ap (upward a) (sym (suc-min-suc n m))
 
 -- ---- one more at the back
 

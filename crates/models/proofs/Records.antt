@@ -17,7 +17,7 @@ use Rattle.models.specs.Lists.{Each}
 use Rattle.models.specs.declared.aot.GroupBy.{GroupBy}
 use Rattle.models.specs.Line.{group, same}
 use Rattle.models.specs.AotModel.{nobody, isIn, keyIn, counts, highest, larger}
-use Rattle.models.specs.Inside.{lower, leastFrom}
+use Rattle.models.specs.PlanInside.{lower, leastFrom}
 use Rattle.models.proofs.ListLaws.{outcome, passed, failed, T→true, true→T}
 use Rattle.models.proofs.Sweep.{same-eq, same-refl}
 

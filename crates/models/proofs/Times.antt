@@ -9,7 +9,7 @@ use native.Mathlib.Omega.{arith}
 use lib.ListN.{length}
 use lib.Dec.{eqb}
 use borrow.Author.Tests.{eqb-true, eqb-false, eq-eqb, ne-eqb}
-use Rattle.models.specs.Entries.{among, range, without}
+use Rattle.models.specs.Lists.{member, upward, without}
 use Rattle.models.specs.Recital.{times}
 
 -- ---- one number
@@ -50,21 +50,21 @@ times-one n x = either n x (λ e. omega (arith, times-eq n x e)) (λ h. omega (a
 
 -- ---- a number that is in a list, or is not
 
-pub among-times : (l : List ℕ) (x : ℕ) → among x l ≡ true → 0 < times x l
-unfolding among times
-among-times [] x h = absurd (false≢true h)
-among-times (y ∷ l) x h = go (eqb y x) h (among-times l x)
+pub member-times : (l : List ℕ) (x : ℕ) → member x l ≡ true → 0 < times x l
+unfolding times
+member-times [] x h = absurd (false≢true h)
+member-times (y ∷ l) x h = go (eqb y x) h (member-times l x)
   where
-    go : (b : Bool) → (b || among x l) ≡ true → (among x l ≡ true → 0 < times x l) → 0 < cond b (suc (times x l)) (times x l)
+    go : (b : Bool) → (b || member x l) ≡ true → (member x l ≡ true → 0 < times x l) → 0 < cond b (suc (times x l)) (times x l)
     go true e ih = omega arith
     go false e ih = ih e
 
-pub among-not : (l : List ℕ) (x : ℕ) → among x l ≡ false → times x l ≡ 0
-unfolding among times
-among-not [] x h = refl
-among-not (y ∷ l) x h = go (eqb y x) h (among-not l x)
+pub member-not : (l : List ℕ) (x : ℕ) → member x l ≡ false → times x l ≡ 0
+unfolding times
+member-not [] x h = refl
+member-not (y ∷ l) x h = go (eqb y x) h (member-not l x)
   where
-    go : (b : Bool) → (b || among x l) ≡ false → (among x l ≡ false → times x l ≡ 0) → cond b (suc (times x l)) (times x l) ≡ 0
+    go : (b : Bool) → (b || member x l) ≡ false → (member x l ≡ false → times x l ≡ 0) → cond b (suc (times x l)) (times x l) ≡ 0
     go true e ih = absurd (false≢true (sym e))
     go false e ih = ih e
 
@@ -107,26 +107,26 @@ length-without = sum-without length refl (λ x l. omega arith)
 
 -- ---- the numbers from 0 upward
 
-times-below : (c a n : ℕ) → c < a → times c (range a n) ≡ 0
-unfolding range
+times-below : (c a n : ℕ) → c < a → times c (upward a n) ≡ 0
+unfolding upward
 times-below c a zero h = times-none c
-times-below c a (suc n) h = omega (arith, times-cons c a (range (suc a) n), times-other c a (omega arith), times-below c (suc a) n (omega arith))
+times-below c a (suc n) h = omega (arith, times-cons c a (upward (suc a) n), times-other c a (omega arith), times-below c (suc a) n (omega arith))
 
-pub times-range : (c a n : ℕ) → a ≤ c → c < a + n → times c (range a n) ≡ 1
-unfolding range
+pub times-range : (c a n : ℕ) → a ≤ c → c < a + n → times c (upward a n) ≡ 1
+unfolding upward
 times-range c a zero h k = absurd (omega arith)
 times-range c a (suc n) h k =
     either c a
-    (λ e. omega (arith, times-cons c a (range (suc a) n), times-eq c a e, times-below c (suc a) n (omega arith)))
-    (λ ne. omega (arith, times-cons c a (range (suc a) n), times-other c a ne, times-range c (suc a) n (omega arith) (omega arith)))
+    (λ e. omega (arith, times-cons c a (upward (suc a) n), times-eq c a e, times-below c (suc a) n (omega arith)))
+    (λ ne. omega (arith, times-cons c a (upward (suc a) n), times-other c a ne, times-range c (suc a) n (omega arith) (omega arith)))
 
-pub times-past : (c a n : ℕ) → a + n ≤ c → times c (range a n) ≡ 0
-unfolding range
+pub times-past : (c a n : ℕ) → a + n ≤ c → times c (upward a n) ≡ 0
+unfolding upward
 times-past c a zero h = times-none c
 times-past c a (suc n) h =
-    omega (arith, times-cons c a (range (suc a) n), times-other c a (λ e. omega arith), times-past c (suc a) n (omega arith))
+    omega (arith, times-cons c a (upward (suc a) n), times-other c a (λ e. omega arith), times-past c (suc a) n (omega arith))
 
-pub length-range : (a n : ℕ) → length (range a n) ≡ n
-unfolding range
+pub length-range : (a n : ℕ) → length (upward a n) ≡ n
+unfolding upward
 length-range a zero = refl
 length-range a (suc n) = ap suc (length-range (suc a) n)

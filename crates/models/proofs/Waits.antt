@@ -15,7 +15,7 @@ use Rattle.arithmetic.specs.Note.{isNote}
 use Rattle.models.specs.Lists.{Each, member, Distinct}
 use Rattle.models.specs.Line.{Line, rising}
 use Rattle.models.specs.PlanLists.{keys}
-use Rattle.models.specs.Inside.{Accepted, lineAt, before, putIn}
+use Rattle.models.specs.PlanInside.{Accepted, lineAt, before, putIn}
 use Rattle.models.proofs.ListLaws.{outcome, passed, failed, T→true, true→T, T→false, false→T, not-false, or-left, Each-map, Each-image, at-member, pigeonhole, below, below-length, below-member}
 use Rattle.models.proofs.Joins.{lt-not-le}
 use Rattle.models.proofs.Rising.{append, Each-rising, rising-Each, rising-snoc}

@@ -7,7 +7,7 @@ use mathlib.Core.Option.{Option, some, none}
 use lib.Dec.{leb}
 use Rattle.arithmetic.specs.Refusal.{channelOver15, channelTwice}
 use Rattle.arithmetic.specs.Outcome.{Outcome, value, refused, refuse_unless_then_}
-use Rattle.models.specs.Entries.{among}
+use Rattle.models.specs.Lists.{member}
 use Rattle.models.specs.declared.channels.ChannelList.{ChannelList}
 use Rattle.models.specs.declared.channels.ChannelsAnswer as A
 use Rattle.models.specs.declared.channels.EntryAnswer as E
@@ -17,7 +17,7 @@ unfoldable pub listFrom : List ℕ → List ℕ → Outcome (List ℕ)
 listFrom before [] = value before
 listFrom before (c ∷ cs) =
     refuse channelOver15 unless leb c 15 then
-    refuse channelTwice unless not (among c before) then
+    refuse channelTwice unless not (member c before) then
     listFrom (before ++ (c ∷ [])) cs
 
 unfoldable pub listRule : List ℕ → Outcome (List ℕ)

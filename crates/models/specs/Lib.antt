@@ -1,7 +1,6 @@
 -- What the crate's contracts cite, each file a rule of document 01.
 pub mod Outcome
 pub mod Refusal
-pub mod Entries
 pub mod Lists
 pub mod ChannelList
 pub mod Steps
@@ -15,4 +14,4 @@ pub mod Walk
 pub mod Placing
 pub mod PlanLists
 pub mod AotModel
-pub mod Inside
+pub mod PlanInside

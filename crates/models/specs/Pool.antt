@@ -12,7 +12,7 @@ use Rattle.arithmetic.specs.Outcome.{Outcome, value, refused, refuse_unless_the
 use Rattle.arithmetic.specs.Note.{letterOf}
 use Rattle.arithmetic.specs.Pitch.{isPitch, detuningOf}
 use Rattle.arithmetic.specs.Nearest.{nearestNote}
-use Rattle.models.specs.Entries.{among, without, range, first}
+use Rattle.models.specs.Lists.{member, without, upward, first}
 use Rattle.models.specs.ChannelList.{listRule, present}
 use Rattle.models.specs.declared.jit.PoolGroupBy.{PoolGroupBy}
 use Rattle.models.specs.declared.jit.PoolGroupBy.the-variants.{NoteLetter, Channel}
@@ -69,7 +69,7 @@ fresh channels group mode =
       channels = channels;
       group = group;
       mode = mode;
-      pools = replicate (poolCount group) (record { free = range 0 (length channels); order = [] });
+      pools = replicate (poolCount group) (record { free = upward 0 (length channels); order = [] });
       keys = replicate keyCount none;
     }
 
@@ -114,7 +114,7 @@ taken s key note channel = withKey (withPool s note (takenIn (pool s note) key))
 
 -- "a release puts its channel at the back", unless the key has lost it
 unfoldable pub freedIn : Pool → ℕ → ℕ → Pool
-freedIn p key channel = cond (among key (p .order)) (record { free = behind (p .free) channel; order = without key (p .order) }) p
+freedIn p key channel = cond (member key (p .order)) (record { free = behind (p .free) channel; order = without key (p .order) }) p
 
 unfoldable pub freed : State → ℕ → Place → State
 freed s key place = withPool s (place .note) (freedIn (pool s (place .note)) key (place .channel))

@@ -29,7 +29,7 @@ ghost use Rattle.models.specs.AotModel.{
   setTuningOfPitches,
   tuningOf,
 };
-ghost use Rattle.models.specs.Inside.{Accepted, Ready, Seats, channelsWith, leastFrom, linesOf, lower, slotOf, waits};
+ghost use Rattle.models.specs.PlanInside.{Accepted, Ready, Seats, channelsWith, leastFrom, linesOf, lower, slotOf, waits};
 use crate::channels::ChannelList;
 use crate::channels::ChannelsAnswer;
 use crate::waiting::KEYS;

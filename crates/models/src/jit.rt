@@ -7,7 +7,7 @@ ghost use Prim.Native.Nat.{_<_, _≤_};
 ghost use lib.ListN.{length};
 ghost use Rattle.arithmetic.specs.Note.{isNote};
 ghost use Rattle.arithmetic.specs.Outcome.{value};
-ghost use Rattle.models.specs.Entries.{range, first};
+ghost use Rattle.models.specs.Lists.{upward, first};
 ghost use Rattle.models.specs.ChannelList.{entries};
 ghost use Rattle.models.specs.Pool.{poolCount, poolOf, fresh, pool, found, takenIn, freedIn, withPool, freed, forgotten, oldest, roomFor, madeRoom, taken, pressed, released, heldKeys, stopped, replied, unlessHeld, registerRule, repitchRule, openRule};
 ghost use Rattle.models.specs.JitModel.{place, nextHeld, poolView, view, told, repitched, opened};
@@ -427,7 +427,7 @@ impl JitTuningModel {
 impl JitPool {
     fn new(num_channels: u8) -> JitPool
         requires { ⌜ «num_channels» ≤ 16 ⌝ }
-        ensures { λ r. ⌜ poolView r ≡ record { free = range 0 «num_channels»; order = [] } ⌝ }
+        ensures { λ r. ⌜ poolView r ≡ record { free = upward 0 «num_channels»; order = [] } ⌝ }
     {
         let free = Queue::counting(num_channels);
         let order = Queue::new();

@@ -5,7 +5,7 @@ ghost use mathlib.Core.Bool.{true};
 ghost use mathlib.Core.Option.{some, none};
 ghost use lib.ListN.{getD, set, replicate, drop};
 ghost use Rattle.arithmetic.specs.Note.{isNote};
-ghost use Rattle.models.specs.Entries.{first};
+ghost use Rattle.models.specs.Lists.{first};
 ghost use Rattle.models.specs.Pool.{keyCount, heldFrom};
 ghost use Rattle.models.specs.JitModel.{records, place, nextHeld};
 use arithmetic::note::is_note;

@@ -4,7 +4,7 @@ ghost use mathlib.Core.Path.{_≡_};
 ghost use mathlib.Core.List.{[]};
 ghost use Prim.Native.Nat.{_≤_};
 ghost use lib.ListN.{length, take, drop};
-ghost use Rattle.models.specs.Entries.{among, range, without, first};
+ghost use Rattle.models.specs.Lists.{member, upward, without, first};
 ghost use Rattle.models.specs.JitModel.{items};
 ghost use Rattle.models.specs.PoolInside.{front};
 ghost use Rattle.models.specs.Pool.{behind};
@@ -35,7 +35,7 @@ impl Queue {
     // The numbers from 0 upward, n of them.
     pub(crate) fn counting(n: u8) -> Queue
         requires { ⌜ n ≤ 16 ⌝ }
-        ensures { λ r. ⌜ items r ≡ range 0 n ⌝ }
+        ensures { λ r. ⌜ items r ≡ upward 0 n ⌝ }
     {
         Queue {
             slots: [0, 1, 2, 3, 4, 5, 6, 7, 8, 9, 10, 11, 12, 13, 14, 15],
@@ -96,7 +96,7 @@ impl Queue {
     }
 
     pub(crate) fn has(self, x: u8) -> bool
-        ensures { λ r. ⌜ r ≡ among x (items self) ⌝ }
+        ensures { λ r. ⌜ r ≡ member x (items self) ⌝ }
     {
         let size = self.size();
         let slots = self.slots;

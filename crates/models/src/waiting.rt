@@ -10,7 +10,7 @@ ghost use lib.Ieee.Positive.{positive};
 ghost use Rattle.models.specs.Lists.{member};
 ghost use Rattle.models.specs.Line.{Line};
 ghost use Rattle.models.specs.PlanLists.{isPlanned, keys, noteLists, pitchLists};
-ghost use Rattle.models.specs.Inside.{Accepted, Fine, Holds, before, inOrder, putIn, waits};
+ghost use Rattle.models.specs.PlanInside.{Accepted, Fine, Holds, before, inOrder, putIn, waits};
 use arithmetic::note::is_note;
 use arithmetic::pitch::Pitch;
 use arithmetic::pitch::Ratio;

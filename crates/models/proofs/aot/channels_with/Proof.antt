@@ -5,7 +5,7 @@ use Prim.Native.Nat.{ℕ, zero, suc, _+_}
 use native.Mathlib.Numerals.{add-one}
 use lib.Ieee.{Float}
 use Rattle.models.specs.Line.{joins}
-use Rattle.models.specs.Inside.{channelsWith}
+use Rattle.models.specs.PlanInside.{channelsWith}
 use borrow.Author.Needs.{needs}
 use Rattle.models.proofs.aot.channels_with.Statement.{statement}
 use Rattle.models.proofs.aot.channels_with.Tie as tie

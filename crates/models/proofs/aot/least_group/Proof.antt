@@ -12,7 +12,7 @@ use lib.ListN.{length, getD, drop}
 use mir.Syntax.{w32}
 use mir.Val.{toZ, ofZ}
 use mir.Facts.{toZ-ofZ}
-use Rattle.models.specs.Inside.{lower, leastFrom}
+use Rattle.models.specs.PlanInside.{lower, leastFrom}
 use Rattle.models.proofs.aot.least_group.Statement.{statement}
 use Rattle.models.proofs.aot.least_group.Tie as tie
 

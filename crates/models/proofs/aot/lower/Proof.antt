@@ -14,7 +14,7 @@ use Rattle.models.proofs.Records.{in-note}
 use mathlib.Core.Path.{_≡_, refl, sym, ap, _∙_}
 use borrow.Author.Tests.{not-true, not-false}
 use mir.Facts.{toZ-ofZ}
-use Rattle.models.specs.Inside.{lower}
+use Rattle.models.specs.PlanInside.{lower}
 use borrow.Author.Needs.{needs}
 use Rattle.models.proofs.aot.lower.Statement.{statement}
 use Rattle.models.proofs.aot.lower.Tie as tie

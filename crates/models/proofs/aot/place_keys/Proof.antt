@@ -20,7 +20,7 @@ use Rattle.models.specs.Lists.{Each}
 use Rattle.models.specs.declared.aot.KeyRecord.{KeyRecord}
 use Rattle.models.specs.Line.{Line, group}
 use Rattle.models.specs.AotModel.{isIn}
-use Rattle.models.specs.Inside.{lineAt, linesOf, channelsWith, slotOf}
+use Rattle.models.specs.PlanInside.{lineAt, linesOf, channelsWith, slotOf}
 use Rattle.models.proofs.Arrays.{rest-cons, rest-nil}
 use Rattle.models.proofs.Models.{allOut, out-at}
 use Rattle.models.proofs.OnePass.{numberOfNext}

@@ -5,7 +5,7 @@ use lib.IntN.{ℤ, pos, negsuc, _-ℤ_}
 use mir.Facts.{toZ-ofZ}
 use mir.Syntax.{w32}
 use mir.Val.{toZ, ofZ}
-use Rattle.models.specs.Inside.{slotOf}
+use Rattle.models.specs.PlanInside.{slotOf}
 use Rattle.models.proofs.Slots.{slot-is, slot-fits, slot-below}
 use Rattle.models.proofs.aot.slot.Statement.{statement}
 use Rattle.models.proofs.aot.slot.Tie as tie

@@ -18,7 +18,7 @@ use Rattle.arithmetic.proofs.Notes.{no-note, a-note}
 use Rattle.models.specs.declared.waiting.Waiting.{Waiting}
 use Rattle.models.specs.Lists.{member}
 use Rattle.models.specs.Line.{Line}
-use Rattle.models.specs.Inside.{Accepted, Holds}
+use Rattle.models.specs.PlanInside.{Accepted, Holds}
 use borrow.Author.Needs.{needs}
 use lib.ListN.{length, getD, drop}
 use Rattle.models.specs.PlanLists.{isPlanned, keys, noteLine, noteLines, lineByLine, noteLists}

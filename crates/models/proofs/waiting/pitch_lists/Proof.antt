@@ -20,7 +20,7 @@ use Rattle.models.specs.declared.waiting.Waiting.{Waiting}
 use Rattle.models.specs.Lists.{member}
 use Rattle.models.specs.Line.{Line}
 use Rattle.models.specs.PlanLists.{keys, pitchLine, pitchLines, lineByLine, pitchLists}
-use Rattle.models.specs.Inside.{Accepted, Holds}
+use Rattle.models.specs.PlanInside.{Accepted, Holds}
 use Rattle.models.proofs.Lines.{Turn, Sound, begins, turned-down, twice, room, onward, ended, ended-early, pitch-line-at, pitch-lines-end, nearest-sound, nearest-refused, a-pitch-line, no-pitch-line, pitch-lists-equal, pitch-lists-unequal}
 use Rattle.models.proofs.waiting.pitch_lists.Statement.{statement}
 use Rattle.models.proofs.waiting.pitch_lists.Tie as tie

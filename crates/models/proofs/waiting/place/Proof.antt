@@ -11,7 +11,7 @@ use Prim.Native.Nat.{_≤_, _+_, _-_}
 use native.Mathlib.Omega.{arith}
 use borrow.Author.Needs.{needs}
 use lib.ListN.{take, drop}
-use Rattle.models.specs.Inside.{before}
+use Rattle.models.specs.PlanInside.{before}
 use Rattle.models.proofs.waiting.place.Statement.{statement}
 use Rattle.models.proofs.waiting.place.Tie as tie
 

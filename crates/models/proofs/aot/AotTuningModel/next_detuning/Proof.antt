@@ -7,7 +7,7 @@ use mir.Syntax.{w32}
 use mir.Val.{SFits, toZ, ofZ}
 use mir.Facts.{toZ-ofZ}
 use Rattle.models.specs.AotModel.{detuningAnswer, detuningIn, nextRule}
-use Rattle.models.specs.Inside.{leastFrom}
+use Rattle.models.specs.PlanInside.{leastFrom}
 use Rattle.models.proofs.NextEntry.{entry-found, entry-lost}
 use borrow.Author.Needs.{needs}
 use Rattle.models.proofs.aot.AotTuningModel.next_detuning.Statement.{statement}

@@ -8,7 +8,7 @@ use lib.ListN.{length}
 use Rattle.arithmetic.specs.Outcome.{Outcome, value}
 use Rattle.models.specs.ChannelList.{entries}
 use Rattle.models.specs.Line.{Line, rising}
-use Rattle.models.specs.Inside.{Accepted, Ready, linesOf, waits}
+use Rattle.models.specs.PlanInside.{Accepted, Ready, linesOf, waits}
 use Rattle.models.specs.AotModel.{Model, modelOf, planned, detuningIn, tuned, untuned, holding, empty}
 use Rattle.models.specs.Walk.{count}
 use Rattle.models.proofs.ChannelLists.{entries-few}

@@ -3,7 +3,7 @@ use borrow.Author.Needs.{needs}
 use mathlib.Core.Path.{sym, ap, _∙_}
 use mir.Facts.{toZ-ofZ}
 use mir.Syntax.{w32}
-use Rattle.models.specs.Entries.{first}
+use Rattle.models.specs.Lists.{first}
 use Rattle.models.specs.JitModel.{place, poolView}
 use Rattle.models.specs.PoolInside.{front, old}
 use Rattle.models.specs.Pool.{Pool, pool, oldest, oldestOf, heldAt}

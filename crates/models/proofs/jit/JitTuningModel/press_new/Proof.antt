@@ -2,7 +2,7 @@
 use borrow.Author.Needs.{needs}
 use mathlib.Core.Path.{sym, ap, _∙_}
 use mir.Facts.{toZ-ofZ}
-use Rattle.models.specs.Entries.{first}
+use Rattle.models.specs.Lists.{first}
 use Rattle.models.specs.Pool.{Pool, pool, roomFor, replied}
 use Rattle.models.specs.JitModel.{view, poolView, told, press}
 use Rattle.models.specs.PoolInside.{front, roomView}

@@ -6,7 +6,7 @@ use native.Mathlib.Omega.{arith}
 use lib.ListN.{length, length-map, drop}
 use mir.Facts.{toZ-ofZ}
 use mir.Syntax.{w32}
-use Rattle.models.specs.Entries.{first}
+use Rattle.models.specs.Lists.{first}
 use Rattle.models.specs.Pool.{keyCount, heldFrom}
 use Rattle.models.specs.JitModel.{records, place, nextHeld}
 use Rattle.models.proofs.KeyRecords.{records-long}

@@ -5,13 +5,13 @@ use mathlib.Core.Path.{_≡_, refl, sym, ap, _∙_}
 use native.Mathlib.Omega.{arith}
 use borrow.Author.Tests.{eq-eqb, ne-eqb}
 use lib.ListN.{take, drop}
-use Rattle.models.specs.Entries.{among}
-use Rattle.models.proofs.Arrays.{among-turn, among-end}
+use Rattle.models.specs.Lists.{member}
+use Rattle.models.proofs.Arrays.{member-turn, member-end}
 use Rattle.models.proofs.queue.Queue.has.Statement.{statement}
 use Rattle.models.proofs.queue.Queue.has.Tie as tie
 
 abbrev Inv-loop : tie.InvT-loop
-Inv-loop x size slots i₀ i = (i ≤ size) × (among x (take size slots) ≡ among x (drop i (take size slots)))
+Inv-loop x size slots i₀ i = (i ≤ size) × (member x (take size slots) ≡ member x (drop i (take size slots)))
 
 abbrev μ-loop : tie.MeasureT-loop
 μ-loop x size slots i₀ i = size - i
@@ -31,9 +31,9 @@ returns c =
     let start = l .before .before .before .before in
     let size = l .before .before .before .size in
     sym
-    (ap (among (start .args .x)) (sym (size .ensures .3))
+    (ap (member (start .args .x)) (sym (size .ensures .3))
     ∙ l .before .loop .inv .1
-    ∙ among-turn _ _ (start .args .self .slots) _ (l .loop-test .taken) (omega arith)
+    ∙ member-turn _ _ (start .args .self .slots) _ (l .loop-test .taken) (omega arith)
     ∙ rw (eq-eqb _ _ (c .if1 .taken)))
 
 add-i : tie.Need-add-i Inv-loop μ-loop
@@ -46,14 +46,14 @@ loop-again : tie.Need-loop-again Inv-loop μ-loop
 loop-again c =
     let l = c .before in
     let start = l .before .before .before .before in
-    (omega arith, l .before .loop .inv .1 ∙ among-turn _ _ (start .args .self .slots) _ (l .loop-test .taken) (omega arith) ∙ rw (ne-eqb _ _ (c .if1 .left)))
+    (omega arith, l .before .loop .inv .1 ∙ member-turn _ _ (start .args .self .slots) _ (l .loop-test .taken) (omega arith) ∙ rw (ne-eqb _ _ (c .if1 .left)))
 
 returns-2 : tie.Need-returns-2 Inv-loop μ-loop
 returns-2 c =
     let l = c .before in
     let start = l .before .before .before in
     let size = l .before .before .size in
-    sym (ap (among (start .args .x)) (sym (size .ensures .3)) ∙ l .loop .inv .1 ∙ among-end _ _ (start .args .self .slots) _ (c .loop-test .left))
+    sym (ap (member (start .args .x)) (sym (size .ensures .3)) ∙ l .loop .inv .1 ∙ member-end _ _ (start .args .self .slots) _ (c .loop-test .left))
 
 pub has-spec : {M : Type 1} → statement M
 has-spec =

@@ -7,7 +7,7 @@ use mathlib.Core.Logic.{⊎-elim}
 use native.Mathlib.Omega.{arith}
 use lib.ListN.{length, getD, take, drop}
 use lib.Seq.{length-take-le, getD-take}
-use Rattle.models.specs.Entries.{without}
+use Rattle.models.specs.Lists.{without}
 use Rattle.models.specs.Pool.{behind}
 use Rattle.models.specs.JitModel.{items}
 use Rattle.models.proofs.Queues.{length-behind, without-here, without-other, without-ended}

@@ -5,7 +5,7 @@ use mathlib.Core.List.{List, [], _∷_}
 use Prim.Native.Nat.{ℕ, zero, suc}
 use lib.ListN.{getD}
 use Rattle.models.specs.Line.{rising}
-use Rattle.models.specs.Inside.{linesOf}
+use Rattle.models.specs.PlanInside.{linesOf}
 use Rattle.models.proofs.waiting.Waiting.none.Statement.{statement}
 use Rattle.models.proofs.waiting.Waiting.none.Tie as tie
 

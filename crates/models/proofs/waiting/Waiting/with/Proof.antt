@@ -6,7 +6,7 @@ use lib.ListN.{length, length-append}
 use mir.Facts.{toZ-ofZ}
 use mir.Syntax.{w32}
 use mir.Val.{toZ, ofZ}
-use Rattle.models.specs.Inside.{linesOf}
+use Rattle.models.specs.PlanInside.{linesOf}
 use Rattle.models.proofs.Waits.{ordered-with, seen-with}
 use borrow.Author.Needs.{needs}
 use Rattle.models.proofs.waiting.Waiting.with.Statement.{statement}
