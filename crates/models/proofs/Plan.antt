@@ -15,7 +15,7 @@ use Rattle.models.specs.declared.aot.GroupBy.{GroupBy}
 use Rattle.models.specs.Line.{Line, group, ofGroup, joins, rising}
 use Rattle.models.specs.Walk.{walk, count, channels}
 use Rattle.models.specs.PlanInside.{Accepted}
-use Rattle.models.specs.Placing.{Placing, together, Steps, InOrder, uses, Best, NoneFits}
+use Rattle.models.specs.Placing.{Placing, together, Joined, InOrder, uses, Best, NoneFits}
 use Rattle.models.proofs.ListLaws.{outcome, passed, failed, T→true, true→T, not-false, Each-map, Each-keep, Each-image, own-image, map-same, within, once-within, once-new, once-cons, once-exact, Pairwise, Pairwise-keep, keep-yes, keep-no, keep-same, keep-keep, keep-swap}
 use Rattle.models.proofs.Joins.{joins-mono}
 use Rattle.models.specs.PlanLists.{keys}
@@ -34,7 +34,7 @@ module _ (p : Placing) where
   abbrev on : ℕ → Line → Bool
   on c l = eqb (p (l .key)) c
 
-  steps-tail : (x : Line) (l : List Line) → Steps (x ∷ l) → Steps l
+  steps-tail : (x : Line) (l : List Line) → Joined (x ∷ l) → Joined l
   steps-tail x [] h = tt
   steps-tail x (y ∷ l) h = h .1
 
@@ -48,19 +48,19 @@ module _ (p : Placing) where
 
   -- where x and y are on either side of a gap, no key from y on is on x's channel
   apart : (x y : Line) (l : List Line) → UpTo x y → Each (UpTo y) l → joins (x .detuning) (y .detuning) ≡ false
-      → Steps (keep (on (number x)) (x ∷ y ∷ l)) → member (number x) (map number (y ∷ l)) ≡ false
+      → Joined (keep (on (number x)) (x ∷ y ∷ l)) → member (number x) (map number (y ∷ l)) ≡ false
   apart x y l h s j k = elim (outcome (member (number x) (map number (y ∷ l)))) [
     | passed e ↦
         let r = first-on (λ (z : Line). T (joins (x .detuning) (z .detuning)) → T (joins (x .detuning) (y .detuning))) (number x) (y ∷ l)
         (λ t. t, Each-map (λ z u t. joins-mono (x .detuning) (y .detuning) (z .detuning) (h .first) (h .second) (u .second) (h .ordered) (u .ordered) t) l s)
         (true→T e) in
-        let q : Steps (x ∷ r .0 ∷ r .2) = rw (keep-yes (on (number x)) x (y ∷ l) (T→true (on (number x) x) (eqb-refl (number x))), r .3) at k in
+        let q : Joined (x ∷ r .0 ∷ r .2) = rw (keep-yes (on (number x)) x (y ∷ l) (T→true (on (number x) x) (eqb-refl (number x))), r .3) at k in
         absurd (not-false j (r .1 (q .0)))
     | failed e ↦ e
   ]
 
   -- the list's keys of one group, in rising order
-  pub runs-least : (l : List Line) → Sorted l → ((c : ℕ) → Steps (keep (on c) l)) → runs none l ≤ length (once (map number l))
+  pub runs-least : (l : List Line) → Sorted l → ((c : ℕ) → Joined (keep (on c) l)) → runs none l ≤ length (once (map number l))
   runs-least [] s h = zero-le
   runs-least (x ∷ []) s h = le-refl 1
   runs-least (x ∷ y ∷ l) s h =
@@ -70,7 +70,7 @@ module _ (p : Placing) where
         | failed j ↦ rw (j, once-new (number x) (map number (y ∷ l)) (apart x y l (s .0 .0) (s .1 .0) j (h (number x)))) (suc-le-suc r)
       ]
     where
-      tail : (c : ℕ) → Steps (keep (on c) (y ∷ l))
+      tail : (c : ℕ) → Joined (keep (on c) (y ∷ l))
       tail c = elim (outcome (on c x)) [
         | passed e ↦ steps-tail x (keep (on c) (y ∷ l)) (rw (keep-yes (on c) x (y ∷ l) e) at (h c))
         | failed e ↦ rw (keep-no (on c) x (y ∷ l) e) at (h c)
@@ -109,7 +109,7 @@ module _ (kind : GroupBy) (lines : List Line) (ok : Accepted lines) where
       ∙ sym (keep-keep (on p c) (ofGroup kind g) (rising lines))
 
   -- ---- no placing in order uses fewer channels than the walk
-  group-steps : (p : Placing) → InOrder kind lines p → (g : ℤ) (c : ℕ) → Steps (keep (on p c) (keep (ofGroup kind g) (rising lines)))
+  group-steps : (p : Placing) → InOrder kind lines p → (g : ℤ) (c : ℕ) → Joined (keep (on p c) (keep (ofGroup kind g) (rising lines)))
   group-steps p h g c = rw (keep-swap (ofGroup kind g) (on p c) (rising lines), ← together-is p c g) (h c g)
 
   group-least : (p : Placing) → InOrder kind lines p → (g : ℤ) → runs none (keep (ofGroup kind g) (rising lines)) ≤ uses lines p

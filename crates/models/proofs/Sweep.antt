@@ -16,7 +16,7 @@ use Rattle.models.specs.Lists.{Each, keep, member}
 use Rattle.models.specs.declared.aot.GroupBy.{GroupBy}
 use Rattle.models.specs.Line.{Line, group, same, ofGroup, joins}
 use Rattle.models.specs.Walk.{latest, accepts, takes, next, here, later, channels}
-use Rattle.models.specs.Placing.{Steps}
+use Rattle.models.specs.Placing.{Joined}
 use Rattle.models.proofs.ListLaws.{outcome, passed, failed, T→true, true→T, not-false, Each-map, Each-all, own-image, Pairwise, keep-no, keep-same, keep-keep}
 use Rattle.models.proofs.Joins.{joins-mono}
 use Rattle.models.specs.PlanLists.{keys}
@@ -65,7 +65,7 @@ abbrev pub StepsFrom : Option Float → List Line → Type 0
 StepsFrom o [] = Unit {0}
 StepsFrom o (x ∷ l) = T (accepts o (x .detuning)) × StepsFrom (some (x .detuning)) l
 
-pub steps : (o : Option Float) (l : List Line) → StepsFrom o l → Steps l
+pub steps : (o : Option Float) (l : List Line) → StepsFrom o l → Joined l
 unfolding accepts
 steps o [] h = tt
 steps o (x ∷ []) h = tt
@@ -307,7 +307,7 @@ module _ (kind : GroupBy) where
           (i .0, omega (arith, i .1, runs-off (i .0) [] (x ∷ w) (unfold latest in refl) s))
 
   -- within a group, each channel's keys follow each other
-  pub channels-steps : (n : ℕ) (w : List Line) (c : ℕ) (g : ℤ) → Steps (keep (ofGroup kind g) (getD (channels kind n w) c []))
+  pub channels-steps : (n : ℕ) (w : List Line) (c : ℕ) (g : ℤ) → Joined (keep (ofGroup kind g) (getD (channels kind n w) c []))
   unfolding channels
   channels-steps zero w c g = tt
   channels-steps (suc n) [] c g = tt

@@ -15,12 +15,12 @@ use Rattle.models.specs.declared.aot.GroupBy.the-variants.{Note, NoteLet
 use Rattle.models.specs.declared.aot.KeyRecord.{KeyRecord}
 use Rattle.models.specs.declared.aot.AotTuningModel.{AotTuningModel}
 use Rattle.models.specs.declared.aot.Access as A
-use Rattle.models.specs.declared.aot.Tuning as T
+use Rattle.models.specs.declared.aot.PlanAnswer as T
 use Rattle.models.specs.declared.aot.DetuningAnswer as D
 use Rattle.models.specs.declared.aot.NextAnswer as N
 use Rattle.models.specs.declared.aot.SetTuning.{SetTuning}
 use Rattle.models.specs.declared.aot.Opened.{Opened}
-use Rattle.models.specs.ChannelList.{entries, listRule, channelsAnswer}
+use Rattle.models.specs.ChannelList.{entries, listRule, present, channelsAnswer}
 use Rattle.models.specs.Line.{Line, group, same}
 use Rattle.models.specs.Walk.{count, seat, entry}
 use Rattle.models.specs.Placing.{Demand3}
@@ -44,13 +44,9 @@ pub record Model : Type 0 where
 abbrev pub empty : List ℕ → GroupBy → Model
 empty cs by = record { channels = cs; groupBy = by; tuned = false; numChannels = length cs; keys = λ k. none; detunings = λ c g. none }
 
--- the list's entries, none of a list that is refused
-abbrev pub accepted : Outcome (List ℕ) → List ℕ
-accepted (value cs) = cs
-accepted (Outcome.refused n) = []
-
+-- "a model without a sender takes such a list too"; one that is opened with a refused list has no channels
 unfoldable pub openRule : List ℕ → GroupBy → Model × Outcome (List ℕ)
-openRule cs by = (empty (accepted (listRule cs)) by, listRule cs)
+openRule cs by = (empty (present (listRule cs)) by, listRule cs)
 
 -- ---- planning
 
@@ -160,10 +156,10 @@ abbrev pub accessAnswer : A.Access → Option (ℕ × ℤ)
 accessAnswer (A.the-variants.Found c n) = some (c, n)
 accessAnswer A.the-variants.NotFound = none
 
-abbrev pub tuningAnswer : T.Tuning → Answer
-tuningAnswer (T.the-variants.Tuned n) = tuned n
-tuningAnswer (T.the-variants.Untuned n) = untuned n
-tuningAnswer (T.the-variants.Refused n) = refused n
+abbrev pub planAnswer : T.PlanAnswer → Answer
+planAnswer (T.the-variants.Tuned n) = tuned n
+planAnswer (T.the-variants.Untuned n) = untuned n
+planAnswer (T.the-variants.Refused n) = refused n
 
 abbrev pub detuningAnswer : D.DetuningAnswer → Option Float
 detuningAnswer (D.the-variants.Detuning d) = some d
@@ -173,8 +169,8 @@ abbrev pub nextAnswer : N.NextAnswer → Option (ℤ × Float)
 nextAnswer (N.the-variants.Entry g d) = some (g, d)
 nextAnswer N.the-variants.NoEntry = none
 
-abbrev pub tuningOf : SetTuning → Model × Answer
-tuningOf r = (modelOf (r .model), tuningAnswer (r .answer))
+abbrev pub outcomeOf : SetTuning → Model × Answer
+outcomeOf r = (modelOf (r .model), planAnswer (r .answer))
 
 abbrev pub openedOf : Opened → Model × Outcome (List ℕ)
 openedOf r = (modelOf (r .model), channelsAnswer (r .answer))

@@ -21,13 +21,13 @@ unfoldable pub together : GroupBy → List Line → Placing → ℕ → ℤ → 
 together kind lines p c g = rising (keep (λ (l : Line). eqb (p (l .key)) c && ofGroup kind g l) lines)
 
 -- "every detuning divided by the one before it in f64 gives at least 0.999999 and less than 1.000001"
-abbrev pub Steps : List Line → Type 0
-Steps [] = Unit {0}
-Steps (x ∷ []) = Unit {0}
-Steps (x ∷ y ∷ l) = T (joins (x .detuning) (y .detuning)) × Steps (y ∷ l)
+abbrev pub Joined : List Line → Type 0
+Joined [] = Unit {0}
+Joined (x ∷ []) = Unit {0}
+Joined (x ∷ y ∷ l) = T (joins (x .detuning) (y .detuning)) × Joined (y ∷ l)
 
 abbrev pub InOrder : GroupBy → List Line → Placing → Type 0
-InOrder kind lines p = (c : ℕ) (g : ℤ) → Steps (together kind lines p c g)
+InOrder kind lines p = (c : ℕ) (g : ℤ) → Joined (together kind lines p c g)
 
 -- "It uses the channels whose number at least one key has": how many.
 unfoldable pub uses : List Line → Placing → ℕ

@@ -12,7 +12,6 @@ ghost use Rattle.models.specs.Line.{Line, group, joins, rising};
 ghost use Rattle.models.specs.PlanLists.{noteLists, pitchLists};
 ghost use Rattle.models.specs.AotModel.{
   Smallest,
-  accepted,
   accessAnswer,
   detuningAnswer,
   empty,
@@ -27,12 +26,13 @@ ghost use Rattle.models.specs.AotModel.{
   planned,
   setTuning,
   setTuningOfPitches,
-  tuningOf,
+  outcomeOf,
 };
 ghost use Rattle.models.specs.PlanInside.{Accepted, Ready, Seats, channelsWith, leastFrom, linesOf, lower, slotOf, waits};
 use crate::channels::ChannelList;
 use crate::channels::ChannelsAnswer;
-use crate::waiting::KEYS;
+use crate::channels::present;
+use crate::keys::KEYS;
 use crate::waiting::Waiting;
 use crate::waiting::note_lists;
 use crate::waiting::pitch_lists;
@@ -58,7 +58,7 @@ pub enum Access {
 }
 
 // What a tuning answers.
-pub enum Tuning {
+pub enum PlanAnswer {
     // How many channels the plan uses.
     Tuned(u16),
     // How many it would need; there are fewer.
@@ -97,7 +97,7 @@ pub struct KeyRecord {
 // A model of tunings that are planned.
 pub struct AotTuningModel {
     // By key.
-    records: [KeyRecord; 256],
+    records: [KeyRecord; KEYS],
     channels: ChannelList,
     group_by: GroupBy,
     num_channels: u8,
@@ -107,7 +107,7 @@ pub struct AotTuningModel {
 // A tuning's answer beside the model.
 pub struct SetTuning {
     pub model: AotTuningModel,
-    pub answer: Tuning,
+    pub answer: PlanAnswer,
 }
 
 // The channel list's answer beside the model. A list that is refused opens a model without channels.
@@ -122,7 +122,7 @@ impl AotTuningModel {
         ensures { λ r. ⌜ openedOf r ≡ openRule (now (channels .entry)) «group_by» ⌝ }
     {
         let answer = ChannelList::of(channels);
-        let list = listed_channels(answer);
+        let list = present(answer);
         Opened {
             model: AotTuningModel::empty(list, group_by),
             answer: answer,
@@ -139,7 +139,7 @@ impl AotTuningModel {
                 note: 0,
                 channel: NO_CHANNEL,
                 detuning: 1.0,
-            }; 256],
+            }; KEYS],
             channels: channels,
             group_by: group_by,
             num_channels: num_channels,
@@ -149,16 +149,16 @@ impl AotTuningModel {
 
     // Plans keys with their notes and detunings. Refuses 12, then line by line 4, 3, 5.
     pub fn set_tuning(self, keys: &[u8], notes: &[i32], detunings: &[f64]) -> SetTuning
-        ensures { λ r. ⌜ tuningOf r ≡ setTuning (modelOf self) (now (keys .entry)) (now (notes .entry)) (now (detunings .entry)) ⌝ }
-        ensures { λ r. ⌜ Smallest (modelOf self) (noteLists (now (keys .entry)) (now (notes .entry)) (now (detunings .entry))) (tuningOf r) ⌝ }
+        ensures { λ r. ⌜ outcomeOf r ≡ setTuning (modelOf self) (now (keys .entry)) (now (notes .entry)) (now (detunings .entry)) ⌝ }
+        ensures { λ r. ⌜ Smallest (modelOf self) (noteLists (now (keys .entry)) (now (notes .entry)) (now (detunings .entry))) (outcomeOf r) ⌝ }
     {
         self.with_plan(note_lists(keys, notes, detunings))
     }
 
     // Plans keys with their pitches in Hz: each has the nearest note. Refuses 12, then line by line 1, 5.
     pub fn set_tuning_of_pitches(self, keys: &[u8], pitches: &[f64]) -> SetTuning
-        ensures { λ r. ⌜ tuningOf r ≡ setTuningOfPitches (modelOf self) (now (keys .entry)) (now (pitches .entry)) ⌝ }
-        ensures { λ r. ⌜ Smallest (modelOf self) (pitchLists (now (keys .entry)) (now (pitches .entry))) (tuningOf r) ⌝ }
+        ensures { λ r. ⌜ outcomeOf r ≡ setTuningOfPitches (modelOf self) (now (keys .entry)) (now (pitches .entry)) ⌝ }
+        ensures { λ r. ⌜ Smallest (modelOf self) (pitchLists (now (keys .entry)) (now (pitches .entry))) (outcomeOf r) ⌝ }
     {
         self.with_plan(pitch_lists(keys, pitches))
     }
@@ -232,13 +232,13 @@ impl AotTuningModel {
     // The model with the plan of the keys that wait, if there are channels enough.
     fn with_plan(self, waiting: Waiting) -> SetTuning
         requires { ⌜ (waiting .count ≤ 256) × Ready (waits waiting) ⌝ }
-        ensures { λ r. ⌜ tuningOf r ≡ planned (modelOf self) (waits waiting) ⌝ }
+        ensures { λ r. ⌜ outcomeOf r ≡ planned (modelOf self) (waits waiting) ⌝ }
     {
         let refusal = waiting.refusal;
         if refusal != 0 {
             return SetTuning {
                 model: self,
-                answer: Tuning::Refused(refusal),
+                answer: PlanAnswer::Refused(refusal),
             };
         }
         let by = self.group_by;
@@ -249,7 +249,7 @@ impl AotTuningModel {
         if present < count {
             return SetTuning {
                 model: AotTuningModel::empty(channels, by),
-                answer: Tuning::Untuned(count),
+                answer: PlanAnswer::Untuned(count),
             };
         }
         let records = plan.records;
@@ -262,17 +262,8 @@ impl AotTuningModel {
                 num_channels: num_channels,
                 tuned: true,
             },
-            answer: Tuning::Tuned(count),
+            answer: PlanAnswer::Tuned(count),
         }
-    }
-}
-
-fn listed_channels(answer: ChannelsAnswer) -> ChannelList
-    ensures { λ r. ⌜ entries r ≡ accepted (channelsAnswer answer) ⌝ }
-{
-    match answer {
-        ChannelsAnswer::Listed(list) => list,
-        ChannelsAnswer::Refused(_) => ChannelList::none(),
     }
 }
 
@@ -333,7 +324,7 @@ fn channels_with(used: u16, before: f64, detuning: f64) -> u16
 
 // The keys on their channels, by key, and how many channels that takes.
 struct Plan {
-    records: [KeyRecord; 256],
+    records: [KeyRecord; KEYS],
     count: u16,
 }
 
@@ -350,7 +341,7 @@ fn place_keys(waiting: Waiting, by: GroupBy) -> Plan
         note: 0,
         channel: NO_CHANNEL,
         detuning: 1.0,
-    }; 256];
+    }; KEYS];
     let mut latest = [1.0; GROUPS];
     let mut used = [0u16; GROUPS];
     let mut count: u16 = 0;
@@ -405,7 +396,7 @@ fn larger(detuning: f64, other: DetuningAnswer) -> DetuningAnswer
 }
 
 // The largest detuning of a group's keys up to a channel. The keys of a group come to their channels by rising detuning, so it is the one that came last.
-fn highest(records: [KeyRecord; 256], by: GroupBy, channel: u8, group: i32) -> DetuningAnswer
+fn highest(records: [KeyRecord; KEYS], by: GroupBy, channel: u8, group: i32) -> DetuningAnswer
     ensures { λ r. ⌜ detuningAnswer r ≡ highest by channel group records ⌝ }
 {
     let mut best = DetuningAnswer::NoEntry;
@@ -423,7 +414,7 @@ fn highest(records: [KeyRecord; 256], by: GroupBy, channel: u8, group: i32) -> D
 }
 
 // The least group, not below `from`, of a key up to a channel; the number above all groups if there is none.
-fn least_group(records: [KeyRecord; 256], by: GroupBy, channel: u8, from: i32) -> i32
+fn least_group(records: [KeyRecord; KEYS], by: GroupBy, channel: u8, from: i32) -> i32
     ensures { λ r. ⌜ r ≡ leastFrom by channel from (pos 501) records ⌝ }
 {
     let mut least = HIGHEST_NOTE + 1;

@@ -11,6 +11,7 @@ ghost use Rattle.models.specs.Lists.{member};
 ghost use Rattle.models.specs.Line.{Line};
 ghost use Rattle.models.specs.PlanLists.{isPlanned, keys, noteLists, pitchLists};
 ghost use Rattle.models.specs.PlanInside.{Accepted, Fine, Holds, before, inOrder, putIn, waits};
+use crate::keys::KEYS;
 use arithmetic::note::is_note;
 use arithmetic::pitch::Pitch;
 use arithmetic::pitch::Ratio;
@@ -21,19 +22,16 @@ use arithmetic::refusal::NOTE_OUT_OF_RANGE;
 use arithmetic::tuning::Approximation;
 use arithmetic::tuning::find_by_pitch;
 
-// How many keys there are: a key is a byte.
-pub(crate) const KEYS: usize = 256;
-
 pub struct Waiting {
     // 0, or the number of a refusal; nothing waits then.
     pub refusal: u8,
     // The keys by rising detuning, equal ones in list order: the first `count`.
-    pub order: [u8; 256],
+    pub order: [u8; KEYS],
     pub count: usize,
     // By key.
-    pub seen: [bool; 256],
-    pub notes: [i32; 256],
-    pub detunings: [f64; 256],
+    pub seen: [bool; KEYS],
+    pub notes: [i32; KEYS],
+    pub detunings: [f64; KEYS],
 }
 
 // The lists of keys, notes and detunings. Refuses 12, then line by line 4, 3, 5.
@@ -115,11 +113,11 @@ impl Waiting {
     {
         Waiting {
             refusal: refusal,
-            order: [0; 256],
+            order: [0; KEYS],
             count: 0,
-            seen: [false; 256],
-            notes: [0; 256],
-            detunings: [1.0; 256],
+            seen: [false; KEYS],
+            notes: [0; KEYS],
+            detunings: [1.0; KEYS],
         }
     }
 
@@ -152,7 +150,7 @@ impl Waiting {
 }
 
 // How many of the first `n` keys come before a detuning: those up to the first with a higher one.
-fn place(order: [u8; 256], n: usize, detuning: f64, detunings: &[f64; 256]) -> usize
+fn place(order: [u8; KEYS], n: usize, detuning: f64, detunings: &[f64; KEYS]) -> usize
     requires { ⌜ n ≤ 256 ⌝ }
     ensures { λ r. ⌜ r ≡ before (now (detunings .entry)) detuning (take n order) ⌝ }
 {
@@ -169,7 +167,7 @@ fn place(order: [u8; 256], n: usize, detuning: f64, detunings: &[f64; 256]) -> u
 }
 
 // The first `n` keys, and one more at its place.
-fn insert(order: [u8; 256], n: usize, key: u8, detunings: &[f64; 256]) -> [u8; 256]
+fn insert(order: [u8; KEYS], n: usize, key: u8, detunings: &[f64; KEYS]) -> [u8; KEYS]
     requires { ⌜ n < 256 ⌝ }
     ensures { λ r. ⌜ take (n + 1) r ≡ putIn (now (detunings .entry)) key (take n order) ⌝ }
 {

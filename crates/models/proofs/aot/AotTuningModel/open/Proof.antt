@@ -2,7 +2,8 @@
 use mathlib.Core.Path.{_≡_, ap, _∙_}
 use mathlib.Core.List.{List}
 use Prim.Native.Nat.{ℕ}
-use Rattle.models.specs.AotModel.{openRule, empty, accepted}
+use Rattle.models.specs.AotModel.{openRule, empty}
+use Rattle.models.specs.ChannelList.{present}
 use borrow.Author.Needs.{needs}
 use Rattle.models.proofs.aot.AotTuningModel.open.Statement.{statement}
 use Rattle.models.proofs.aot.AotTuningModel.open.Tie as tie
@@ -10,8 +11,8 @@ use Rattle.models.proofs.aot.AotTuningModel.open.Tie as tie
 of-requires : tie.Need-of-requires
 of-requires c κs = search needs
 
-listed-channels-requires : tie.Need-listed-channels-requires
-listed-channels-requires c κs = search needs
+present-requires : tie.Need-present-requires
+present-requires c κs = search needs
 
 empty-requires : tie.Need-empty-requires
 empty-requires c κs = search needs
@@ -20,7 +21,7 @@ returns : tie.Need-returns
 unfolding openRule
 returns c =
     let o = c .before .before .of .ensures in
-    λ i. ((c .empty .ensures ∙ ap (λ (cs : List ℕ). empty cs (c .before .before .before .before .args .group-by)) (c .before .listed-channels .ensures ∙ ap accepted o)) i, o i)
+    λ i. ((c .empty .ensures ∙ ap (λ (cs : List ℕ). empty cs (c .before .before .before .before .args .group-by)) (c .before .present .ensures ∙ ap present o)) i, o i)
 
 pub open-spec : {M : Type 1} → statement M
-open-spec = tie.close (tie.spec of-requires listed-channels-requires empty-requires returns)
+open-spec = tie.close (tie.spec of-requires present-requires empty-requires returns)
