@@ -6,7 +6,7 @@ use models::aot::AotTuningModel;
 use models::aot::GroupBy;
 use models::aot::NextAnswer;
 use models::aot::SetTuning;
-use models::aot::Tuning;
+use models::aot::PlanAnswer;
 use models::channels::ChannelsAnswer;
 use show::float;
 use show::number;
@@ -27,15 +27,15 @@ fn done(name: &[u8], planned: SetTuning) -> AotTuningModel {
     word(name);
     let answer = planned.answer;
     match answer {
-        Tuning::Tuned(n) => {
+        PlanAnswer::Tuned(n) => {
             word(b" tuned");
             number(n as u64);
         }
-        Tuning::Untuned(n) => {
+        PlanAnswer::Untuned(n) => {
             word(b" untuned");
             number(n as u64);
         }
-        Tuning::Refused(n) => refusal(n),
+        PlanAnswer::Refused(n) => refusal(n),
     }
     let model = planned.model;
     word(b", model");
