@@ -150,6 +150,13 @@ channels-low before (c ∷ cs) f (suc i) h = channels-low (before ++ (c ∷ []))
 pub channels-few : (cs : List ℕ) → Channels [] cs → length cs ≤ 16
 channels-few cs f = pigeonhole 16 cs (channels-fresh [] cs f) (channels-low [] cs f)
 
+-- A listed list is the one that was given: at most sixteen entries, none of them twice, each below 16.
+pub listed-well : (cs l : List ℕ) → listRule cs ≡ value l
+    → (l ≡ cs) × (length l ≤ 16) × Fresh [] l × ((i : ℕ) → i < length l → getD l i 0 < 16)
+listed-well cs l e =
+    let given = listed-channels cs l e in
+    rw (given .0) (refl, channels-few cs (given .1), channels-fresh [] cs (given .1), channels-low [] cs (given .1))
+
 -- ---- the loop over the entries: before entry i the rule of all is that of those from i on
 
 module _ (cs : List ℕ) (i : ℕ) (inv : listRule cs ≡ listFrom (take i cs) (drop i cs)) where
