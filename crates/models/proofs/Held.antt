@@ -37,7 +37,7 @@ use Rattle.models.proofs.Unique.{le-antisym}
 use Rattle.models.proofs.Carried.{lastOf, heard, entry-is, no-entry, largest}
 
 -- ---- lists
-zip : {A : Type 0} {P Q R : A → Type 0} → ((x : A) → P x → Q x → R x) → (l : List A) → Each P l → Each Q l → Each R l
+pub zip : {A : Type 0} {P Q R : A → Type 0} → ((x : A) → P x → Q x → R x) → (l : List A) → Each P l → Each Q l → Each R l
 zip f [] h k = tt
 zip f (x ∷ l) h k = (f x (h .0) (k .0), zip f l (h .1) (k .1))
 
@@ -45,7 +45,7 @@ zip3 : {A : Type 0} {P Q R S : A → Type 0} → ((x : A) → P x → Q x → R 
 zip3 f [] h k m = tt
 zip3 f (x ∷ l) h k m = (f x (h .0) (k .0) (m .0), zip3 f l (h .1) (k .1) (m .1))
 
-at-key : (P : Line → Type 0) (k : ℕ) (l : List Line) → Each P l → T (member k (keys l)) → (x : Line) × (x .key ≡ k) × P x
+pub at-key : (P : Line → Type 0) (k : ℕ) (l : List Line) → Each P l → T (member k (keys l)) → (x : Line) × (x .key ≡ k) × P x
 at-key P k [] h m = absurd m
 at-key P k (x ∷ l) h m = elim (or-cases (eqb (x .key) k) (member k (keys l)) m) [
   | inl e ↦ (x, eqb→eq (x .key) k e, h .0)
@@ -53,7 +53,7 @@ at-key P k (x ∷ l) h m = elim (or-cases (eqb (x .key) k) (member k (keys l)) m
 ]
 
 -- what holds of those that are kept holds of each that passes the test
-of-kept : {A : Type 0} (P : A → Type 0) (f : A → Bool) (l : List A) → Each P (keep f l) → Each (λ (x : A). f x ≡ true → P x) l
+pub of-kept : {A : Type 0} (P : A → Type 0) (f : A → Bool) (l : List A) → Each P (keep f l) → Each (λ (x : A). f x ≡ true → P x) l
 of-kept P f [] h = tt
 of-kept P f (x ∷ l) h = elim (outcome (f x)) [
   | passed e ↦ let k : Each P (x ∷ keep f l) = rw e at h in (λ u. k .0, of-kept P f l (k .1))
