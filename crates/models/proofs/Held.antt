@@ -4,7 +4,7 @@ use mathlib.Core.Path.{_≡_, refl, sym, ap, _∙_, subst}
 use mathlib.Core.Bool.{Bool, true, false, _&&_, cond}
 use mathlib.Core.List.{List, [], _∷_}
 use mathlib.Core.Option.{Option, none, some}
-use Prim.Native.Nat.{ℕ, zero, suc, _<_, _≤_}
+use Prim.Native.Nat.{ℕ, _<_, _≤_}
 use native.Mathlib.Nat.{le-of-eq}
 use native.Mathlib.Omega.{arith}
 use borrow.Author.Tests.{lt-ltb, ltb-true, ltb-false}
@@ -24,14 +24,14 @@ use Rattle.models.specs.PlanLists.{keys}
 use Rattle.models.specs.Walk.{count, seat, entry}
 use Rattle.models.specs.AotModel.{nobody, isIn, keyIn, larger, counts, highest}
 use Rattle.models.specs.Inside.{Accepted, Seats}
-use Rattle.models.proofs.ListLaws.{outcome, passed, failed, T→true, true→T, not-false, or-cases, Each-map, Each-keep, Pairwise, Pairwise-keep, own-image}
-use mathlib.Core.Logic.{_⊎_, inl, inr}
+use Rattle.models.proofs.ListLaws.{outcome, passed, failed, T→true, true→T, not-false, or-cases, Each-map, Each-keep, Pairwise, Pairwise-keep}
+use mathlib.Core.Logic.{inl, inr}
 use Rattle.models.proofs.Joins.{le-total}
 use Rattle.models.proofs.Rising.{UpTo, Each-rising, rising-Each}
 use Rattle.models.proofs.Plan.{channel, sorted, below-count}
 use Rattle.models.proofs.Seats.{kept, seated-lines, unseated}
 use Rattle.models.proofs.Waits.{others-of}
-use Rattle.models.proofs.Records.{each-at, at-each, at-any}
+use Rattle.models.proofs.Records.{each-at, at-each}
 use Rattle.models.proofs.Models.{out-counts}
 use Rattle.models.proofs.Unique.{le-antisym}
 use Rattle.models.proofs.Carried.{lastOf, heard, entry-is, no-entry, largest}

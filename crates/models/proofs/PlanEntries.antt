@@ -1,11 +1,11 @@
 -- What a planned model's detuning entries are: each is an f64 that is finite and above zero, so that it can be measured; and in channel groups each channel of
 -- the plan has one, and no other channel has a key. Assumes nothing.
 use mathlib.Core.Path.{_≡_, refl, sym, ap, _∙_, subst}
-use mathlib.Core.Logic.{_⊎_, inl, inr}
+use mathlib.Core.Logic.{inl, inr}
 use mathlib.Core.Bool.{Bool, true, false, cond}
 use mathlib.Core.List.{List, [], _∷_, map}
 use mathlib.Core.Option.{Option, none, some}
-use Prim.Native.Nat.{ℕ, _<_, _≤_}
+use Prim.Native.Nat.{ℕ, _<_}
 use native.Mathlib.Omega.{arith}
 use borrow.Author.Tests.{ltb-true, ltb-false, le-leb}
 use lib.Dec.{T, eqb, eqb→eq, leb, ltb}
@@ -13,7 +13,7 @@ use lib.IntN.{ℤ, pos}
 use lib.Ieee.{Float}
 use lib.Ieee.Positive.{positive}
 use lib.ListN.{length}
-use Rattle.arithmetic.specs.Outcome.{Outcome, value}
+use Rattle.arithmetic.specs.Outcome.{value}
 use Rattle.models.specs.declared.aot.GroupBy.{GroupBy}
 use Rattle.models.specs.declared.aot.GroupBy.the-variants.{Channel}
 use Rattle.models.specs.Lists.{Each, keep, member}
@@ -21,8 +21,8 @@ use Rattle.models.specs.Line.{Line, group, ofGroup, rising}
 use Rattle.models.specs.PlanLists.{keys}
 use Rattle.models.specs.Walk.{count, seat, entry}
 use Rattle.models.specs.AotModel.{Model, Answer, tuned, untuned, holding, empty, planned}
-use Rattle.models.specs.Inside.{Accepted, Fine}
-use Rattle.models.proofs.ListLaws.{outcome, passed, failed, true→T, T→true, not-false, or-cases, Each-map, Each-keep, Pairwise, Pairwise-keep}
+use Rattle.models.specs.Inside.{Accepted}
+use Rattle.models.proofs.ListLaws.{outcome, passed, failed, true→T, or-cases, Each-map, Each-keep, Pairwise, Pairwise-keep}
 use Rattle.models.proofs.Rising.{UpTo, Each-rising, rising-Each}
 use Rattle.models.proofs.Plan.{channel, sorted, below-count, used}
 use Rattle.models.proofs.Seats.{seated-lines, unseated}

@@ -1,11 +1,10 @@
 -- Document 01's examples 9 and 10, computed from the rules that the contracts cite. Assumes nothing.
 use mathlib.Core.Path.{_≡_, refl}
 use mathlib.Core.Bool.{false}
-use mathlib.Core.List.{List, [], _∷_}
+use mathlib.Core.List.{[], _∷_}
 use mathlib.Core.Option.{some}
-use Prim.Native.Nat.{ℕ}
 use lib.IntN.{pos}
-use lib.Ieee.{Float, binary64, ofBits, round, div, le, lt}
+use lib.Ieee.{binary64, ofBits, round, div, le, lt}
 use Rattle.arithmetic.specs.Pitch.{negligible, negligibleFrom, negligibleBelow}
 use Rattle.models.specs.declared.aot.GroupBy.the-variants.{Channel}
 use Rattle.models.specs.Line.{group, ofGroup, insert, rising, joins}

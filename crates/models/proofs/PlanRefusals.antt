@@ -2,14 +2,13 @@
 -- Assumes nothing.
 use mathlib.Core.Path.{_≡_, refl, sym, ap, _∙_, subst}
 use mathlib.Core.Logic.{_⊎_, inl, inr}
-use mathlib.Core.Bool.{Bool, true, false, not, _&&_, cond}
+use mathlib.Core.Bool.{Bool, true, false, _&&_, cond}
 use mathlib.Core.List.{List, [], _∷_, _++_, map, append-assoc, append-nil}
 use Prim.Native.Nat.{ℕ}
 use native.Mathlib.Omega.{arith}
-use lib.Dec.{T, eqb, eqb→eq, leb}
+use lib.Dec.{T, eqb, leb}
 use lib.IntN.{ℤ}
 use lib.Ieee.{Float}
-use lib.Ieee.Fits.{and-l, and-r}
 use lib.ListN.{length}
 use Rattle.arithmetic.specs.Outcome.{Outcome, value, refused}
 use Rattle.arithmetic.specs.Note.{isNote}
@@ -20,8 +19,8 @@ use Rattle.models.specs.Line.{Line}
 use Rattle.models.specs.PlanLists.{isPlanned, keys, noteLine, noteLines, pitchLine, pitchLines, lineByLine, noteLists, pitchLists}
 use Rattle.models.specs.Walk.{count}
 use Rattle.models.specs.AotModel as M
-use Rattle.models.proofs.ListLaws.{outcome, passed, failed, true→T}
-use Rattle.models.proofs.Lines.{nearest-refused, no-pitch-line}
+use Rattle.models.proofs.ListLaws.{outcome, passed, failed}
+use Rattle.models.proofs.Lines.{nearest-refused}
 
 -- ---- the first line that is refused decides
 
