@@ -2,33 +2,14 @@
 
 ghost use mathlib.Core.Path.{_≡_};
 ghost use mathlib.Core.Bool.{true, _&&_};
-ghost use mathlib.Core.List.{List};
 ghost use Prim.Native.Nat.{_<_, _≤_};
 ghost use lib.Dec.{leb};
 ghost use lib.IntN.{pos};
 ghost use Rattle.arithmetic.specs.Note.{isNote};
 ghost use Rattle.models.specs.ChannelList.{channelsAnswer, entries};
-ghost use Rattle.models.specs.Line.{Line, group, joins, rising};
+ghost use Rattle.models.specs.Line.{group, joins, rising};
 ghost use Rattle.models.specs.PlanLists.{keyCount, noteLists, pitchLists};
-ghost use Rattle.models.specs.AotModel.{
-  Smallest,
-  accepted,
-  accessAnswer,
-  detuningAnswer,
-  empty,
-  highest,
-  isIn,
-  larger,
-  modelOf,
-  nextAnswer,
-  nextRule,
-  openRule,
-  openedOf,
-  planned,
-  setTuning,
-  setTuningOfPitches,
-  tuningOf,
-};
+ghost use Rattle.models.specs.AotModel.{Smallest, accepted, accessAnswer, detuningAnswer, empty, highest, isIn, larger, modelOf, nextAnswer, nextRule, openRule, openedOf, planned, setTuning, setTuningOfPitches, tuningOf};
 ghost use Rattle.models.specs.Inside.{Accepted, Ready, Seats, channelsWith, leastFrom, linesOf, lower, slotOf, waits};
 use crate::channels::ChannelList;
 use crate::channels::ChannelsAnswer;

@@ -6,6 +6,7 @@ ghost use mathlib.Core.List.{List, _∷_, _++_, []};
 ghost use Prim.Native.Nat.{_<_, _≤_, _+_};
 ghost use lib.Dec.{T};
 ghost use lib.ListN.{take};
+ghost use lib.Ieee.{lt};
 ghost use lib.Ieee.Positive.{positive};
 ghost use Rattle.models.specs.Lists.{member};
 ghost use Rattle.models.specs.Line.{Line};
@@ -160,7 +161,7 @@ fn place(order: [u8; KEYS], n: usize, detuning: f64, detunings: &[f64; KEYS]) ->
     while at < n {
         let key = order[at] as usize;
         let other = detunings[key];
-        if Ratio::from_float(detuning).lt(Ratio::from_float(other)) {
+        if is_below(detuning, other) {
             return at;
         }
         at += 1;
@@ -186,4 +187,11 @@ fn insert(order: [u8; KEYS], n: usize, key: u8, detunings: &[f64; KEYS]) -> [u8;
     }
     order[n] = carry;
     order
+}
+
+// Whether a detuning is below another. Equal ones stand in list order, so an equal one is not.
+fn is_below(detuning: f64, other: f64) -> bool
+    ensures { λ r. ⌜ r ≡ lt detuning other ⌝ }
+{
+    Ratio::from_float(detuning).lt(Ratio::from_float(other))
 }
