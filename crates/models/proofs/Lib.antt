@@ -35,3 +35,6 @@ pub mod Carried
 pub mod NextEntry
 pub mod Held
 pub mod Planned
+pub mod PlanRefusals
+pub mod PlanEntries
+pub mod PlanExamples

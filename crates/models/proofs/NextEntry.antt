@@ -1,13 +1,13 @@
 -- The next entry: the least group from a number on that has a detuning on a channel is the first that the list of all groups shows. Assumes nothing.
-use mathlib.Core.Path.{_≡_, refl, sym, ap, _∙_, subst}
+use mathlib.Core.Path.{_≡_, refl, sym, ap, subst}
 use mathlib.Core.Logic.{_⊎_, inl, inr}
 use mathlib.Core.Bool.{Bool, true, false, _&&_, cond}
 use mathlib.Core.List.{List, [], _∷_}
 use mathlib.Core.Option.{Option, none, some}
 use Prim.Native.Nat.{ℕ, zero, suc, _+_, _<_, _≤_}
 use native.Mathlib.Omega.{arith}
-use borrow.Author.Tests.{ltb-true, ltb-false, leb-true, leb-false, lt-ltb, le-ltb, le-leb, lt-leb}
-use lib.Dec.{T, leb, ltb}
+use borrow.Author.Tests.{ltb-true, ltb-false, leb-true, leb-false}
+use lib.Dec.{leb}
 use lib.IntN.{ℤ, pos, negsuc, _+ℤ_}
 use lib.Signed.{leZ, ltZ}
 use lib.Ieee.{Float, le}
@@ -21,7 +21,7 @@ use Rattle.models.specs.declared.aot.GroupBy.the-variants.{Note, NoteLet
 use Rattle.models.specs.declared.aot.KeyRecord.{KeyRecord}
 use Rattle.models.specs.Lists.{Each}
 use Rattle.models.specs.Line.{group, same}
-use Rattle.models.specs.AotModel.{isIn, counts, highest, larger, numbersFrom, groups, entryAt, firstEntry}
+use Rattle.models.specs.AotModel.{isIn, counts, highest, larger, numbersFrom, groups, firstEntry}
 use Rattle.models.specs.PlanInside.{lower, leastFrom}
 use Rattle.models.proofs.ListLaws.{outcome, passed, failed, T→true, true→T, not-false}
 use Rattle.models.proofs.Sweep.{same-eq}

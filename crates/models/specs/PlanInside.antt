@@ -1,8 +1,8 @@
 -- What the private functions of a plan yield. No public contract cites it. Assumes nothing.
 use mathlib.Core.Path.{_≡_}
-use mathlib.Core.Bool.{Bool, true, false, cond, _&&_}
+use mathlib.Core.Bool.{true, false, cond, _&&_}
 use mathlib.Core.List.{List, [], _∷_, _++_, map}
-use mathlib.Core.Option.{Option, none, some}
+use mathlib.Core.Option.{some}
 use Prim.Native.Nat.{ℕ, zero, suc, _+_, _-_, _<_}
 use lib.Dec.{T, eqb, leb}
 use lib.IntN.{ℤ, pos, negsuc}
@@ -20,12 +20,12 @@ use Rattle.models.specs.Lists.{Each, member, Distinct}
 use Rattle.models.specs.Line.{Line, joins, rising, group}
 use Rattle.models.specs.Walk.{count, seat}
 use Rattle.models.specs.AotModel.{nobody, isIn}
-use Rattle.models.specs.PlanLists.{keys}
+use Rattle.models.specs.PlanLists.{keyCount, keys}
 
 -- What a list is that meets no refusal: its keys are distinct bytes, its notes are notes, its detunings are f64s, finite and above zero.
 pub record Accepted (lines : List Line) : Type 0 where
   pub distinct : Distinct (keys lines)
-  pub bytes : Each (λ (l : Line). l .key < 256) lines
+  pub bytes : Each (λ (l : Line). l .key < keyCount) lines
   pub notes : Each (λ (l : Line). isNote (l .note) ≡ true) lines
   pub detunings : Each (λ (l : Line). T (positive (l .detuning))) lines
   pub fitting : Each (λ (l : Line). T (fits binary64 (l .detuning))) lines
@@ -86,7 +86,7 @@ pub record Seats (by : GroupBy) (lines : List Line) (p : Plan) : Type 0 where
   pub note-is : Each (λ (l : Line). getD (p .records) (l .key) nobody .note ≡ l .note) lines
   pub detuning-is : Each (λ (l : Line). getD (p .records) (l .key) nobody .detuning ≡ l .detuning) lines
   pub no-other : (k : ℕ) → Each (λ (l : Line). eqb (l .key) k ≡ false) lines → isIn (getD (p .records) k nobody) ≡ false
-  pub long : length (p .records) ≡ 256
+  pub long : length (p .records) ≡ keyCount
 
 -- lines in order, as a plan needs them
 abbrev pub Ready : Outcome (List Line) → Type 0

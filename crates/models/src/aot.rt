@@ -2,32 +2,14 @@
 
 ghost use mathlib.Core.Path.{_≡_};
 ghost use mathlib.Core.Bool.{true, _&&_};
-ghost use mathlib.Core.List.{List};
 ghost use Prim.Native.Nat.{_<_, _≤_};
 ghost use lib.Dec.{leb};
 ghost use lib.IntN.{pos};
 ghost use Rattle.arithmetic.specs.Note.{isNote};
 ghost use Rattle.models.specs.ChannelList.{channelsAnswer, entries};
-ghost use Rattle.models.specs.Line.{Line, group, joins, rising};
-ghost use Rattle.models.specs.PlanLists.{noteLists, pitchLists};
-ghost use Rattle.models.specs.AotModel.{
-  Smallest,
-  accessAnswer,
-  detuningAnswer,
-  empty,
-  highest,
-  isIn,
-  larger,
-  modelOf,
-  nextAnswer,
-  nextRule,
-  openRule,
-  openedOf,
-  planned,
-  setTuning,
-  setTuningOfPitches,
-  outcomeOf,
-};
+ghost use Rattle.models.specs.Line.{group, joins, rising};
+ghost use Rattle.models.specs.PlanLists.{keyCount, noteLists, pitchLists};
+ghost use Rattle.models.specs.AotModel.{Smallest, accessAnswer, detuningAnswer, empty, highest, isIn, larger, modelOf, nextAnswer, nextRule, openRule, openedOf, planned, setTuning, setTuningOfPitches, outcomeOf};
 ghost use Rattle.models.specs.PlanInside.{Accepted, Ready, Seats, channelsWith, leastFrom, linesOf, lower, slotOf, waits};
 use crate::channels::ChannelList;
 use crate::channels::ChannelsAnswer;
@@ -231,7 +213,7 @@ impl AotTuningModel {
 
     // The model with the plan of the keys that wait, if there are channels enough.
     fn with_plan(self, waiting: Waiting) -> SetTuning
-        requires { ⌜ (waiting .count ≤ 256) × Ready (waits waiting) ⌝ }
+        requires { ⌜ (waiting .count ≤ keyCount) × Ready (waits waiting) ⌝ }
         ensures { λ r. ⌜ outcomeOf r ≡ planned (modelOf self) (waits waiting) ⌝ }
     {
         let refusal = waiting.refusal;
@@ -330,7 +312,7 @@ struct Plan {
 
 // One pass over the keys in order. Each group's last detuning and the channels that it uses so far tell a key's channel.
 fn place_keys(waiting: Waiting, by: GroupBy) -> Plan
-    requires { ⌜ (waiting .count ≤ 256) × Accepted (linesOf waiting) × (rising (linesOf waiting) ≡ linesOf waiting) ⌝ }
+    requires { ⌜ (waiting .count ≤ keyCount) × Accepted (linesOf waiting) × (rising (linesOf waiting) ≡ linesOf waiting) ⌝ }
     ensures { λ r. ⌜ Seats by (linesOf waiting) r ⌝ }
 {
     let order = waiting.order;

@@ -6,10 +6,11 @@ ghost use mathlib.Core.List.{List, _∷_, _++_, []};
 ghost use Prim.Native.Nat.{_<_, _≤_, _+_};
 ghost use lib.Dec.{T};
 ghost use lib.ListN.{take};
+ghost use lib.Ieee.{lt};
 ghost use lib.Ieee.Positive.{positive};
 ghost use Rattle.models.specs.Lists.{member};
 ghost use Rattle.models.specs.Line.{Line};
-ghost use Rattle.models.specs.PlanLists.{isPlanned, keys, noteLists, pitchLists};
+ghost use Rattle.models.specs.PlanLists.{isPlanned, keyCount, keys, noteLists, pitchLists};
 ghost use Rattle.models.specs.PlanInside.{Accepted, Fine, Holds, before, inOrder, putIn, waits};
 use crate::keys::KEYS;
 use arithmetic::note::is_note;
@@ -37,7 +38,7 @@ pub struct Waiting {
 // The lists of keys, notes and detunings. Refuses 12, then line by line 4, 3, 5.
 pub(crate) fn note_lists(keys: &[u8], notes: &[i32], detunings: &[f64]) -> Waiting
     ensures { λ r. ⌜ waits r ≡ inOrder (noteLists (now (keys .entry)) (now (notes .entry)) (now (detunings .entry))) ⌝ }
-    ensures { λ r. ⌜ Fine (noteLists (now (keys .entry)) (now (notes .entry)) (now (detunings .entry))) × (r .count ≤ 256) ⌝ }
+    ensures { λ r. ⌜ Fine (noteLists (now (keys .entry)) (now (notes .entry)) (now (detunings .entry))) × (r .count ≤ keyCount) ⌝ }
 {
     let n = keys.len();
     if notes.len() != n {
@@ -71,7 +72,7 @@ pub(crate) fn note_lists(keys: &[u8], notes: &[i32], detunings: &[f64]) -> Waiti
 // The lists of keys and pitches in Hz. Refuses 12, then line by line 1, 5.
 pub(crate) fn pitch_lists(keys: &[u8], pitches: &[f64]) -> Waiting
     ensures { λ r. ⌜ waits r ≡ inOrder (pitchLists (now (keys .entry)) (now (pitches .entry))) ⌝ }
-    ensures { λ r. ⌜ Fine (pitchLists (now (keys .entry)) (now (pitches .entry))) × (r .count ≤ 256) ⌝ }
+    ensures { λ r. ⌜ Fine (pitchLists (now (keys .entry)) (now (pitches .entry))) × (r .count ≤ keyCount) ⌝ }
 {
     let n = keys.len();
     if pitches.len() != n {
@@ -123,7 +124,7 @@ impl Waiting {
 
     // One key more.
     fn with(self, key: u8, note: i32, detuning: f64) -> Waiting
-        requires { ⌜ self .count < 256 ⌝ }
+        requires { ⌜ self .count < keyCount ⌝ }
         ensures { λ r.
             ⌜ ((lines : List Line) → Holds self lines → Accepted lines → member key (keys lines) ≡ false → T (positive detuning)
             → Holds r (lines ++ (record { key = key; note = note; detuning = detuning } ∷ []))) ⌝ }
@@ -151,14 +152,14 @@ impl Waiting {
 
 // How many of the first `n` keys come before a detuning: those up to the first with a higher one.
 fn place(order: [u8; KEYS], n: usize, detuning: f64, detunings: &[f64; KEYS]) -> usize
-    requires { ⌜ n ≤ 256 ⌝ }
+    requires { ⌜ n ≤ keyCount ⌝ }
     ensures { λ r. ⌜ r ≡ before (now (detunings .entry)) detuning (take n order) ⌝ }
 {
     let mut at: usize = 0;
     while at < n {
         let key = order[at] as usize;
         let other = detunings[key];
-        if Ratio::from_float(detuning).lt(Ratio::from_float(other)) {
+        if is_below(detuning, other) {
             return at;
         }
         at += 1;
@@ -168,7 +169,7 @@ fn place(order: [u8; KEYS], n: usize, detuning: f64, detunings: &[f64; KEYS]) ->
 
 // The first `n` keys, and one more at its place.
 fn insert(order: [u8; KEYS], n: usize, key: u8, detunings: &[f64; KEYS]) -> [u8; KEYS]
-    requires { ⌜ n < 256 ⌝ }
+    requires { ⌜ n < keyCount ⌝ }
     ensures { λ r. ⌜ take (n + 1) r ≡ putIn (now (detunings .entry)) key (take n order) ⌝ }
 {
     let own = key as usize;
@@ -184,4 +185,11 @@ fn insert(order: [u8; KEYS], n: usize, key: u8, detunings: &[f64; KEYS]) -> [u8;
     }
     order[n] = carry;
     order
+}
+
+// Whether a detuning is below another. Equal ones stand in list order, so an equal one is not.
+fn is_below(detuning: f64, other: f64) -> bool
+    ensures { λ r. ⌜ r ≡ lt detuning other ⌝ }
+{
+    Ratio::from_float(detuning).lt(Ratio::from_float(other))
 }

@@ -1,5 +1,5 @@
 -- `models::aot::highest` meets its contract. The loop's invariant: what was found is the largest of the records from `i` on. Assumes nothing.
-use mathlib.Core.Path.{_≡_, refl, sym, ap, _∙_}
+use mathlib.Core.Path.{_≡_, sym, ap, _∙_}
 use mathlib.Core.Bool.{Bool, true, false, _&&_}
 use mathlib.Core.List.{List}
 use Prim.Native.Nat.{ℕ, _≤_, _-_}
@@ -19,7 +19,7 @@ use Rattle.models.specs.Line.{group}
 use Rattle.models.specs.AotModel.{counts, detuningAnswer, highest, isIn, larger}
 use Rattle.arithmetic.specs.Note.{isNote}
 use Rattle.models.proofs.Slots.{group-note}
-use Rattle.models.proofs.Records.{long-field, highest-none, highest-yes, highest-no, counts-not, counts-own, counts-other, in-note}
+use Rattle.models.proofs.Records.{highest-none, highest-yes, highest-no, counts-not, counts-own, counts-other, in-note}
 use Rattle.models.proofs.aot.highest.Statement.{statement}
 use Rattle.models.proofs.aot.highest.Tie as tie
 

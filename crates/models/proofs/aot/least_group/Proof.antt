@@ -1,16 +1,15 @@
 -- `models::aot::least_group` meets its contract. The loop's invariant: the records from `i` on go on from the least so far. Assumes nothing.
 use lib.Ieee.{nan}
-use mir.Val.{SFits}
+use mir.Val.{SFits, toZ, ofZ}
 use Rattle.models.specs.declared.aot.KeyRecord.{KeyRecord}
 use Rattle.models.proofs.Records.{least-next, least-end}
 use mathlib.Core.Path.{_≡_, refl, sym, ap, _∙_}
-use Prim.Native.Nat.{ℕ, _≤_, _-_, _+_}
+use Prim.Native.Nat.{_≤_, _-_, _+_}
 use native.Mathlib.Omega.{arith}
 use borrow.Author.Needs.{needs}
 use lib.IntN.{ℤ, pos}
-use lib.ListN.{length, getD, drop}
+use lib.ListN.{length, drop}
 use mir.Syntax.{w32}
-use mir.Val.{toZ, ofZ}
 use mir.Facts.{toZ-ofZ}
 use Rattle.models.specs.PlanInside.{lower, leastFrom}
 use Rattle.models.proofs.aot.least_group.Statement.{statement}

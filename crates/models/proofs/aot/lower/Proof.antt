@@ -11,7 +11,7 @@ use Rattle.models.specs.Line.{group}
 use Rattle.models.specs.AotModel.{isIn}
 use Rattle.models.proofs.Slots.{group-note}
 use Rattle.models.proofs.Records.{in-note}
-use mathlib.Core.Path.{_≡_, refl, sym, ap, _∙_}
+use mathlib.Core.Path.{_≡_, sym, ap, _∙_}
 use borrow.Author.Tests.{not-true, not-false}
 use mir.Facts.{toZ-ofZ}
 use Rattle.models.specs.PlanInside.{lower}

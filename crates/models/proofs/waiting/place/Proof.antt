@@ -1,16 +1,13 @@
 -- `models::waiting::place` meets its contract. The loop's invariant: what stands before the place is as many as were passed and those still to pass. Assumes nothing.
 
-use lib.Ieee.{Float, nan, lt}
-use lib.ListN.{length, getD}
-use Prim.Native.Nat.{ℕ, _<_}
+use lib.ListN.{length, getD, take, drop}
+use Prim.Native.Nat.{ℕ, _<_, _≤_, _+_, _-_}
 use mir.Syntax.{w8}
 use mir.Val.{Fits}
 use Rattle.models.proofs.Insertion.{place-begins, place-here, place-next, place-ends}
-use mathlib.Core.Path.{_≡_, refl, sym, ap, _∙_}
-use Prim.Native.Nat.{_≤_, _+_, _-_}
+use mathlib.Core.Path.{_≡_, sym, ap, _∙_}
 use native.Mathlib.Omega.{arith}
 use borrow.Author.Needs.{needs}
-use lib.ListN.{take, drop}
 use Rattle.models.specs.PlanInside.{before}
 use Rattle.models.proofs.waiting.place.Statement.{statement}
 use Rattle.models.proofs.waiting.place.Tie as tie
@@ -42,27 +39,14 @@ mul-other c = omega (arith, byte (c .before .before) (c .before .loop .at))
 element-copy-out-other : tie.Need-element-copy-out-other Inv-loop μ-loop
 element-copy-out-other c = omega (arith, byte (c .before .before) (c .before .loop .at))
 
-from-float-requires : tie.Need-from-float-requires Inv-loop μ-loop
-from-float-requires c κs = search needs
-
-from-float-requires-2 : tie.Need-from-float-requires-2 Inv-loop μ-loop
-from-float-requires-2 c κs = search needs
-
-lt-requires : tie.Need-lt-requires Inv-loop μ-loop
-lt-requires c κs = search needs
-
-compared : (c : tie.After-lt Inv-loop μ-loop) →
-    lt (c .before .before .before .before .before .before .args .detuning) (getD (c .before .before .before .before .before .before .args .detunings .now) (getD (c .before .before .before .before .before .before .args .t1) (c .before .before .before .before .before .loop .at) 0) nan) ≡ c .lt .result
-compared c =
-    sym
-    (c .lt .ensures ∙ ap (λ (x : Float). lt x (c .before .from-float2 .result .«float_value»)) (c .before .before .from-float .ensures)
-    ∙ ap (λ (x : Float). lt (c .before .before .before .before .before .before .args .detuning) x) (c .before .from-float2 .ensures))
+is-below-requires : tie.Need-is-below-requires Inv-loop μ-loop
+is-below-requires c κs = search needs
 
 returns : tie.Need-returns Inv-loop μ-loop
 returns c =
-    let l = c .before .before .before .before .before .before in
+    let l = c .before .before .before .before in
     let a = l .before .args in
-    let z : before (a .detunings .now) (a .detuning) (drop (l .loop .at) (take (a .n) (a .t1))) ≡ 0 = place-here (a .detunings .now) (a .detuning) (a .n) (a .t1) (l .loop .at) (omega arith) (omega (arith, long (l .before))) (compared (c .before) ∙ c .if1 .taken) in
+    let z : before (a .detunings .now) (a .detuning) (drop (l .loop .at) (take (a .n) (a .t1))) ≡ 0 = place-here (a .detunings .now) (a .detuning) (a .n) (a .t1) (l .loop .at) (omega arith) (omega (arith, long (l .before))) (sym (c .before .is-below .ensures) ∙ c .if1 .taken) in
     omega (arith, l .loop .inv .1, z)
 
 add-at : tie.Need-add-at Inv-loop μ-loop
@@ -73,9 +57,9 @@ loop-less c = omega arith
 
 loop-again : tie.Need-loop-again Inv-loop μ-loop
 loop-again c =
-    let l = c .before .before .before .before .before .before in
+    let l = c .before .before .before .before in
     let a = l .before .args in
-    let z = place-next (a .detunings .now) (a .detuning) (a .n) (a .t1) (l .loop .at) (omega arith) (omega (arith, long (l .before))) (compared (c .before) ∙ c .if1 .left) in
+    let z = place-next (a .detunings .now) (a .detuning) (a .n) (a .t1) (l .loop .at) (omega arith) (omega (arith, long (l .before))) (sym (c .before .is-below .ensures) ∙ c .if1 .left) in
     (omega arith, omega (arith, l .loop .inv .1, z))
 
 returns-2 : tie.Need-returns-2 Inv-loop μ-loop
@@ -95,9 +79,7 @@ place-spec =
     cast-key
     mul-other
     element-copy-out-other
-    from-float-requires
-    from-float-requires-2
-    lt-requires
+    is-below-requires
     returns
     add-at
     loop-less

@@ -1,15 +1,12 @@
 -- `models::aot::AotTuningModel::with_plan` meets its contract, by the refusal, or by the count and the channels present. Assumes nothing.
 use mathlib.Core.Path.{_≡_, refl, sym, ap, _∙_, subst}
-use mathlib.Core.List.{List}
-use Prim.Native.Nat.{ℕ, _≤_, _<_}
+use Prim.Native.Nat.{_≤_, _<_}
 use mathlib.Core.Bool.{true}
 use native.Mathlib.Omega.{arith}
 use lib.ListN.{length}
-use Rattle.arithmetic.specs.Outcome.{Outcome, value}
-use Rattle.models.specs.ChannelList.{entries}
-use Rattle.models.specs.Line.{Line, rising}
-use Rattle.models.specs.PlanInside.{Accepted, Ready, linesOf, waits}
-use Rattle.models.specs.AotModel.{Model, modelOf, planned, detuningIn, tuned, untuned, holding, empty}
+use Rattle.models.specs.Line.{rising}
+use Rattle.models.specs.PlanInside.{Accepted, Ready, linesOf}
+use Rattle.models.specs.AotModel.{modelOf, planned, detuningIn, tuned, untuned, holding, empty}
 use Rattle.models.specs.Walk.{count}
 use Rattle.models.proofs.ChannelLists.{entries-few}
 use Rattle.models.proofs.Models.{same-model, waits-refused, waits-lines, planned-tuned, planned-untuned}
