@@ -4,6 +4,7 @@ pub mod Bends
 pub mod Messages
 pub mod Sizes
 pub mod Notes
+pub mod Channels
 pub mod Reading
 pub mod Bytes
 pub mod Hearing
