@@ -127,6 +127,15 @@ module _ {R S T : Type 0} {view : T → S} {rule : Outcome (Effect R S)} {s : T}
           let k : bufferTooShort ≡ n = cc in
           record { told-is = simp (e, h, k); moved-is = rw (e, h) refl; left-is = rw (e, h) l }
 
+-- sent, by a call that answers how many bytes it sent
+pub ends-written-counted :
+    {S T : Type 0} {view : T → S} {rule : Outcome (Effect ℕ S)} {s back : T} {next : S} {bs old new : List ℕ} {n : ℕ} → rule ≡ sends bs next
+    → Answers (sent bs) old (value n) new → view back ≡ next → Steps view rule s old (value n) back new
+ends-written-counted {view = view} {rule = rule} {s = s} {back = back} {next = next} {bs = bs} {old = old} {new = new} {n = n} e p m =
+    let f : Effect ℕ _ = record { says = length bs; bytes = bs; next = next } in
+    let q : length bs ≡ n = sym (counted {bs = bs} {old = old} {new = new} p) in
+    rw q at (ends-written {view = view} {s = s} {old = old} {new = new} {f = f} {n = n} {back = back} e p m)
+
 -- ---- what a call that was accepted did
 
 pub record Accepted {R S : Type 0} (rule : Outcome (Effect R S)) (old : List ℕ) (answer : R) (next : S) (new : List ℕ) : Type 0 where

@@ -4,11 +4,13 @@ pub mod Bends
 pub mod Messages
 pub mod Sizes
 pub mod Notes
-pub mod Channels
 pub mod Reading
 pub mod Bytes
 pub mod Hearing
 pub mod Received
 pub mod Each
+pub mod Channels
+pub mod Stops
+pub mod Presses
 pub mod Refusals
 pub mod Examples

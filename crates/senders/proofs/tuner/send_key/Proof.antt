@@ -30,7 +30,7 @@ unfolding place
 returns c =
     let s = c .before .before .before in
     let a = s .args in
-    ends-counted (rw (c .enum-told .given .1)) (put-none 0 _) (omega arith) refl
+    rw (c .enum-told .given .1) (ends-counted refl (put-none 0 _) (omega arith) refl)
 
 key-len-requires : tie.Need-key-len-requires
 key-len-requires c κs = search needs
@@ -42,7 +42,7 @@ returns-2 c =
     let g = k .before .found .given in
     let a = k .before .before .before .before .args in
     let l = rw (plain k) at (c .before .key-len .ensures) in
-    ends-short (rw (g .1)) (omega (arith, l, key-size (a .kind) (entries (a .channels)) (g .0 .0) (g .0 .1 .0) (a .value)))
+    rw (g .1) (ends-short refl (omega (arith, l, key-size (a .kind) (entries (a .channels)) (g .0 .0) (g .0 .1 .0) (a .value))))
 
 put-key-requires : tie.Need-put-key-requires
 put-key-requires c κs =
@@ -64,11 +64,12 @@ returns-3 c =
     let g = k .before .found .given in
     let a = k .before .before .before .before .args in
     let l = rw (plain k) at (p .before .before .before .key-len .ensures) in
-    ends-counted
-    (rw (g .1))
+    rw (g .1)
+    (ends-counted
+    refl
     (rw (plain k) at (p .put-key .ensures))
     (omega (arith, l, p .before .before .if1 .left, key-size (a .kind) (entries (a .channels)) (g .0 .0) (g .0 .1 .0) (a .value)))
-    refl
+    refl)
 
 pub send-key-spec : {M : Type 1} → statement M
 send-key-spec =

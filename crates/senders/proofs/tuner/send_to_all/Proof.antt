@@ -1,52 +1,73 @@
+-- `senders::tuner::send_to_all` meets its contract: kept, or no room, or sent to all. Assumes nothing.
+use mathlib.Core.Path.{_≡_, refl, sym, ap, _∙_}
+use mathlib.Core.Bool.{false}
+use native.Mathlib.Omega.{arith}
+use Rattle.models.specs.ChannelList.{entries}
+use Rattle.models.proofs.ChannelLists.{entries-few}
+use Rattle.senders.specs.Midi.{meant}
+use Rattle.senders.specs.Tuner.{isKept}
+use Rattle.senders.proofs.Channels.{all-size}
+use Rattle.senders.proofs.Lent.{ends-short, ends-counted, put-none}
+use Rattle.senders.proofs.Messages.{record-length}
 use borrow.Author.Needs.{needs}
 use Rattle.senders.proofs.tuner.send_to_all.Statement.{statement}
 use Rattle.senders.proofs.tuner.send_to_all.Tie as tie
-use Rattle.senders.proofs.tuner.send_to_all.Reads as reads
-use Rattle.senders.proofs.tuner.send_to_all.Lts as lts
-use Rattle.models.proofs.channels.ChannelList.len.Reads as len-reads
-use Rattle.senders.proofs.midi.message_len.Reads as message-len-reads
-use Rattle.senders.proofs.tuner.is_kept.Reads as is-kept-reads
-use Rattle.senders.proofs.tuner.put_to_all.Reads as put-to-all-reads
 
--- src/tuner.rt:148:8
+goes : (c : tie.Else1) → let a = c .before .before .before .args in isKept (a .kind) (a .message) ≡ false
+goes c = sym (c .before .is-kept .ensures) ∙ c .if1 .left
+
 is-kept-requires : tie.Need-is-kept-requires
 is-kept-requires c κs = search needs
 
--- src/tuner.rt:149:9
 returns : tie.Need-returns
-returns c = ?
+returns c = rw (sym (c .before .is-kept .ensures) ∙ c .if1 .taken) (ends-counted refl (put-none 0 _) (omega arith) refl)
 
--- src/tuner.rt:151:17
 len-requires : tie.Need-len-requires
 len-requires c κs = search needs
 
--- src/tuner.rt:151:17
 cast-count : tie.Need-cast-count
 cast-count c = search needs
 
--- src/tuner.rt:152:28
 message-len-requires : tie.Need-message-len-requires
 message-len-requires c κs = search needs
 
--- src/tuner.rt:152:20
 mul-if2 : tie.Need-mul-if2
-mul-if2 c = ?
+mul-if2 c =
+    let a = c .before .before .before .before .before .args in
+    let n = c .message-len .ensures ∙ record-length (meant 0 (a .message)) in
+    rw n (omega (arith, entries-few (a .channels), c .before .len .ensures))
 
--- src/tuner.rt:153:9
 returns-2 : tie.Need-returns-2
-returns-2 c = ?
+returns-2 c =
+    let i = c .before .before .before in
+    let a = i .before .before .before .args in
+    let l = c .before .before .len .ensures in
+    let n = c .before .message-len .ensures in
+    rw (goes i) (ends-short refl (rw (all-size (a .message) (entries (a .channels)), ← l, ← n) (omega arith)))
 
--- src/tuner.rt:155:9
 put-to-all-requires : tie.Need-put-to-all-requires
-put-to-all-requires c κs = ?
+put-to-all-requires c κs =
+    let t = c .before in
+    let i = t .before .before .before in
+    let s = i .before .before .before in
+    let a = s .args in
+    let l = t .before .before .len .ensures in
+    let n = t .before .message-len .ensures in
+    (s .pre, rw (all-size (a .message) (entries (a .channels)), ← l, ← n) (omega (arith, t .if2 .left)))
 
--- src/tuner.rt:139:1
 same-length : tie.Need-same-length
 same-length c = search needs
 
--- src/tuner.rt:139:1
 returns-3 : tie.Need-returns-3
-returns-3 c = ?
+returns-3 c =
+    let p = c .before .before in
+    let t = p .before .before in
+    let i = t .before .before .before in
+    let a = i .before .before .before .args in
+    let l = t .before .before .len .ensures in
+    let n = t .before .message-len .ensures in
+    rw (goes i)
+    (ends-counted refl (p .put-to-all .ensures) (rw (all-size (a .message) (entries (a .channels)), ← l, ← n) (omega (arith, t .if2 .left))) refl)
 
 pub send-to-all-spec : {M : Type 1} → statement M
 send-to-all-spec =

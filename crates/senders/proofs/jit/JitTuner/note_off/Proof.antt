@@ -1,51 +1,67 @@
+-- `senders::jit::JitTuner::note_off` meets its contract: refused by the test of the velocity, or it ends as the writing of its message does. Assumes nothing.
+use mathlib.Core.Path.{_≡_, refl, sym, ap, _∙_}
+use native.Mathlib.Omega.{arith}
+use borrow.Author.Tests.{le-ltb, lt-ltb}
+use denote.Ref.{now}
+use Rattle.models.specs.Outcome.{Outcome}
+use Rattle.models.specs.Pool.{State, found}
+use Rattle.models.specs.View.{view}
+use Rattle.senders.specs.Answers.{sentAnswer}
+use Rattle.senders.specs.Lent.{Answers, sent}
+use Rattle.senders.specs.Midi.{bytesOf}
+use Rattle.senders.specs.Tuner.{keyMessages}
+use Rattle.senders.specs.Jit.{tuner, withPool}
+use Rattle.senders.specs.declared.tuner.NoteMessage.the-variants.{Off}
+use Rattle.senders.proofs.Lent.{ends-refused, ends-written-counted, ends-unwritten}
 use borrow.Author.Needs.{needs}
 use Rattle.senders.proofs.jit.JitTuner.note_off.Statement.{statement}
 use Rattle.senders.proofs.jit.JitTuner.note_off.Tie as tie
-use Rattle.senders.proofs.jit.JitTuner.note_off.Reads as reads
-use Rattle.senders.proofs.jit.JitTuner.note_off.Lts as lts
-use Rattle.models.proofs.jit.JitTuningModel.channel_list.Reads as channel-list-reads
-use Rattle.models.proofs.jit.JitTuningModel.deregister_key.Reads as deregister-key-reads
-use Rattle.senders.proofs.tuner.send_key.Reads as send-key-reads
 
--- src/jit.rt:139:13
 returns : tie.Need-returns
-returns c = ?
+returns c = ends-refused (rw (le-ltb (c .before .before .args .velocity) 128 (omega arith)))
 
--- src/jit.rt:145:13
 channel-list-requires : tie.Need-channel-list-requires
 channel-list-requires c κs = search needs
 
--- src/jit.rt:146:13
 deregister-key-requires : tie.Need-deregister-key-requires
 deregister-key-requires c κs = search needs
 
--- src/jit.rt:150:15
 send-key-requires : tie.Need-send-key-requires
 send-key-requires c κs = search needs
 
--- src/jit.rt:151:27
 enum-known-n : tie.Need-enum-known-n
 enum-known-n c = search needs
 
--- src/jit.rt:155:27
 enum-known-n-2 : tie.Need-enum-known-n-2
 enum-known-n-2 c = search needs
 
--- src/jit.rt:135:5
 same-length : tie.Need-same-length
 same-length c = search needs
 
--- src/jit.rt:135:5
 returns-2 : tie.Need-returns-2
-returns-2 c = ?
+returns-2 c =
+    let m = c .before .before in
+    let k = m .before .before .before in
+    let d = k .before .before .before in
+    let l = d .before in
+    let i = l .before in
+    let a = i .before .before .args in
+    let ends = rw (l .channel-list .ensures, d .deregister-key .ensures .0, c .before .n .given .1) at (k .send-key .ensures) in
+    ends-written-counted (rw (lt-ltb (a .velocity) 128 (omega (arith, i .if1 .left)))) ends (ap (withPool (tuner (a .self))) (d .deregister-key .ensures .1))
 
--- src/jit.rt:135:5
 same-length-2 : tie.Need-same-length-2
 same-length-2 c = search needs
 
--- src/jit.rt:135:5
 returns-3 : tie.Need-returns-3
-returns-3 c = ?
+returns-3 c =
+    let m = c .before .before in
+    let k = m .before .before .before in
+    let d = k .before .before .before in
+    let l = d .before in
+    let i = l .before in
+    let a = i .before .before .args in
+    let ends = rw (l .channel-list .ensures, d .deregister-key .ensures .0, c .before .n2 .given .1) at (k .send-key .ensures) in
+    ends-unwritten (rw (lt-ltb (a .velocity) 128 (omega (arith, i .if1 .left)))) ends
 
 pub note-off-spec : {M : Type 1} → statement M
 note-off-spec =

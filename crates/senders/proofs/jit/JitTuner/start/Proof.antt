@@ -1,17 +1,23 @@
+-- `senders::jit::JitTuner::start` meets its contract: the model's opening, with the kind beside it. Assumes nothing.
+use mathlib.Core.Path.{_≡_, refl, sym, ap, _∙_}
+use mathlib.Core.List.{List}
+use Prim.Native.Nat.{ℕ}
+use Rattle.models.specs.Outcome.{Outcome}
+use Rattle.models.specs.Pool.{State}
+use Rattle.models.specs.View.{opened}
+use Rattle.senders.specs.Jit.{Tuner}
 use borrow.Author.Needs.{needs}
 use Rattle.senders.proofs.jit.JitTuner.start.Statement.{statement}
 use Rattle.senders.proofs.jit.JitTuner.start.Tie as tie
-use Rattle.senders.proofs.jit.JitTuner.start.Reads as reads
-use Rattle.senders.proofs.jit.JitTuner.start.Lts as lts
-use Rattle.models.proofs.jit.JitTuningModel.open.Reads as open-reads
 
--- src/jit.rt:73:13
 open-requires : tie.Need-open-requires
 open-requires c κs = search needs
 
--- src/jit.rt:70:5
 returns : tie.Need-returns
-returns c = ?
+unfolding opened
+returns c =
+    let k = c .before .before .before .args .kind in
+    ap (λ (o : Outcome (List ℕ) × State). _,_ {B = λ _. Tuner} (o .0) (record { pool = o .1; kind = k })) (c .before .«open» .ensures)
 
 pub start-spec : {M : Type 1} → statement M
 start-spec = tie.close (tie.spec open-requires returns)
