@@ -11,6 +11,6 @@ pub mod Received
 pub mod Each
 pub mod Channels
 pub mod Stops
-pub mod Presses
+pub mod Calls
 pub mod Refusals
 pub mod Examples

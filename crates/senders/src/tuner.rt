@@ -62,7 +62,8 @@ pub(crate) fn send_key(
     let AccessKeyResult::Found {
         channel,
         found_note,
-    } = found else {
+    } = found
+    else {
         return Sent::Written(0);
     };
     if out.len() < key_len(channels, channel, kind, found_note) {
@@ -164,10 +165,22 @@ fn is_kept(kind: TuningKind, message: ChannelMessageType) -> bool
         TuningKind::FineTuning => false,
         TuningKind::Bend => match message {
             ChannelMessageType::PitchBendChange { value: _ } => true,
-            ChannelMessageType::NoteOff { key: _, velocity: _ } => false,
-            ChannelMessageType::NoteOn { key: _, velocity: _ } => false,
-            ChannelMessageType::PolyphonicKeyPressure { key: _, pressure: _ } => false,
-            ChannelMessageType::ControlChange { controller: _, value: _ } => false,
+            ChannelMessageType::NoteOff {
+                key: _,
+                velocity: _,
+            } => false,
+            ChannelMessageType::NoteOn {
+                key: _,
+                velocity: _,
+            } => false,
+            ChannelMessageType::PolyphonicKeyPressure {
+                key: _,
+                pressure: _,
+            } => false,
+            ChannelMessageType::ControlChange {
+                controller: _,
+                value: _,
+            } => false,
             ChannelMessageType::ProgramChange { program: _ } => false,
             ChannelMessageType::ChannelPressure { pressure: _ } => false,
         },

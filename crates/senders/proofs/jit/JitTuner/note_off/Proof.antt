@@ -1,17 +1,9 @@
 -- `senders::jit::JitTuner::note_off` meets its contract: refused by the test of the velocity, or it ends as the writing of its message does. Assumes nothing.
 use mathlib.Core.Path.{_≡_, refl, sym, ap, _∙_}
 use native.Mathlib.Omega.{arith}
-use borrow.Author.Tests.{le-ltb, lt-ltb}
-use denote.Ref.{now}
-use Rattle.models.specs.Outcome.{Outcome}
-use Rattle.models.specs.Pool.{State, found}
-use Rattle.models.specs.View.{view}
-use Rattle.senders.specs.Answers.{sentAnswer}
-use Rattle.senders.specs.Lent.{Answers, sent}
-use Rattle.senders.specs.Midi.{bytesOf}
-use Rattle.senders.specs.Tuner.{keyMessages}
+use borrow.Author.Tests.{le-ltb}
 use Rattle.senders.specs.Jit.{tuner, withPool}
-use Rattle.senders.specs.declared.tuner.NoteMessage.the-variants.{Off}
+use Rattle.senders.proofs.Calls.{releaseBytes, release-sent}
 use Rattle.senders.proofs.Lent.{ends-refused, ends-written-counted, ends-unwritten}
 use borrow.Author.Needs.{needs}
 use Rattle.senders.proofs.jit.JitTuner.note_off.Statement.{statement}
@@ -47,7 +39,7 @@ returns-2 c =
     let i = l .before in
     let a = i .before .before .args in
     let ends = rw (l .channel-list .ensures, d .deregister-key .ensures .0, c .before .n .given .1) at (k .send-key .ensures) in
-    ends-written-counted (rw (lt-ltb (a .velocity) 128 (omega (arith, i .if1 .left)))) ends (ap (withPool (tuner (a .self))) (d .deregister-key .ensures .1))
+    ends-written-counted {bs = releaseBytes (tuner (a .self)) (a .key) (a .velocity)} (release-sent (tuner (a .self)) (a .key) (a .velocity) (omega (arith, i .if1 .left))) ends (ap (withPool (tuner (a .self))) (d .deregister-key .ensures .1))
 
 same-length-2 : tie.Need-same-length-2
 same-length-2 c = search needs
@@ -61,7 +53,7 @@ returns-3 c =
     let i = l .before in
     let a = i .before .before .args in
     let ends = rw (l .channel-list .ensures, d .deregister-key .ensures .0, c .before .n2 .given .1) at (k .send-key .ensures) in
-    ends-unwritten (rw (lt-ltb (a .velocity) 128 (omega (arith, i .if1 .left)))) ends
+    ends-unwritten (release-sent (tuner (a .self)) (a .key) (a .velocity) (omega (arith, i .if1 .left))) ends
 
 pub note-off-spec : {M : Type 1} → statement M
 note-off-spec =

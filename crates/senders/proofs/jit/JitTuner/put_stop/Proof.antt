@@ -86,7 +86,7 @@ add-from : tie.Need-add-from Inv-loop μ-loop
 add-from c = omega arith
 
 loop-less : tie.Need-loop-less Inv-loop μ-loop
-loop-less c = 
+loop-less c =
     let k = c .before .before .before .before in
     let l = k .before .before .before .before .before in
     let t = tuner (l .before .before .before .args .self) in

@@ -94,7 +94,7 @@ add-from : tie.Need-add-from Inv-loop μ-loop
 add-from c = omega arith
 
 loop-less : tie.Need-loop-less Inv-loop μ-loop
-loop-less c = 
+loop-less c =
     let l = c .before .before .before .before .before .before in
     let t = tuner (l .before .before .args .self) in
     omega (arith, next-met (t .pool) (l .loop .from) (next (c .before)) (met (c .before)) .reached)

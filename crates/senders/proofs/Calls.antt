@@ -1,4 +1,4 @@
--- What a press comes to by the model's answer: sent, rejected, or refused. Assumes nothing.
+-- What the calls of a pool tuner come to: a press by the model's answer, and a release. Assumes nothing.
 use mathlib.Core.Path.{_≡_, refl, sym, ap, _∙_}
 use mathlib.Core.Option.{Option}
 use mathlib.Core.List.{List, []}
@@ -9,12 +9,14 @@ use lib.Ieee.{Float}
 use lib.ListN.{length}
 use borrow.Author.Tests.{lt-ltb}
 use Rattle.models.specs.Outcome.{Outcome, value, refused}
-use Rattle.models.specs.Pool.{State, accepted, rejected, registerRule, replied}
+use Rattle.models.specs.Pool.{State, found, released, accepted, rejected, registerRule, replied}
 use Rattle.models.specs.Steps.{sentAs}
-use Rattle.senders.specs.Message.{Message}
+use Rattle.senders.specs.Lent.{Effect, sends, sent, Answers, Steps}
 use Rattle.senders.specs.Midi.{bytesOf}
-use Rattle.senders.specs.Tuner.{onChannel, pressMessages}
-use Rattle.senders.specs.Jit.{Tuner, withPool, sounds, rejects, noteOnRule}
+use Rattle.senders.specs.Tuner.{onChannel, pressMessages, keyMessages}
+use Rattle.senders.specs.Jit.{Tuner, withPool, Pressed, sounds, rejects, noteOnRule, noteOffRule}
+use Rattle.senders.specs.declared.tuner.NoteMessage.the-variants.{Off}
+use Rattle.senders.proofs.Lent.{counted, ends-written}
 
 -- ---- the model's reply
 
@@ -61,3 +63,21 @@ module _ (t : Tuner) (key : ℕ) (hz : Float) (v : ℕ) (low : v < 128) where
 
   pub press-refused : {n : ℕ} → registerRule (t .pool) key hz ≡ refused n → noteOnRule t key hz v ≡ refused n
   press-refused e = rw (lt-ltb v 128 low, e)
+
+-- a press whose bytes were written
+pub ends-sounding :
+    {T : Type 0} {view : T → Tuner} {rule : Outcome (Effect Pressed Tuner)} {s back : T} {next : Tuner} {bs old new : List ℕ} {n : ℕ}
+    → rule ≡ value (record { says = sounds (length bs); bytes = bs; next = next }) → Answers (sent bs) old (value n) new → view back ≡ next
+    → Steps view rule s old (value (sounds n)) back new
+ends-sounding {view = view} {rule = rule} {s = s} {back = back} {next = next} {bs = bs} {old = old} {new = new} {n = n} e p m =
+    let q : length bs ≡ n = sym (counted {bs = bs} {old = old} {new = new} p) in
+    let f : Effect Pressed Tuner = record { says = sounds (length bs); bytes = bs; next = next } in
+    rw q at (ends-written {view = view} {s = s} {old = old} {new = new} {f = f} {n = n} {back = back} e p m)
+
+-- ---- the release
+
+abbrev pub releaseBytes : Tuner → ℕ → ℕ → List ℕ
+releaseBytes t key v = bytesOf (keyMessages Off (t .pool .channels) v (found (t .pool) key))
+
+pub release-sent : (t : Tuner) (key v : ℕ) → v < 128 → noteOffRule t key v ≡ sends (releaseBytes t key v) (withPool t (released (t .pool) key))
+release-sent t key v low = rw (lt-ltb v 128 low)
