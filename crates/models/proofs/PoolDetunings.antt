@@ -14,9 +14,9 @@ use Rattle.arithmetic.specs.Pitch.{isPitch, detuningOf}
 use Rattle.arithmetic.specs.Nearest.{nearestNote}
 use Rattle.arithmetic.proofs.Bounds.{detuning-positive}
 use Rattle.arithmetic.proofs.Nearest.{nearest-is-note}
-use Rattle.models.specs.Entries.{first}
+use Rattle.models.specs.Lists.{first}
 use Rattle.models.specs.Pool.{State, Place, Press, accepted, rejected, Room, pool, found, roomFor, pressedOn, pressed, unlessHeld, registerRule, tuning, repitchRule, isHeld}
-use Rattle.models.specs.View.{view}
+use Rattle.models.specs.JitModel.{view}
 use Rattle.models.specs.declared.jit.JitTuningModel.{JitTuningModel}
 use Rattle.models.proofs.Pools.{value-by, found-note}
 
