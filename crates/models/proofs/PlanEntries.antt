@@ -107,3 +107,20 @@ planned-positive m lines ok c g d e = go (leb (count (m .groupBy) lines) (length
     go : (t : Bool) → cond {A = Model × Answer} t (holding m lines, tuned (count (m .groupBy) lines)) (empty (m .channels) (m .groupBy), untuned (count (m .groupBy) lines)) .0 .detunings c g ≡ some d → T (positive d)
     go true e = entry-positive (m .groupBy) lines ok c g d e
     go false e = absurd (let z : _≡_ {A = ℕ} 0 1 = cc in omega arith)
+
+-- After a tuned answer of count n in channel groups every channel below n has an entry, and no key is on any other.
+pub tuned-channels : (m : Model) (lines : List Line) → Accepted lines → m .groupBy ≡ Channel → (n : ℕ) → planned m (value lines) .1 ≡ tuned n
+    → ((c : ℕ) → c < n → planned m (value lines) .0 .detunings c (pos 0) ≡ none → ⊥)
+    × ((k c : ℕ) (z : ℤ) → planned m (value lines) .0 .keys k ≡ some (c, z) → c < n)
+unfolding planned
+tuned-channels m lines ok by n e = go (leb (count (m .groupBy) lines) (length (m .channels))) e
+  where
+    go : (t : Bool) → cond {A = Model × Answer} t (holding m lines, tuned (count (m .groupBy) lines)) (empty (m .channels) (m .groupBy), untuned (count (m .groupBy) lines)) .1 ≡ tuned n
+        → ((c : ℕ) → c < n → cond {A = Model × Answer} t (holding m lines, tuned (count (m .groupBy) lines)) (empty (m .channels) (m .groupBy), untuned (count (m .groupBy) lines)) .0 .detunings c (pos 0) ≡ none → ⊥)
+        × ((k c : ℕ) (z : ℤ) → cond {A = Model × Answer} t (holding m lines, tuned (count (m .groupBy) lines)) (empty (m .channels) (m .groupBy), untuned (count (m .groupBy) lines)) .0 .keys k ≡ some (c, z) → c < n)
+    go false e = absurd (let z : _≡_ {A = ℕ} 0 1 = cc in omega arith)
+    go true e =
+        let q : count (m .groupBy) lines ≡ n = cc in (
+          λ c h u. channel-entry lines ok c (subst (λ (k : GroupBy). c < count k lines) by (omega arith)) (subst (λ (k : GroupBy). entry k lines c (pos 0) ≡ none) by u),
+          λ k c z u. subst (λ (j : ℕ). c < j) q (seat-below (m .groupBy) lines ok k c z u),
+        )

@@ -3,6 +3,7 @@
 ghost use Prim.Native.Nat.{_≤_};
 use models::aot::Access;
 use models::aot::AotTuningModel;
+use models::aot::DetuningAnswer;
 use models::aot::GroupBy;
 use models::aot::NextAnswer;
 use models::aot::PlanAnswer;
@@ -57,6 +58,7 @@ fn opened(name: &[u8], channels: &[u8], group_by: GroupBy) -> AotTuningModel {
     word(b", model");
     number(model.num_channels() as u64);
     flag(model.tuned());
+    number(model.channels().len() as u64);
     word(b"\n");
     model
 }
@@ -87,6 +89,20 @@ fn entry(model: AotTuningModel, channel: u8, from: i32) {
             word(b" -");
         }
     }
+}
+
+// One entry of a channel.
+fn at(model: AotTuningModel, channel: u8, group: i32) {
+    word(b"  at");
+    number(channel as u64);
+    signed(group);
+    match model.detuning(channel, group) {
+        DetuningAnswer::Detuning(detuning) => float(detuning),
+        DetuningAnswer::NoEntry => {
+            word(b" -");
+        }
+    }
+    word(b"\n");
 }
 
 // Entries of a channel: the first, and those from 1, 61, 62 and 73 on.
@@ -166,6 +182,10 @@ fn kinds(model: AotTuningModel) {
     entries(m, 0);
     entries(m, 1);
     entries(m, 2);
+    at(m, 1, 72);
+    at(m, 2, 0);
+    at(m, 0, 1);
+    at(m, 0, -2147483648);
     let p = done(
         b"pitches",
         m.set_tuning_of_pitches(&[10, 11, 12], &[440.0, 445.0, 880.0]),

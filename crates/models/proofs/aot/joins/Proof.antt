@@ -1,5 +1,4 @@
 -- `models::aot::joins` meets its contract: what the ratios' methods ensure, one after the other. Assumes nothing.
-
 use mathlib.Core.Path.{ap, _∙_}
 use lib.Ieee.{Float, binary64, div}
 use Rattle.arithmetic.specs.Pitch.{negligible}

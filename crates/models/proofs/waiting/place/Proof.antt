@@ -1,5 +1,4 @@
 -- `models::waiting::place` meets its contract. The loop's invariant: what stands before the place is as many as were passed and those still to pass. Assumes nothing.
-
 use lib.ListN.{length, getD, take, drop}
 use Prim.Native.Nat.{ℕ, _<_, _≤_, _+_, _-_}
 use mir.Syntax.{w8}
