@@ -14,7 +14,7 @@ pub mod PoolInvariant
 pub mod PoolAnswers
 pub mod PoolStop
 pub mod PoolRefusals
-pub mod PoolDetunings
+pub mod PoolPresses
 pub mod PoolExamples
 pub mod ListLaws
 pub mod Joins

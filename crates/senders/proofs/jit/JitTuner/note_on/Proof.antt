@@ -10,7 +10,7 @@ use borrow.Author.Tests.{le-ltb}
 use Rattle.models.specs.Outcome.{value}
 use Rattle.models.specs.Pool.{accepted, registerRule}
 use Rattle.models.specs.JitModel.{view, stoppedNote, press, told}
-use Rattle.models.proofs.PoolDetunings.{press-measurable}
+use Rattle.models.proofs.PoolPresses.{press-measurable}
 use Rattle.models.proofs.Values.{sent-in-steps}
 use Rattle.senders.specs.Jit.{tuner}
 use Rattle.senders.proofs.Lent.{ends-refused, ends-sent, ends-unwritten, put-none}

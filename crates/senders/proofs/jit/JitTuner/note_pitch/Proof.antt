@@ -5,7 +5,7 @@ use native.Mathlib.Omega.{arith}
 use Rattle.models.specs.Outcome.{value, refused}
 use Rattle.models.specs.Pool.{repitchRule}
 use Rattle.models.specs.JitModel.{view, repitched}
-use Rattle.models.proofs.PoolDetunings.{repitch-measurable}
+use Rattle.models.proofs.PoolPresses.{repitch-measurable}
 use Rattle.models.proofs.Values.{sent-in-steps}
 use Rattle.senders.proofs.Lent.{ends-refused, ends-counted, put-none}
 use borrow.Author.Needs.{needs}

@@ -1,0 +1,396 @@
+// Plays whole passages on the pool tuner and writes what it sent: document 01's sample session, every mode and both tuning kinds, notes without a
+// number, unknown keys, messages to all, `stop`, and every refusal. Each call that sends bytes is first made with a buffer one byte short.
+
+use models::Pitch;
+use models::channels::ChannelsAnswer;
+use models::jit::PoolingMode;
+use models::keys::AccessKeyResult;
+use models::steps::TuningKind;
+use senders::jit::JitTuner;
+use senders::jit::PressAnswer;
+use senders::midi::ChannelMessageType;
+use senders::midi::Sent;
+use senders::mts::channel_fine_tuning;
+use senders::mts::channel_pitch_bend;
+
+const ROOM: usize = 64;
+
+fn main() {
+    sample();
+    passages(TuningKind::FineTuning);
+    passages(TuningKind::Bend);
+    lists();
+    detunings();
+}
+
+// ---- what is shown
+
+fn bytes(buffer: &[u8], count: usize) {
+    let n = buffer.len();
+    let mut i = 0;
+    while i < n {
+        if i < count {
+            show::byte(buffer[i]);
+        } else {
+            untouched(buffer[i]);
+        }
+        i += 1;
+    }
+}
+
+// A byte behind those sent keeps its content.
+fn untouched(byte: u8) {
+    if byte != 0xaa {
+        show::word(b" touched");
+    }
+}
+
+fn line() {
+    show::word(b"\n");
+}
+
+fn sent(answer: Sent, buffer: &[u8]) {
+    match answer {
+        Sent::Written(count) => written(count, buffer),
+        Sent::Refused(n) => refused(n, buffer),
+    }
+}
+
+fn written(count: usize, buffer: &[u8]) {
+    if count == 0 {
+        show::word(b" -");
+    }
+    bytes(buffer, count);
+}
+
+fn refused(n: u8, buffer: &[u8]) {
+    show::refusal(n);
+    bytes(buffer, 0);
+}
+
+// One byte less than a call needs.
+fn short_of(answer: Sent) -> usize {
+    match answer {
+        Sent::Written(count) => {
+            if 0 < count {
+                return count - 1;
+            }
+            0
+        }
+        Sent::Refused(_) => 0,
+    }
+}
+
+fn as_sent(answer: PressAnswer) -> Sent {
+    match answer {
+        PressAnswer::Written(count) => Sent::Written(count),
+        PressAnswer::Rejected => Sent::Written(0),
+        PressAnswer::Refused(n) => Sent::Refused(n),
+    }
+}
+
+fn action(what: &[u8], key: u8) {
+    show::word(what);
+    show::number(key as u64);
+    show::word(b":");
+}
+
+// ---- the calls, first one byte short and then with room
+
+fn press(tuner: JitTuner, key: u8, hz: f64, velocity: u8) -> JitTuner {
+    action(b"  on", key);
+    let pitch = Pitch::from_hz(hz);
+    let mut buffer = [0xaau8; ROOM];
+    let pressed = tuner.note_on(key, pitch, velocity, &mut buffer[..ROOM]);
+    let answer = pressed.answer;
+    let short = short_of(as_sent(answer));
+    if short < ROOM {
+        let mut small = [0xaau8; ROOM];
+        let again = tuner.note_on(key, pitch, velocity, &mut small[..short]);
+        press_answer(again.answer, &small);
+    }
+    press_answer(answer, &buffer);
+    line();
+    pressed.tuner
+}
+
+fn press_answer(answer: PressAnswer, buffer: &[u8]) {
+    match answer {
+        PressAnswer::Written(count) => written(count, buffer),
+        PressAnswer::Rejected => show::word(b" rejected"),
+        PressAnswer::Refused(n) => refused(n, buffer),
+    }
+}
+
+fn release(tuner: JitTuner, key: u8, velocity: u8) -> JitTuner {
+    action(b"  off", key);
+    let mut buffer = [0xaau8; ROOM];
+    let released = tuner.note_off(key, velocity, &mut buffer[..ROOM]);
+    let answer = released.answer;
+    let short = short_of(answer);
+    if short < ROOM {
+        let mut small = [0xaau8; ROOM];
+        let again = tuner.note_off(key, velocity, &mut small[..short]);
+        sent(again.answer, &small);
+    }
+    sent(answer, &buffer);
+    line();
+    released.tuner
+}
+
+fn repitch(tuner: JitTuner, key: u8, hz: f64) {
+    action(b"  pitch", key);
+    let pitch = Pitch::from_hz(hz);
+    let mut buffer = [0xaau8; ROOM];
+    let answer = tuner.note_pitch(key, pitch, &mut buffer[..ROOM]);
+    let short = short_of(answer);
+    if short < ROOM {
+        let mut small = [0xaau8; ROOM];
+        let again = tuner.note_pitch(key, pitch, &mut small[..short]);
+        sent(again, &small);
+    }
+    sent(answer, &buffer);
+    line();
+}
+
+fn pressure(tuner: JitTuner, key: u8, value: u8) {
+    action(b"  attr", key);
+    let mut buffer = [0xaau8; ROOM];
+    let answer = tuner.note_attr(key, value, &mut buffer[..ROOM]);
+    let short = short_of(answer);
+    if short < ROOM {
+        let mut small = [0xaau8; ROOM];
+        let again = tuner.note_attr(key, value, &mut small[..short]);
+        sent(again, &small);
+    }
+    sent(answer, &buffer);
+    line();
+}
+
+fn to_all(tuner: JitTuner, message: ChannelMessageType) {
+    show::word(b"  all:");
+    let mut buffer = [0xaau8; ROOM];
+    let answer = tuner.global_attr(message, &mut buffer[..ROOM]);
+    let short = short_of(answer);
+    if short < ROOM {
+        let mut small = [0xaau8; ROOM];
+        let again = tuner.global_attr(message, &mut small[..short]);
+        sent(again, &small);
+    }
+    sent(answer, &buffer);
+    line();
+}
+
+fn stop(tuner: JitTuner) -> JitTuner {
+    show::word(b"  stop:");
+    let mut buffer = [0xaau8; ROOM];
+    let released = tuner.stop(&mut buffer[..ROOM]);
+    let answer = released.answer;
+    let short = short_of(answer);
+    if short < ROOM {
+        let mut small = [0xaau8; ROOM];
+        let again = tuner.stop(&mut small[..short]);
+        sent(again.answer, &small);
+    }
+    sent(answer, &buffer);
+    line();
+    released.tuner
+}
+
+fn lookup(tuner: JitTuner, key: u8) {
+    action(b"  key", key);
+    match tuner.access_key(key) {
+        AccessKeyResult::Found {
+            channel,
+            found_note,
+        } => {
+            show::number(channel as u64);
+            show::signed(found_note);
+        }
+        AccessKeyResult::NotFound => show::word(b" not found"),
+    }
+    line();
+}
+
+// ---- the passages
+
+fn sample() {
+    show::word(b"sample\n");
+    let tuner = JitTuner::start(&[0, 1], TuningKind::FineTuning, PoolingMode::Stop).tuner;
+    let tuner = press(tuner, 1, 440.0, 100);
+    let tuner = press(tuner, 2, 880.0, 90);
+    let tuner = release(tuner, 1, 64);
+    lookup(tuner, 1);
+    lookup(tuner, 2);
+}
+
+fn passages(kind: TuningKind) {
+    show::word(b"block\n");
+    passage(kind, PoolingMode::Block);
+    show::word(b"stop\n");
+    passage(kind, PoolingMode::Stop);
+    show::word(b"ignore\n");
+    passage(kind, PoolingMode::Ignore);
+}
+
+fn passage(kind: TuningKind, mode: PoolingMode) {
+    let tuner = JitTuner::start(&[3, 15, 0], kind, mode).tuner;
+    let tuner = press(tuner, 200, 440.0, 127);
+    let tuner = press(tuner, 7, 455.0, 0);
+    let tuner = press(tuner, 100, 261.0, 1);
+    let tuner = press(tuner, 8, 6000.0, 77);
+    let tuner = press(tuner, 9, 20000.0, 78);
+    let tuner = press(tuner, 10, 4.0, 79);
+    let tuner = press(tuner, 11, 262.5, 80);
+    let tuner = refusals(tuner);
+    let tuner = changes(tuner);
+    let tuner = release(tuner, 9, 5);
+    let tuner = release(tuner, 10, 6);
+    let tuner = release(tuner, 200, 7);
+    let tuner = press(tuner, 255, 1000.0, 64);
+    let tuner = press(tuner, 0, 30.0, 64);
+    lookup(tuner, 255);
+    messages(tuner);
+    let tuner = stop(tuner);
+    lookup(tuner, 255);
+    let tuner = stop(tuner);
+    let tuner = press(tuner, 255, 1001.0, 64);
+    let tuner = release(tuner, 255, 0);
+    lookup(tuner, 255);
+}
+
+// Presses and releases: 8, 1, 11.
+fn refusals(tuner: JitTuner) -> JitTuner {
+    let tuner = press(tuner, 11, 0.0, 128);
+    let tuner = press(tuner, 11, 0.0, 127);
+    let tuner = press(tuner, 11, 440.0, 127);
+    let tuner = press(tuner, 11, 0.0 / 0.0, 127);
+    let tuner = press(tuner, 99, 1.0 / 0.0, 127);
+    let tuner = release(tuner, 11, 128);
+    let tuner = release(tuner, 99, 200);
+    release(tuner, 99, 127)
+}
+
+// Pressures and repitches, of found keys and others.
+fn changes(tuner: JitTuner) -> JitTuner {
+    pressure(tuner, 11, 33);
+    pressure(tuner, 11, 128);
+    pressure(tuner, 9, 34);
+    pressure(tuner, 99, 127);
+    pressure(tuner, 99, 255);
+    repitch(tuner, 11, 255.0);
+    repitch(tuner, 11, 1.0);
+    repitch(tuner, 11, 40000.0);
+    repitch(tuner, 11, 0.0);
+    repitch(tuner, 99, 440.0);
+    repitch(tuner, 99, 0.0);
+    tuner
+}
+
+// Messages to all, of every kind.
+fn messages(tuner: JitTuner) {
+    to_all(
+        tuner,
+        ChannelMessageType::NoteOff {
+            key: 1,
+            velocity: 2,
+        },
+    );
+    to_all(
+        tuner,
+        ChannelMessageType::NoteOn {
+            key: 128,
+            velocity: 2,
+        },
+    );
+    to_all(
+        tuner,
+        ChannelMessageType::PolyphonicKeyPressure {
+            key: 1,
+            pressure: 128,
+        },
+    );
+    to_all(
+        tuner,
+        ChannelMessageType::ControlChange {
+            controller: 123,
+            value: 0,
+        },
+    );
+    to_all(tuner, ChannelMessageType::ProgramChange { program: 5 });
+    to_all(tuner, ChannelMessageType::ChannelPressure { pressure: 6 });
+    to_all(tuner, ChannelMessageType::PitchBendChange { value: -1 });
+    to_all(tuner, ChannelMessageType::PitchBendChange { value: 8192 });
+}
+
+// ---- channel lists
+
+fn lists() {
+    show::word(b"lists\n");
+    started(&[]);
+    started(&[15, 16]);
+    started(&[4, 4, 16]);
+    started(&[15, 14, 13, 12, 11, 10, 9, 8, 7, 6, 5, 4, 3, 2, 1, 0]);
+}
+
+fn started(channels: &[u8]) {
+    show::word(b"  start:");
+    let opened = JitTuner::start(channels, TuningKind::Bend, PoolingMode::Stop);
+    match opened.answer {
+        ChannelsAnswer::Listed(list) => show::number(list.len() as u64),
+        ChannelsAnswer::Refused(n) => show::refusal(n),
+    }
+    line();
+    let tuner = opened.tuner;
+    let tuner = press(tuner, 5, 440.0, 9);
+    to_all(tuner, ChannelMessageType::ProgramChange { program: 5 });
+    let tuner = stop(tuner);
+    lookup(tuner, 5);
+}
+
+// ---- a detuning passed: 6, 2, 10
+
+fn detunings() {
+    show::word(b"detunings\n");
+    detuned(0, 1.0);
+    detuned(1, 2.0);
+    detuned(2, 0.5);
+    detuned(3, 1.03125);
+    detuned(15, 0.96875);
+    detuned(15, 1000.0);
+    detuned(15, 0.001);
+    detuned(16, 0.0);
+    detuned(15, 0.0);
+    detuned(0, -1.0);
+    detuned(0, 0.0 / 0.0);
+    detuned(0, 1.0 / 0.0);
+}
+
+fn detuned(channel: u8, detuning: f64) {
+    show::word(b"  fine:");
+    let mut buffer = [0xaau8; ROOM];
+    let answer = channel_fine_tuning(channel, detuning, &mut buffer[..ROOM]);
+    let short = short_of(answer);
+    if short < ROOM {
+        let mut small = [0xaau8; ROOM];
+        let again = channel_fine_tuning(channel, detuning, &mut small[..short]);
+        sent(again, &small);
+    }
+    sent(answer, &buffer);
+    line();
+    bent(channel, detuning);
+}
+
+fn bent(channel: u8, detuning: f64) {
+    show::word(b"  bend:");
+    let mut buffer = [0xaau8; ROOM];
+    let answer = channel_pitch_bend(channel, detuning, &mut buffer[..ROOM]);
+    let short = short_of(answer);
+    if short < ROOM {
+        let mut small = [0xaau8; ROOM];
+        let again = channel_pitch_bend(channel, detuning, &mut small[..short]);
+        sent(again, &small);
+    }
+    sent(answer, &buffer);
+    line();
+}
