@@ -147,9 +147,13 @@ fn try_short(tuner: JitTuner, call: Call, room: usize)
     requires { ⌜ room ≤ 64 ⌝ }
 {
     let mut buffer = [0xaau8; ROOM];
-    let played = perform(tuner, call, &mut buffer[..room]);
+    try_with(tuner, call, &mut buffer[..room]);
+}
+
+fn try_with(tuner: JitTuner, call: Call, out: &mut [u8]) {
+    let played = perform(tuner, call, out);
     let answer = played.answer;
-    answered(answer, &buffer);
+    answered(answer, out);
 }
 
 // One byte less than a call needs.

@@ -1,51 +1,42 @@
+-- `tuners_test::bytes` is safe: it reads the bytes that there are. Assumes nothing.
+use Prim.Native.Nat.{_-_}
+use native.Mathlib.Omega.{arith}
+use borrow.Author.Needs.{needs}
 use Rattle.tuners_test.proofs.bytes.Statement.{statement}
 use Rattle.tuners_test.proofs.bytes.Tie as tie
-use Rattle.tuners_test.proofs.bytes.Reads as reads
-use Rattle.tuners_test.proofs.bytes.Lts as lts
-use Rattle.show.proofs.byte.Reads as byte-reads
-use Rattle.tuners_test.proofs.untouched.Reads as untouched-reads
 
 abbrev Inv-loop : tie.InvT-loop
-Inv-loop buffer count n i₀ i = ?
+Inv-loop buffer count n i₀ i = Unit {0}
 
 abbrev μ-loop : tie.MeasureT-loop
-μ-loop buffer count n i₀ i = ?
+μ-loop buffer count n i₀ i = n - i
 
--- src/main.rt:33:5
 loop-holds : tie.Need-loop-holds Inv-loop μ-loop
-loop-holds c = ?
+loop-holds c = tt
 
--- src/main.rt:35:24
 shared-slice-read-byte : tie.Need-shared-slice-read-byte Inv-loop μ-loop
-shared-slice-read-byte c = ?
+shared-slice-read-byte c = search needs
 
--- src/main.rt:35:13
 byte-requires : tie.Need-byte-requires Inv-loop μ-loop
-byte-requires c κs = ?
+byte-requires c κs = search needs
 
--- src/main.rt:37:23
 shared-slice-read-untouched : tie.Need-shared-slice-read-untouched Inv-loop μ-loop
-shared-slice-read-untouched c = ?
+shared-slice-read-untouched c = search needs
 
--- src/main.rt:37:13
 untouched-requires : tie.Need-untouched-requires Inv-loop μ-loop
-untouched-requires c κs = ?
+untouched-requires c κs = search needs
 
--- src/main.rt:39:9
 add-i : tie.Need-add-i Inv-loop μ-loop
-add-i c = ?
+add-i c = omega arith
 
--- src/main.rt:33:5
 loop-less : tie.Need-loop-less Inv-loop μ-loop
-loop-less c = ?
+loop-less c = omega arith
 
--- src/main.rt:33:5
 loop-again : tie.Need-loop-again Inv-loop μ-loop
-loop-again c = ?
+loop-again c = tt
 
--- src/main.rt:30:1
 returns : tie.Need-returns Inv-loop μ-loop
-returns c = ?
+returns c = search needs
 
 pub bytes-spec : {M : Type 1} → statement M
 bytes-spec =
