@@ -1,6 +1,7 @@
 // Plays whole passages on the pool tuner and writes what it sent: document 01's sample session, every mode and both tuning kinds, notes without a
 // number, unknown keys, messages to all, `stop`, and every refusal. Each call that sends bytes is first made with a buffer one byte short.
 
+ghost use Prim.Native.Nat.{_≤_};
 use models::Pitch;
 use models::channels::ChannelsAnswer;
 use models::jit::PoolingMode;
@@ -8,6 +9,7 @@ use models::keys::AccessKeyResult;
 use models::steps::TuningKind;
 use senders::jit::JitTuner;
 use senders::jit::PressAnswer;
+use senders::jit::Released;
 use senders::midi::ChannelMessageType;
 use senders::midi::Sent;
 use senders::mts::channel_fine_tuning;
@@ -45,17 +47,6 @@ fn untouched(byte: u8) {
     }
 }
 
-fn line() {
-    show::word(b"\n");
-}
-
-fn sent(answer: Sent, buffer: &[u8]) {
-    match answer {
-        Sent::Written(count) => written(count, buffer),
-        Sent::Refused(n) => refused(n, buffer),
-    }
-}
-
 fn written(count: usize, buffer: &[u8]) {
     if count == 0 {
         show::word(b" -");
@@ -68,24 +59,11 @@ fn refused(n: u8, buffer: &[u8]) {
     bytes(buffer, 0);
 }
 
-// One byte less than a call needs.
-fn short_of(answer: Sent) -> usize {
+fn answered(answer: PressAnswer, buffer: &[u8]) {
     match answer {
-        Sent::Written(count) => {
-            if 0 < count {
-                return count - 1;
-            }
-            0
-        }
-        Sent::Refused(_) => 0,
-    }
-}
-
-fn as_sent(answer: PressAnswer) -> Sent {
-    match answer {
-        PressAnswer::Written(count) => Sent::Written(count),
-        PressAnswer::Rejected => Sent::Written(0),
-        PressAnswer::Refused(n) => Sent::Refused(n),
+        PressAnswer::Written(count) => written(count, buffer),
+        PressAnswer::Rejected => show::word(b" rejected"),
+        PressAnswer::Refused(n) => refused(n, buffer),
     }
 }
 
@@ -95,106 +73,131 @@ fn action(what: &[u8], key: u8) {
     show::word(b":");
 }
 
-// ---- the calls, first one byte short and then with room
+// ---- the calls
+
+enum Call {
+    On { key: u8, hz: f64, velocity: u8 },
+    Off { key: u8, velocity: u8 },
+    Pitch { key: u8, hz: f64 },
+    Attr { key: u8, pressure: u8 },
+    All(ChannelMessageType),
+    Stop,
+    Fine { channel: u8, detuning: f64 },
+    Bend { channel: u8, detuning: f64 },
+}
+
+struct Played {
+    answer: PressAnswer,
+    tuner: JitTuner,
+}
+
+fn perform(tuner: JitTuner, call: Call, out: &mut [u8]) -> Played {
+    match call {
+        Call::On { key, hz, velocity } => {
+            let pressed = tuner.note_on(key, Pitch::from_hz(hz), velocity, out);
+            let answer = pressed.answer;
+            let tuner = pressed.tuner;
+            Played { answer, tuner }
+        }
+        Call::Off { key, velocity } => released(tuner.note_off(key, velocity, out)),
+        Call::Pitch { key, hz } => kept(tuner, tuner.note_pitch(key, Pitch::from_hz(hz), out)),
+        Call::Attr { key, pressure } => kept(tuner, tuner.note_attr(key, pressure, out)),
+        Call::All(message) => kept(tuner, tuner.global_attr(message, out)),
+        Call::Stop => released(tuner.stop(out)),
+        Call::Fine { channel, detuning } => {
+            kept(tuner, channel_fine_tuning(channel, detuning, out))
+        }
+        Call::Bend { channel, detuning } => kept(tuner, channel_pitch_bend(channel, detuning, out)),
+    }
+}
+
+fn released(r: Released) -> Played {
+    let answer = r.answer;
+    kept(r.tuner, answer)
+}
+
+fn kept(tuner: JitTuner, sent: Sent) -> Played {
+    match sent {
+        Sent::Written(count) => Played {
+            answer: PressAnswer::Written(count),
+            tuner,
+        },
+        Sent::Refused(n) => Played {
+            answer: PressAnswer::Refused(n),
+            tuner,
+        },
+    }
+}
+
+// Makes a call first one byte short and then with room, and shows both answers.
+fn play(tuner: JitTuner, call: Call) -> JitTuner {
+    let mut buffer = [0xaau8; ROOM];
+    let played = perform(tuner, call, &mut buffer);
+    let answer = played.answer;
+    let short = short_of(answer);
+    if short < ROOM {
+        try_short(tuner, call, short);
+    }
+    answered(answer, &buffer);
+    show::word(b"\n");
+    played.tuner
+}
+
+fn try_short(tuner: JitTuner, call: Call, room: usize)
+    requires { ⌜ room ≤ 64 ⌝ }
+{
+    let mut buffer = [0xaau8; ROOM];
+    try_with(tuner, call, &mut buffer[..room]);
+}
+
+fn try_with(tuner: JitTuner, call: Call, out: &mut [u8]) {
+    let played = perform(tuner, call, out);
+    let answer = played.answer;
+    answered(answer, out);
+}
+
+// One byte less than a call needs.
+fn short_of(answer: PressAnswer) -> usize {
+    match answer {
+        PressAnswer::Written(count) => {
+            if 0 < count {
+                return count - 1;
+            }
+            0
+        }
+        PressAnswer::Rejected => 0,
+        PressAnswer::Refused(_) => 0,
+    }
+}
 
 fn press(tuner: JitTuner, key: u8, hz: f64, velocity: u8) -> JitTuner {
     action(b"  on", key);
-    let pitch = Pitch::from_hz(hz);
-    let mut buffer = [0xaau8; ROOM];
-    let pressed = tuner.note_on(key, pitch, velocity, &mut buffer[..ROOM]);
-    let answer = pressed.answer;
-    let short = short_of(as_sent(answer));
-    if short < ROOM {
-        let mut small = [0xaau8; ROOM];
-        let again = tuner.note_on(key, pitch, velocity, &mut small[..short]);
-        press_answer(again.answer, &small);
-    }
-    press_answer(answer, &buffer);
-    line();
-    pressed.tuner
-}
-
-fn press_answer(answer: PressAnswer, buffer: &[u8]) {
-    match answer {
-        PressAnswer::Written(count) => written(count, buffer),
-        PressAnswer::Rejected => show::word(b" rejected"),
-        PressAnswer::Refused(n) => refused(n, buffer),
-    }
+    play(tuner, Call::On { key, hz, velocity })
 }
 
 fn release(tuner: JitTuner, key: u8, velocity: u8) -> JitTuner {
     action(b"  off", key);
-    let mut buffer = [0xaau8; ROOM];
-    let released = tuner.note_off(key, velocity, &mut buffer[..ROOM]);
-    let answer = released.answer;
-    let short = short_of(answer);
-    if short < ROOM {
-        let mut small = [0xaau8; ROOM];
-        let again = tuner.note_off(key, velocity, &mut small[..short]);
-        sent(again.answer, &small);
-    }
-    sent(answer, &buffer);
-    line();
-    released.tuner
+    play(tuner, Call::Off { key, velocity })
 }
 
 fn repitch(tuner: JitTuner, key: u8, hz: f64) {
     action(b"  pitch", key);
-    let pitch = Pitch::from_hz(hz);
-    let mut buffer = [0xaau8; ROOM];
-    let answer = tuner.note_pitch(key, pitch, &mut buffer[..ROOM]);
-    let short = short_of(answer);
-    if short < ROOM {
-        let mut small = [0xaau8; ROOM];
-        let again = tuner.note_pitch(key, pitch, &mut small[..short]);
-        sent(again, &small);
-    }
-    sent(answer, &buffer);
-    line();
+    play(tuner, Call::Pitch { key, hz });
 }
 
-fn pressure(tuner: JitTuner, key: u8, value: u8) {
+fn pressure(tuner: JitTuner, key: u8, pressure: u8) {
     action(b"  attr", key);
-    let mut buffer = [0xaau8; ROOM];
-    let answer = tuner.note_attr(key, value, &mut buffer[..ROOM]);
-    let short = short_of(answer);
-    if short < ROOM {
-        let mut small = [0xaau8; ROOM];
-        let again = tuner.note_attr(key, value, &mut small[..short]);
-        sent(again, &small);
-    }
-    sent(answer, &buffer);
-    line();
+    play(tuner, Call::Attr { key, pressure });
 }
 
 fn to_all(tuner: JitTuner, message: ChannelMessageType) {
     show::word(b"  all:");
-    let mut buffer = [0xaau8; ROOM];
-    let answer = tuner.global_attr(message, &mut buffer[..ROOM]);
-    let short = short_of(answer);
-    if short < ROOM {
-        let mut small = [0xaau8; ROOM];
-        let again = tuner.global_attr(message, &mut small[..short]);
-        sent(again, &small);
-    }
-    sent(answer, &buffer);
-    line();
+    play(tuner, Call::All(message));
 }
 
 fn stop(tuner: JitTuner) -> JitTuner {
     show::word(b"  stop:");
-    let mut buffer = [0xaau8; ROOM];
-    let released = tuner.stop(&mut buffer[..ROOM]);
-    let answer = released.answer;
-    let short = short_of(answer);
-    if short < ROOM {
-        let mut small = [0xaau8; ROOM];
-        let again = tuner.stop(&mut small[..short]);
-        sent(again.answer, &small);
-    }
-    sent(answer, &buffer);
-    line();
-    released.tuner
+    play(tuner, Call::Stop)
 }
 
 fn lookup(tuner: JitTuner, key: u8) {
@@ -209,7 +212,7 @@ fn lookup(tuner: JitTuner, key: u8) {
         }
         AccessKeyResult::NotFound => show::word(b" not found"),
     }
-    line();
+    show::word(b"\n");
 }
 
 // ---- the passages
@@ -336,11 +339,12 @@ fn lists() {
 fn started(channels: &[u8]) {
     show::word(b"  start:");
     let opened = JitTuner::start(channels, TuningKind::Bend, PoolingMode::Stop);
-    match opened.answer {
+    let answer = opened.answer;
+    match answer {
         ChannelsAnswer::Listed(list) => show::number(list.len() as u64),
         ChannelsAnswer::Refused(n) => show::refusal(n),
     }
-    line();
+    show::word(b"\n");
     let tuner = opened.tuner;
     let tuner = press(tuner, 5, 440.0, 9);
     to_all(tuner, ChannelMessageType::ProgramChange { program: 5 });
@@ -367,30 +371,9 @@ fn detunings() {
 }
 
 fn detuned(channel: u8, detuning: f64) {
+    let tuner = JitTuner::start(&[], TuningKind::Bend, PoolingMode::Block).tuner;
     show::word(b"  fine:");
-    let mut buffer = [0xaau8; ROOM];
-    let answer = channel_fine_tuning(channel, detuning, &mut buffer[..ROOM]);
-    let short = short_of(answer);
-    if short < ROOM {
-        let mut small = [0xaau8; ROOM];
-        let again = channel_fine_tuning(channel, detuning, &mut small[..short]);
-        sent(again, &small);
-    }
-    sent(answer, &buffer);
-    line();
-    bent(channel, detuning);
-}
-
-fn bent(channel: u8, detuning: f64) {
+    play(tuner, Call::Fine { channel, detuning });
     show::word(b"  bend:");
-    let mut buffer = [0xaau8; ROOM];
-    let answer = channel_pitch_bend(channel, detuning, &mut buffer[..ROOM]);
-    let short = short_of(answer);
-    if short < ROOM {
-        let mut small = [0xaau8; ROOM];
-        let again = channel_pitch_bend(channel, detuning, &mut small[..short]);
-        sent(again, &small);
-    }
-    sent(answer, &buffer);
-    line();
+    play(tuner, Call::Bend { channel, detuning });
 }
