@@ -1,0 +1,10 @@
+pub mod Splits
+pub mod Lines
+pub mod Grammar
+pub mod Writes
+pub mod Shows
+pub mod Holds
+pub mod Clips
+pub mod Streaming
+pub mod Sent
+pub mod Hears
