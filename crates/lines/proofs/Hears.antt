@@ -1,10 +1,11 @@
 -- A line answered, from what the tuner's call did and what was shown. Assumes nothing.
 use Prim.Native.Nat.{ℕ, _≤_}
 use native.Mathlib.Omega.{arith}
-use mathlib.Core.Path.{_≡_, refl, sym, _∙_, ap}
+use mathlib.Core.Path.{_≡_, refl, sym, _∙_, ap, subst}
 use mathlib.Core.Bool.{Bool, true, false, cond}
 use mathlib.Core.List.{List, [], _∷_, _++_}
 use lib.Dec.{leb}
+use lib.Ieee.{Float}
 use lib.ListN.{length, take, drop, length-append}
 use lib.Seq.{take-at}
 use borrow.Author.Tests.{le-leb}
@@ -20,7 +21,11 @@ use Rattle.lines.specs.Line.{Event, event, meaning, meant}
 use Rattle.lines.specs.Show.{bytesLine, refusalLine}
 use Rattle.lines.specs.Console.{heard, keeping, pitchOf, eventRule, shown, after, answer, next, lineRule}
 use Rattle.lines.specs.Inner.{settle, count, counted}
+use Rattle.lines.specs.declared.line.Kind.{Kind}
 use Rattle.lines.specs.declared.line.Kind.the-variants.{On, Off, Bend}
+use Rattle.lines.specs.declared.line.Line.{Line}
+use Rattle.lines.specs.declared.line.Line.the-variants.{Event as IsEvent}
+use Rattle.lines.specs.declared.answer.Answered.{Answered}
 use Rattle.lines.proofs.Sent.{Counts, press-counts, release-counts, repitch-counts}
 
 -- ---- the calls in the words of `eventRule`
@@ -112,48 +117,111 @@ module _ {o : Outcome (Effect ℕ Tuner)} {t back : JitTuner} {old new : List �
       go : Effected o → (o ≡ refused n) × (back ≡ t)
       go (refusing k e) =
           let v : refused n ≡ refused k = rw e at (s .told-is) in
-          (e ∙ sym v, rw e at (s .moved-is))
+          let i : k ≡ n = cc v in
+          (e ∙ ap refused i, rw e at (s .moved-is))
       go (sending bs u e l) =
           let h : leb (length bs) (length old) ≡ true = le-leb (length bs) (length old) (omega arith) in
           clash (sym (rw (e, h) at (s .told-is)))
 
 -- ---- the answer's line
 
-pub line-sent : {t : Tuner} {line : List ℕ} {n : ℕ} {back : JitTuner} {bs : List ℕ} → Wrote18 (eventRule t (meaning line)) n back bs
+pub line-sent : (t : Tuner) (line : List ℕ) {n : ℕ} {back : JitTuner} {bs : List ℕ} → Wrote18 (eventRule t (meaning line)) n back bs
     → (answer t line ≡ bytesLine (take n bs)) × (next t line ≡ tuner back)
 unfolding answer next shown after
-line-sent w = (rw (w .effect-is), rw (w .effect-is))
+line-sent t line w = (rw (w .effect-is), rw (w .effect-is))
 
 pub line-refused : (t : Tuner) (line : List ℕ) (n : ℕ) → eventRule t (meaning line) ≡ refused n → (answer t line ≡ refusalLine n) × (next t line ≡ t)
 unfolding answer next shown after
 line-refused t line n e = (rw e, rw e)
 
 -- the line put into the buffer, and the tuner that goes with it
-pub answered : {t back r : JitTuner} {u : Tuner} {text out new : List ℕ} (s : Sent) → Answers (sent text) out (sentAnswer s) new → tuner back ≡ u
+pub answered : (back : JitTuner) (text : List ℕ) {t r : JitTuner} {u : Tuner} {out new : List ℕ} (s : Sent) → Answers (sent text) out (sentAnswer s) new → tuner back ≡ u
     → r ≡ settle s back t → Steps tuner (sends text u) t out (sentAnswer s) r new
 unfolding settle
-answered {t = t} {back = back} {r = r} {u = u} {text = text} {out = out} {new = new} (Written n) a m e = go (leb (length text) (length out)) refl
+answered back text {t = t} {r = r} {u = u} {out = out} {new = new} (Written n) a m e = go (leb (length text) (length out)) refl
   where
     go : (b : Bool) → leb (length text) (length out) ≡ b → Steps tuner (sends text u) t out (value n) r new
     go true h = record { told-is = rw h (rw h at (a .told-is)); moved-is = rw h (ap tuner e ∙ m); left-is = rw h (rw h at (a .left-is)) }
     go false h = clash (rw h at (a .told-is))
-answered {t = t} {back = back} {r = r} {u = u} {text = text} {out = out} {new = new} (Refused n) a m e = go (leb (length text) (length out)) refl
+answered back text {t = t} {r = r} {u = u} {out = out} {new = new} (Refused n) a m e = go (leb (length text) (length out)) refl
   where
     go : (b : Bool) → leb (length text) (length out) ≡ b → Steps tuner (sends text u) t out (refused n) r new
     go true h = clash (sym (rw h at (a .told-is)))
     go false h = record { told-is = rw h (rw h at (a .told-is)); moved-is = rw h e; left-is = rw h (rw h at (a .left-is)) }
 
+-- ---- the same in the places of the code
+
+pub meant-event : {l : Line} {k k′ : Kind} {a m v : ℕ} → l ≡ IsEvent k a m v → k ≡ k′ → meant l ≡ value (event k′ a m v)
+unfolding meant
+meant-event {a = a} {m = m} {v = v} e f = ap meant e ∙ ap (λ (k : Kind). value (event k a m v)) f
+
+module _ (t : JitTuner) {back : JitTuner} {old new : List ℕ} {o : Outcome Event} {key m v : ℕ} where
+  pub on-heard : {hz : Float} {a : Outcome Pressed} {r : Outcome ℕ} → o ≡ value (event On key m v) → hz ≡ pitchOf m
+      → Steps tuner (noteOnRule (tuner t) key hz v) t old a back new → r ≡ counted a → Steps tuner (eventRule (tuner t) o) t old r back new
+  unfolding eventRule
+  on-heard {a = a} e h s q =
+      let p : Steps tuner (noteOnRule (tuner t) key (pitchOf m) v) t old a back new =
+      subst (λ (x : Float). Steps tuner (noteOnRule (tuner t) key x v) t old a back new) h s in
+      subst (λ (x : Outcome ℕ). Steps tuner (eventRule (tuner t) o) t old x back new) (sym q)
+      (subst (λ (x : Outcome Event). Steps tuner (eventRule (tuner t) x) t old (counted a) back new) (sym e)
+      (press-heard (noteOnRule (tuner t) key (pitchOf m) v) (press-counts (tuner t) key (pitchOf m) v) p))
+
+  pub off-heard : {a : Outcome ℕ} → o ≡ value (event Off key m v) → Steps tuner (noteOffRule (tuner t) key v) t old a back new
+      → Steps tuner (eventRule (tuner t) o) t old a back new
+  unfolding eventRule
+  off-heard {a = a} e s = subst (λ (x : Outcome Event). Steps tuner (eventRule (tuner t) x) t old a back new) (sym e) s
+
+pub bend-heard : (t : JitTuner) {old new : List ℕ} {o : Outcome Event} {key m v : ℕ} {hz : Float} {a : Outcome ℕ} → o ≡ value (event Bend key m v) → hz ≡ pitchOf m → Answers (notePitchRule (tuner t) key hz) old a new
+    → Steps tuner (eventRule (tuner t) o) t old a t new
+unfolding eventRule
+bend-heard t {old = old} {new = new} {key = key} {m = m} {a = a} e h s =
+    let p : Answers (notePitchRule (tuner t) key (pitchOf m)) old a new = subst (λ (x : Float). Answers (notePitchRule (tuner t) key x) old a new) h s in
+    subst (λ (x : Outcome Event). Steps tuner (eventRule (tuner t) x) t old a t new) (sym e)
+    (repitch-heard {t = t} (notePitchRule (tuner t) key (pitchOf m)) (repitch-counts (tuner t) key (pitchOf m)) p)
+
+module _ (t : JitTuner) (m : Outcome Event) {back : JitTuner} {old new : List ℕ} {s : Sent} {n : ℕ} (room : length old ≡ 18)
+    (h : Steps tuner (eventRule (tuner t) m) t old (sentAnswer s) back new) where
+  pub heard-some : s ≡ Written n → Wrote18 (eventRule (tuner t) m) n back new
+  heard-some e =
+      sent-some {t = t} (effected (tuner t) m) room (subst (λ (x : Sent). Steps tuner (eventRule (tuner t) m) t old (sentAnswer x) back new) e h)
+
+  pub heard-none : s ≡ Refused n → (eventRule (tuner t) m ≡ refused n) × (back ≡ t)
+  heard-none e =
+      sent-none (effected (tuner t) m) room (subst (λ (x : Sent). Steps tuner (eventRule (tuner t) m) t old (sentAnswer x) back new) e h)
+
+module _ (t : JitTuner) (line : List ℕ) {m : Outcome Event} {out new : List ℕ} {s : Sent} {r : Answered} (e : m ≡ meaning line) where
+  line-steps : {u : Tuner} {text : List ℕ} (back : JitTuner) → answer (tuner t) line ≡ text → next (tuner t) line ≡ u → tuner back ≡ u
+      → Answers (sent text) out (sentAnswer s) new → (r .answer ≡ s) × (r .tuner ≡ settle s back t)
+      → Steps tuner (lineRule (tuner t) line) t out (sentAnswer (r .answer)) (r .tuner) new
+  line-steps back a x y p q =
+      subst (λ (z : Sent). Steps tuner (lineRule (tuner t) line) t out (sentAnswer z) (r .tuner) new) (sym (q .0))
+      (answered back (answer (tuner t) line) s (subst (λ (z : List ℕ). Answers (sent z) out (sentAnswer s) new) (sym a) p) (y ∙ sym x) (q .1))
+
+  pub sent-line : {n : ℕ} {back : JitTuner} {bytes : List ℕ} → Wrote18 (eventRule (tuner t) m) n back bytes
+      → Answers (sent (bytesLine (take n bytes))) out (sentAnswer s) new → (r .answer ≡ s) × (r .tuner ≡ settle s back t)
+      → Steps tuner (lineRule (tuner t) line) t out (sentAnswer (r .answer)) (r .tuner) new
+  sent-line {n = n} {back = back} {bytes = bytes} w p q =
+      let l = line-sent (tuner t) line (subst (λ (x : Outcome Event). Wrote18 (eventRule (tuner t) x) n back bytes) e w) in
+      line-steps back (l .0) (l .1) refl p q
+
+  pub refused-line : {n : ℕ} {back : JitTuner} → (eventRule (tuner t) m ≡ refused n) × (back ≡ t)
+      → Answers (sent (refusalLine n)) out (sentAnswer s) new → (r .answer ≡ s) × (r .tuner ≡ settle s back t)
+      → Steps tuner (lineRule (tuner t) line) t out (sentAnswer (r .answer)) (r .tuner) new
+  refused-line {n = n} {back = back} w p q =
+      let l = line-refused (tuner t) line n (ap (eventRule (tuner t)) (sym e) ∙ w .0) in
+      line-steps back (l .0) (l .1) (ap tuner (w .1)) p q
+
 -- ---- what a line's answer says of its text and of the tuner
 
-pub as-text : {t back : JitTuner} {u : Tuner} {text out new : List ℕ} {a : Outcome ℕ} → Steps tuner (sends text u) t out a back new → Answers (sent text) out a new
-as-text {t = t} {back = back} {u = u} {text = text} {out = out} {new = new} {a = a} s = go (leb (length text) (length out)) refl
+pub as-text : (text : List ℕ) (u : Tuner) {t back : JitTuner} {out new : List ℕ} {a : Outcome ℕ} → Steps tuner (sends text u) t out a back new → Answers (sent text) out a new
+as-text text u {t = t} {back = back} {out = out} {new = new} {a = a} s = go (leb (length text) (length out)) refl
   where
     go : (b : Bool) → leb (length text) (length out) ≡ b → Answers (sent text) out a new
     go true h = record { told-is = rw h (rw h at (s .told-is)); moved-is = rw h refl; left-is = rw h (rw h at (s .left-is)) }
     go false h = record { told-is = rw h (rw h at (s .told-is)); moved-is = rw h refl; left-is = rw h (rw h at (s .left-is)) }
 
-pub as-next : {t back : JitTuner} {u : Tuner} {text out new : List ℕ} {n : ℕ} → Steps tuner (sends text u) t out (value n) back new → tuner back ≡ u
-as-next {t = t} {back = back} {u = u} {text = text} {out = out} {new = new} {n = n} s = go (leb (length text) (length out)) refl
+pub as-next : (text : List ℕ) {t back : JitTuner} {u : Tuner} {out new : List ℕ} {n : ℕ} → Steps tuner (sends text u) t out (value n) back new → tuner back ≡ u
+as-next text {t = t} {back = back} {u = u} {out = out} {new = new} {n = n} s = go (leb (length text) (length out)) refl
   where
     go : (b : Bool) → leb (length text) (length out) ≡ b → tuner back ≡ u
     go true h = rw h at (s .moved-is)

@@ -8,3 +8,7 @@ pub mod Clips
 pub mod Streaming
 pub mod Sent
 pub mod Hears
+pub mod Ends
+pub mod Stepping
+pub mod Fills
+pub mod Progress

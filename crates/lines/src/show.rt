@@ -47,7 +47,13 @@ pub(crate) fn show_refusal(n: u8, out: &mut [u8]) -> Sent
         return put(&[b'R', b'0' + n / 10, b'0' + n % 10, b'\n'], out);
     }
     put(
-        &[b'R', b'0' + n / 100, b'0' + n / 10 % 10, b'0' + n % 10, b'\n'],
+        &[
+            b'R',
+            b'0' + n / 100,
+            b'0' + n / 10 % 10,
+            b'0' + n % 10,
+            b'\n',
+        ],
         out,
     )
 }

@@ -1,85 +1,72 @@
+-- `lines::answer::hear` meets its contract: each kind of event by its call. Assumes nothing.
+use mathlib.Core.Path.{ap}
+use Rattle.senders.specs.Jit.{tuner}
+use Rattle.senders.proofs.Lent.{ends-refused}
+use Rattle.lines.specs.Line.{meant}
+use Rattle.lines.specs.Console.{eventRule}
+use Rattle.lines.proofs.Hears.{meant-event, on-heard, off-heard, bend-heard}
+use Rattle.lines.specs.declared.line.Line.{Line}
 use borrow.Author.Needs.{needs}
 use Rattle.lines.proofs.answer.hear.Statement.{statement}
 use Rattle.lines.proofs.answer.hear.Tie as tie
-use Rattle.lines.proofs.answer.hear.Reads as reads
-use Rattle.lines.proofs.answer.hear.Lts as lts
-use Rattle.lines.proofs.answer.pitch_of.Reads as pitch-of-reads
-use Rattle.lines.proofs.answer.sent_of.Reads as sent-of-reads
-use Rattle.senders.proofs.jit.JitTuner.note_off.Reads as note-off-reads
-use Rattle.senders.proofs.jit.JitTuner.note_on.Reads as note-on-reads
-use Rattle.senders.proofs.jit.JitTuner.note_pitch.Reads as note-pitch-reads
 
--- src/answer.rt:74:21
 enum-known-line : tie.Need-enum-known-line
 enum-known-line c = search needs
 
--- src/answer.rt:76:21
 enum-told : tie.Need-enum-told
 enum-told c = search needs
 
--- src/answer.rt:75:9
 returns : tie.Need-returns
-returns c = ?
+unfolding eventRule meant
+returns c = ends-refused (ap (λ (l : Line). eventRule (tuner (c .before .before .before .args .tuner)) (meant l)) (c .enum-told .given .1))
 
--- src/answer.rt:82:46
 enum-told-2 : tie.Need-enum-told-2
 enum-told-2 c = search needs
 
--- src/answer.rt:82:46
 pitch-of-requires : tie.Need-pitch-of-requires
 pitch-of-requires c κs = search needs
 
--- src/answer.rt:82:17
 note-on-requires : tie.Need-note-on-requires
 note-on-requires c κs = search needs
 
--- src/answer.rt:84:17
 sent-of-requires : tie.Need-sent-of-requires
 sent-of-requires c κs = search needs
 
--- src/answer.rt:92:58
 enum-told-3 : tie.Need-enum-told-3
 enum-told-3 c = search needs
 
--- src/answer.rt:92:17
 note-off-requires : tie.Need-note-off-requires
 note-off-requires c κs = search needs
 
--- src/answer.rt:101:48
 enum-told-4 : tie.Need-enum-told-4
 enum-told-4 c = search needs
 
--- src/answer.rt:101:48
 pitch-of-requires-2 : tie.Need-pitch-of-requires-2
 pitch-of-requires-2 c κs = search needs
 
--- src/answer.rt:101:17
 note-pitch-requires : tie.Need-note-pitch-requires
 note-pitch-requires c κs = search needs
 
--- src/answer.rt:71:1
 same-length : tie.Need-same-length
 same-length c = search needs
 
--- src/answer.rt:71:1
 returns-2 : tie.Need-returns-2
-returns-2 c = ?
+returns-2 c =
+    on-heard (c .before .before .before .before .before .before .before .before .before .before .before .before .before .args .tuner) (meant-event (c .before .before .before .before .before .before .before .before .before .before .line .given .1) (c .before .before .before .before .before .before .before .enum-told2 .given .1)) (c .before .before .before .before .before .before .pitch-of .ensures) (c .before .before .before .before .note-on .ensures) (c .before .sent-of .ensures)
 
--- src/answer.rt:71:1
 same-length-2 : tie.Need-same-length-2
 same-length-2 c = search needs
 
--- src/answer.rt:71:1
 returns-3 : tie.Need-returns-3
-returns-3 c = ?
+returns-3 c =
+    off-heard (c .before .before .before .before .before .before .before .before .before .before .before .args .tuner) (meant-event (c .before .before .before .before .before .before .before .before .line .given .1) (c .before .before .before .before .before .enum-told3 .given .1)) (c .before .before .before .note-off .ensures)
 
--- src/answer.rt:71:1
 same-length-3 : tie.Need-same-length-3
 same-length-3 c = search needs
 
--- src/answer.rt:71:1
 returns-4 : tie.Need-returns-4
-returns-4 c = ?
+returns-4 c =
+    bend-heard (c .before .before .before .before .before .before .before .before .before .before .before .args .tuner) (meant-event (c .before .before .before .before .before .before .before .before .line .given .1) (c .before .before .before .before .before .enum-told4 .given .1)) (c .before .before .before .before .pitch-of2 .ensures) (c .before .before .note-pitch .ensures)
 
 pub hear-spec : {M : Type 1} → statement M
 hear-spec =

@@ -17,7 +17,7 @@ start-requires c κs = search needs
 
 returns : tie.Need-returns
 unfolding opened
-returns c = ap (λ (o : Outcome (List ℕ) × Tuner). o .1) (c .start .ensures)
+returns c = ap (λ (o : Outcome (List ℕ) × Tuner). o .1) (c .before .start .ensures)
 
 pub open-spec : {M : Type 1} → statement M
 open-spec = tie.close (tie.spec slice-aggregate-start start-requires returns)

@@ -15,7 +15,7 @@ enum-known-answer-2 c = search needs
 
 returns : tie.Need-returns
 unfolding count counted
-returns c = rw (c .answer .given .1)
+returns c = rw (c .before .answer .given .1)
 
 returns-2 : tie.Need-returns-2
 unfolding count counted
@@ -23,7 +23,7 @@ returns-2 c = rw (c .enum-told .given .1)
 
 returns-3 : tie.Need-returns-3
 unfolding count counted
-returns-3 c = rw (c .answer2 .given .1)
+returns-3 c = rw (c .before .answer2 .given .1)
 
 pub sent-of-spec : {M : Type 1} → statement M
 sent-of-spec =

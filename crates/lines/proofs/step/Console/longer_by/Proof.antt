@@ -1,4 +1,4 @@
--- `lines::step::Console::longer_by` meets its contract. Assumes nothing.
+-- `lines::step::Console::longer_by` meets its contract: what is held is as much of the longer line as is kept. Assumes nothing.
 use Prim.Native.Nat.{ℕ}
 use native.Mathlib.Omega.{arith}
 use mathlib.Core.Path.{_≡_, ap}
@@ -19,9 +19,9 @@ hold-requires c κs = search needs
 
 returns : tie.Need-returns
 returns c =
-    let con = c .before .before .before .args .self in
+    let con = c .before .before .before .before .before .before .args .self in
     let full : length (con .held) ≡ 65 = omega arith in
-    ap (λ (l : List ℕ). record { tuner = tuner (con .tuner); begun = l }) (held-more full (c .hold .ensures))
+    ap (λ (l : List ℕ). record { tuner = tuner (con .tuner); begun = l }) (held-more full (c .before .hold .ensures))
 
 pub longer-by-spec : {M : Type 1} → statement M
 longer-by-spec = tie.close (tie.spec slice-aggregate-hold hold-requires returns)

@@ -11,7 +11,7 @@ open-requires : tie.Need-open-requires
 open-requires c κs = search needs
 
 returns : tie.Need-returns
-returns c = ap (λ (t : Tuner). record { tuner = t; begun = [] }) (c .before .«open» .ensures)
+returns c = ap (λ (t : Tuner). record { tuner = t; begun = [] }) (c .«open» .ensures)
 
 pub new-spec : {M : Type 1} → statement M
 new-spec = tie.close (tie.spec open-requires returns)

@@ -1,124 +1,114 @@
+-- `lines::step::Console::step` meets its contract. The invariant: what the call does is what it has taken and written, and then what it does with
+-- the rest of the piece. Assumes nothing.
+use Prim.Native.Nat.{ℕ, _+_, _-_, _≤_}
+use native.Mathlib.Omega.{arith}
+use mathlib.Core.Path.{_≡_, sym, _∙_, ap}
+use lib.ListN.{length, length-map, length-take, length-drop}
+use lib.Seq.{length-take-le}
+use borrow.Rule.Slice.PartMut.{putMid}
+use Rattle.lines.specs.Session.{session}
+use Rattle.lines.proofs.Progress.{Progress, starting, stopped, below, unchanged, held-up, turn, ended}
+use borrow.Author.Needs.{needs}
 use Rattle.lines.proofs.step.Console.step.Statement.{statement}
 use Rattle.lines.proofs.step.Console.step.Tie as tie
-use Rattle.lines.proofs.step.Console.step.Reads as reads
-use Rattle.lines.proofs.step.Console.step.Lts as lts
-use Rattle.lines.proofs.line.find.Reads as find-reads
-use Rattle.lines.proofs.step.Console.ended_by.Reads as ended-by-reads
-use Rattle.lines.proofs.step.Console.longer_by.Reads as longer-by-reads
 
 abbrev Inv-loop : tie.InvT-loop
-Inv-loop piece out₀ console₀ at₀ end₀ out console at end = ?
+Inv-loop piece out₀ console₀ at₀ end₀ out console at end = Progress (session console₀) piece out₀ (session console) at end out
 
 abbrev μ-loop : tie.MeasureT-loop
-μ-loop piece out₀ console₀ at₀ end₀ out console at end = ?
+μ-loop piece out₀ console₀ at₀ end₀ out console at end = length piece - at
 
--- src/step.rt:58:9
 loop-holds : tie.Need-loop-holds Inv-loop μ-loop
-loop-holds c = ?
+loop-holds c =
+    let con = c .before .before .args .self in
+    let full : length (con .held) ≡ 65 = sym (length-map (con .held) (λ v. v)) ∙ c .before .before .good .0 .1 .1 .1 .0 .1 .0 .1 in
+    starting (session con) (c .before .before .args .piece .now) (c .before .before .args .out .now) (omega (arith, length-take (con .len) (con .held)))
 
--- src/step.rt:59:24
 sub-rest : tie.Need-sub-rest Inv-loop μ-loop
-sub-rest c = ?
+sub-rest c = omega arith
 
--- src/step.rt:59:24
 part-rest-start : tie.Need-part-rest-start Inv-loop μ-loop
-part-rest-start c = ?
+part-rest-start c = omega arith
 
--- src/step.rt:59:24
 part-rest-end : tie.Need-part-rest-end Inv-loop μ-loop
-part-rest-end c = ?
+part-rest-end c = omega arith
 
--- src/step.rt:60:17
 find-requires : tie.Need-find-requires Inv-loop μ-loop
-find-requires c κs = ?
+find-requires c κs = tt
 
--- src/step.rt:63:30
 longer-by-requires : tie.Need-longer-by-requires Inv-loop μ-loop
-longer-by-requires c κs = ?
+longer-by-requires c κs = tt
 
--- src/step.rt:64:27
 add-t18 : tie.Need-add-t18 Inv-loop μ-loop
-add-t18 c = ?
+add-t18 c = omega (arith, c .before .before .find .ensures .within)
 
--- src/step.rt:62:17
 same-length : tie.Need-same-length Inv-loop μ-loop
-same-length c = ?
+same-length c = c .before .before .before .before .before .loop .inv .buffer .size
 
--- src/step.rt:62:17
 returns : tie.Need-returns Inv-loop μ-loop
-returns c = ?
+returns c = stopped (c .before .before .before .before .before .loop .console) (c .before .before .before .before .before .loop .inv) (c .before .before .find .ensures) (c .longer-by .result) (c .before .if1 .taken) (c .longer-by .ensures)
 
--- src/step.rt:68:17
 slice-aggregate-line : tie.Need-slice-aggregate-line Inv-loop μ-loop
-slice-aggregate-line c = ?
+slice-aggregate-line c = sym (length-take-le _ _ (c .before .before .find .ensures .within))
 
--- src/step.rt:69:48
 sub-ended-by : tie.Need-sub-ended-by Inv-loop μ-loop
-sub-ended-by c = ?
+sub-ended-by c = c .before .before .before .before .before .loop .inv .buffer .within
 
--- src/step.rt:69:48
 part-ended-by-start : tie.Need-part-ended-by-start Inv-loop μ-loop
-part-ended-by-start c = ?
+part-ended-by-start c = c .before .before .before .before .before .loop .inv .buffer .within
 
--- src/step.rt:69:48
 part-ended-by-end : tie.Need-part-ended-by-end Inv-loop μ-loop
-part-ended-by-end c = ?
+part-ended-by-end c = omega arith
 
--- src/step.rt:69:17
 ended-by-requires : tie.Need-ended-by-requires Inv-loop μ-loop
-ended-by-requires c κs = ?
+ended-by-requires c κs = tt
 
--- src/step.rt:71:31
 enum-known-answer : tie.Need-enum-known-answer Inv-loop μ-loop
-enum-known-answer c = ?
+enum-known-answer c = search needs
 
--- src/step.rt:73:30
 enum-told : tie.Need-enum-told Inv-loop μ-loop
-enum-told c = ?
+enum-told c = search needs
 
--- src/step.rt:73:30
 longer-by-requires-2 : tie.Need-longer-by-requires-2 Inv-loop μ-loop
-longer-by-requires-2 c κs = ?
+longer-by-requires-2 c κs = tt
 
--- src/step.rt:74:27
 add-t24 : tie.Need-add-t24 Inv-loop μ-loop
-add-t24 c = ?
+add-t24 c = omega (arith, below (c .before .before .before .before .before .before .before .before .before .before .before .before .loop .console) (c .before .before .before .before .before .before .before .before .before .before .before .before .loop .inv) (c .before .before .before .before .before .before .before .before .before .find .ensures) (c .before .before .before .before .before .before .before .before .if1 .left) (c .before .before .before .before .before .ended-by .ensures), length-drop (c .before .before .before .before .before .before .before .before .before .before .before .before .loop .at) (c .before .before .before .before .before .before .before .before .before .before .before .before .before .before .before .args .piece .now), c .before .before .before .before .before .before .before .before .before .before .before .before .loop .inv .within, c .before .before .before .before .before .before .before .before .before .before .before .before .before .before .before .good)
 
--- src/step.rt:72:17
 same-length-2 : tie.Need-same-length-2 Inv-loop μ-loop
-same-length-2 c = ?
+same-length-2 c = ap length (unchanged (c .before .before .before .before .before .before .before .before .before .before .before .before .loop .console) (c .before .before .before .before .before .before .before .before .before .before .before .before .loop .inv) (c .before .before .before .before .before .before .before .before .before .find .ensures) (c .before .before .before .before .before .before .before .before .if1 .left) (c .before .before .before .before .before .ended-by .ensures) (c .before .enum-told .given .1)) ∙ c .before .before .before .before .before .before .before .before .before .before .before .before .loop .inv .buffer .size
 
--- src/step.rt:72:17
 returns-2 : tie.Need-returns-2 Inv-loop μ-loop
-returns-2 c = ?
+returns-2 c = held-up (c .before .before .before .before .before .before .before .before .before .before .before .before .loop .console) (c .before .before .before .before .before .before .before .before .before .before .before .before .loop .inv) (c .before .before .before .before .before .before .before .before .before .find .ensures) (c .before .before .before .before .before .before .before .before .if1 .left) (c .before .before .before .before .before .ended-by .ensures) (c .longer-by2 .result) (c .before .enum-told .given .1) (c .longer-by2 .ensures)
 
--- src/step.rt:79:13
+turned : (c : tie.After-console Inv-loop μ-loop)
+    → Progress (session (c .before .before .before .before .before .before .before .before .before .before .before .before .before .before .before .before .args .self)) (c .before .before .before .before .before .before .before .before .before .before .before .before .before .before .before .before .args .piece .now) (c .before .before .before .before .before .before .before .before .before .before .before .before .before .before .before .before .args .out .now)
+    (session (c .before .before .before .before .before .before .ended-by .result .console))
+    (c .before .before .before .before .before .before .before .before .before .before .before .before .before .loop .at + (c .before .before .before .before .before .before .before .before .before .before .find .result + 1))
+    (c .before .before .before .before .before .before .before .before .before .before .before .before .before .loop .«end» + c .before .before .answer .given .0 .0)
+    (putMid (c .before .before .before .before .before .before .before .before .before .before .before .before .before .loop .«end») (length (c .before .before .before .before .before .before .before .before .before .before .before .before .before .loop .out) - c .before .before .before .before .before .before .before .before .before .before .before .before .before .loop .«end») (c .before .before .before .before .before .before .before .before .before .before .before .before .before .loop .out) (c .before .before .before .before .before .before .ended-by .last .1 .1 .0))
+turned c = turn (c .before .before .before .before .before .before .before .before .before .before .before .before .before .loop .console) (c .before .before .before .before .before .before .before .before .before .before .before .before .before .loop .inv) (c .before .before .before .before .before .before .before .before .before .before .find .ensures) (c .before .before .before .before .before .before .before .before .before .if1 .left) (c .before .before .before .before .before .before .ended-by .ensures) (c .before .before .answer .given .1)
+
 add-end : tie.Need-add-end Inv-loop μ-loop
-add-end c = ?
+add-end c = omega (arith, turned c .buffer .within, turned c .buffer .size)
 
--- src/step.rt:80:19
 add-at : tie.Need-add-at Inv-loop μ-loop
-add-at c = ?
+add-at c = omega (arith, turned c .within)
 
--- src/step.rt:80:13
 add-at-2 : tie.Need-add-at-2 Inv-loop μ-loop
-add-at-2 c = ?
+add-at-2 c = omega (arith, turned c .within)
 
--- src/step.rt:58:9
 loop-less : tie.Need-loop-less Inv-loop μ-loop
-loop-less c = ?
+loop-less c = omega (arith, turned c .within)
 
--- src/step.rt:58:9
 loop-again : tie.Need-loop-again Inv-loop μ-loop
-loop-again c = ?
+loop-again c = turned c
 
--- src/step.rt:52:5
 same-length-3 : tie.Need-same-length-3 Inv-loop μ-loop
-same-length-3 c = ?
+same-length-3 c = c .before .loop .inv .buffer .size
 
--- src/step.rt:52:5
 returns-3 : tie.Need-returns-3 Inv-loop μ-loop
-returns-3 c = ?
+returns-3 c = ended (c .before .loop .console) (c .before .loop .inv) (c .loop-test .left)
 
 pub step-spec : {M : Type 1} → statement M
 step-spec =
