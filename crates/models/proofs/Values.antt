@@ -167,6 +167,15 @@ pub sent-in-steps : (kind : TuningKind) (v : Float) → InSteps (sentAs kind v)
 unfolding sentAs
 sent-in-steps kind v = in-steps kind (measure v)
 
+-- what is sent is in range
+pub value-in-steps : (kind : TuningKind) (v : Float) {t : Tuning} → tuningRule kind v ≡ value t → InSteps t
+unfolding tuningRule
+value-in-steps kind v {t} e = go (positive v) e
+  where
+    go : (b : Bool) → (refuse notMeasurable unless b then value (sentAs kind v)) ≡ value t → InSteps t
+    go true h = let same : sentAs kind v ≡ t = cc in subst InSteps same (sent-in-steps kind v)
+    go false h = absurd (let z : _≡_ {A = ℕ} 0 1 = cc in let f : ⊥ = omega arith in f)
+
 -- ---- demand 1: refusal 2, exactly where a detuning is not positive and finite
 
 pub tuning-refuses : (kind : TuningKind) (v : Float) (n : ℕ) → (tuningRule kind v ≡ refused n) ↔ ((positive v ≡ false) × (n ≡ notMeasurable))

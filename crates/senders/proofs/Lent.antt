@@ -12,7 +12,7 @@ use borrow.Author.Tests.{lt-leb, le-leb}
 use mathlib.Core.Bool.{Bool, true, false, cond}
 use Rattle.models.specs.Outcome.{Outcome, value, refused}
 use Rattle.models.specs.Refusal.{bufferTooShort}
-use Rattle.senders.specs.Lent.{Effect, sends, fitted, told, Moved, left, written, Steps, Put}
+use Rattle.senders.specs.Lent.{Effect, sends, sent, fitted, told, Moved, left, written, Steps, Answers, Put}
 
 -- ---- bytes put into a buffer
 
@@ -92,6 +92,49 @@ ends-counted {view = view} {rule = rule} {s = s} {back = back} {next = next} {bs
     let q : length bs ≡ r = sym (p .next-is ∙ zero-add (length bs)) in
     let f : Effect ℕ _ = record { says = length bs; bytes = bs; next = next } in
     rw q at (ends-sent {view = view} {s = s} {old = old} {f = f} {back = back} {r = r} {new = new} e p h m)
+
+-- ---- a call whose bytes another writes: it ends as that one does
+
+-- the answer of a call that counts its bytes
+pub counted : {bs old new : List ℕ} {n : ℕ} → Answers (sent bs) old (value n) new → n ≡ length bs
+counted {bs} {old} {new} {n} p = by (leb (length bs) (length old)) (p .told-is)
+  where
+    by : (t : Bool) → value n ≡ told (cond t (sent bs) (refused bufferTooShort)) → n ≡ length bs
+    by true a = cc
+    by false a = let z : _≡_ {A = ℕ} 0 1 = cc in absurd (omega arith)
+
+module _ {R S T : Type 0} {view : T → S} {rule : Outcome (Effect R S)} {s : T} {old new : List ℕ} where
+  pub ends-written :
+      {f : Effect R S} {n : ℕ} {back : T} → rule ≡ value f → Answers (sent (f .bytes)) old (value n) new → view back ≡ f .next
+      → Steps view rule s old (value (f .says)) back new
+  ends-written {f} {n} {back} e p m = by (leb (length (f .bytes)) (length old)) refl (p .told-is) (p .left-is)
+    where
+      by :
+          (t : Bool) → leb (length (f .bytes)) (length old) ≡ t → value n ≡ told (cond t (sent (f .bytes)) (refused bufferTooShort))
+          → new ≡ left (cond t (sent (f .bytes)) (refused bufferTooShort)) old → Steps view rule s old (value (f .says)) back new
+      by true h a l = record { told-is = simp (e, h); moved-is = rw (e, h) m; left-is = rw (e, h) l }
+      by false h a l = let z : _≡_ {A = ℕ} 0 1 = cc in absurd (omega arith)
+
+  pub ends-unwritten :
+      {f : Effect R S} {n : ℕ} → rule ≡ value f → Answers (sent (f .bytes)) old (refused n) new → Steps view rule s old (refused n) s new
+  ends-unwritten {f} {n} e p = by (leb (length (f .bytes)) (length old)) refl (p .told-is) (p .left-is)
+    where
+      by :
+          (t : Bool) → leb (length (f .bytes)) (length old) ≡ t → refused n ≡ told (cond t (sent (f .bytes)) (refused bufferTooShort))
+          → new ≡ left (cond t (sent (f .bytes)) (refused bufferTooShort)) old → Steps view rule s old (refused n) s new
+      by true h a l = let z : _≡_ {A = ℕ} 0 1 = cc in absurd (omega arith)
+      by false h a l =
+          let k : bufferTooShort ≡ n = cc in
+          record { told-is = simp (e, h, k); moved-is = rw (e, h) refl; left-is = rw (e, h) l }
+
+-- sent, by a call that answers how many bytes it sent
+pub ends-written-counted :
+    {S T : Type 0} {view : T → S} {rule : Outcome (Effect ℕ S)} {s back : T} {next : S} {bs old new : List ℕ} {n : ℕ} → rule ≡ sends bs next
+    → Answers (sent bs) old (value n) new → view back ≡ next → Steps view rule s old (value n) back new
+ends-written-counted {view = view} {rule = rule} {s = s} {back = back} {next = next} {bs = bs} {old = old} {new = new} {n = n} e p m =
+    let f : Effect ℕ _ = record { says = length bs; bytes = bs; next = next } in
+    let q : length bs ≡ n = sym (counted {bs = bs} {old = old} {new = new} p) in
+    rw q at (ends-written {view = view} {s = s} {old = old} {new = new} {f = f} {n = n} {back = back} e p m)
 
 -- ---- what a call that was accepted did
 

@@ -9,5 +9,8 @@ pub mod Bytes
 pub mod Hearing
 pub mod Received
 pub mod Each
+pub mod Channels
+pub mod Stops
+pub mod Calls
 pub mod Refusals
 pub mod Examples

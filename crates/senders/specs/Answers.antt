@@ -2,10 +2,12 @@
 use mathlib.Core.Option.{Option, some, none}
 use Prim.Native.Nat.{ℕ}
 use Rattle.models.specs.Outcome.{Outcome, value, refused}
+use Rattle.senders.specs.Jit.{Pressed, sounds, rejects}
 use Rattle.senders.specs.declared.midi.Sent.{Sent}
 use Rattle.senders.specs.declared.midi.Sent.the-variants.{Written, Refused}
 use Rattle.senders.specs.declared.midi.Check.{Check}
 use Rattle.senders.specs.declared.midi.Check.the-variants.{Passed, Refused as FailedBy}
+use Rattle.senders.specs.declared.jit.PressAnswer as P
 use Rattle.senders.specs.declared.tuner.NoteNumber.{NoteNumber}
 use Rattle.senders.specs.declared.tuner.NoteNumber.the-variants.{Number, Unnumbered}
 
@@ -18,6 +20,12 @@ checkAnswer (FailedBy n) = refused n
 abbrev pub sentAnswer : Sent → Outcome ℕ
 sentAnswer (Written n) = value n
 sentAnswer (Refused n) = refused n
+
+-- a press from a pool was sent, or rejected
+abbrev pub pressAnswer : P.PressAnswer → Outcome Pressed
+pressAnswer (P.the-variants.Written n) = value (sounds n)
+pressAnswer P.the-variants.Rejected = value rejects
+pressAnswer (P.the-variants.Refused n) = refused n
 
 -- a note's number, if it has one
 abbrev pub numberAnswer : NoteNumber → Option ℕ

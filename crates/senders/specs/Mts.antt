@@ -1,9 +1,14 @@
--- The messages that tune a channel ("mts.rs"): a fine tuning or a bend, whose value in steps is given. Assumes nothing.
-use mathlib.Core.Path.{_≡_}
-use mathlib.Core.Bool.{true}
+-- The messages that tune a channel ("mts.rs"), a fine tuning or a bend, and the rule of a detuning that a caller passes. Assumes nothing.
 use mathlib.Core.List.{List, [], _∷_}
-use Prim.Native.Nat.{ℕ, _/_, _%_, _<_}
-use Rattle.senders.specs.Message.{Message, control, bend, isBend}
+use Prim.Native.Nat.{ℕ, _/_, _%_}
+use lib.Ieee.{Float}
+use Rattle.models.specs.Outcome.{Outcome, value, refused, refuse_unless_then_}
+use Rattle.models.specs.Refusal.{channelOver15}
+use Rattle.models.specs.Steps.{tuningRule}
+use Rattle.models.specs.declared.steps.TuningKind.{TuningKind}
+use Rattle.senders.specs.Lent.{Answer, sent}
+use Rattle.senders.specs.Message.{Message, control, bend, isChannel}
+use Rattle.senders.specs.Midi.{bytesOf}
 use Rattle.models.specs.declared.steps.Tuning.{Tuning}
 use Rattle.models.specs.declared.steps.Tuning.the-variants.{Fine, Bend}
 
@@ -11,3 +16,12 @@ use Rattle.models.specs.declared.steps.Tuning.the-variants.{Fine, Bend}
 abbrev pub tuningMessages : ℕ → Tuning → List Message
 tuningMessages ch (Fine v) = control ch 0x65 0x00 ∷ control ch 0x64 0x01 ∷ control ch 0x06 (v / 128) ∷ control ch 0x26 (v % 128) ∷ []
 tuningMessages ch (Bend b) = bend ch b ∷ []
+
+-- ---- "Where a detuning is passed for a message: 6, 2, 10"; `fitted` adds 10
+
+abbrev pub tuningSent : ℕ → Outcome Tuning → Answer
+tuningSent ch (value t) = sent (bytesOf (tuningMessages ch t))
+tuningSent ch (refused n) = refused n
+
+abbrev pub channelTuningRule : TuningKind → ℕ → Float → Answer
+channelTuningRule kind ch v = refuse channelOver15 unless isChannel ch then tuningSent ch (tuningRule kind v)

@@ -1,9 +1,11 @@
--- The messages that a tuner sends on a channel ("midi.rs under tuner"). Assumes nothing.
+-- The messages that a tuner sends on its channels ("midi.rs under tuner"). Assumes nothing.
 use mathlib.Core.Bool.{Bool, true, false, cond}
 use mathlib.Core.Option.{Option, some, none}
 use mathlib.Core.List.{List, [], _∷_, _++_}
 use Prim.Native.Nat.{ℕ}
 use lib.IntN.{ℤ, pos, negsuc}
+use lib.ListN.{getElem?}
+use Rattle.models.specs.Pool.{Place}
 use Rattle.senders.specs.Message.{Message, isData}
 use Rattle.senders.specs.Midi.{meant}
 use Rattle.senders.specs.Mts.{tuningMessages}
@@ -47,6 +49,22 @@ pressMessages ch stopped tuning note v = stopMessages ch stopped v ++ tuningMess
 abbrev pub each : {A : Type 0} → (A → List Message) → List A → List Message
 each messages [] = []
 each messages (x ∷ xs) = messages x ++ each messages xs
+
+-- ---- channels
+
+-- "Channel i of a plan or pool is entry i of the channel list." A tuner that calls have led to has no channel past the list; for one, nothing
+-- would be sent.
+abbrev pub onEntry : (ℕ → List Message) → Option ℕ → List Message
+onEntry messages (some ch) = messages ch
+onEntry messages none = []
+
+abbrev pub onChannel : List ℕ → ℕ → (ℕ → List Message) → List Message
+onChannel channels i messages = onEntry messages (getElem? channels i)
+
+-- a message of a key's note on the key's channel; "an unknown key sends nothing"
+abbrev pub keyMessages : NoteMessage → List ℕ → ℕ → Option Place → List Message
+keyMessages kind channels v (some p) = onChannel channels (p .channel) (λ ch. noteMessages kind ch (p .note) v)
+keyMessages kind channels v none = []
 
 -- "`global_attr` goes to every channel, except bends of a bend sender"
 abbrev pub isBendMessage : ChannelMessageType → Bool

@@ -1,4 +1,5 @@
-// Channel messages and the bytes of tunings, written into lent buffers (document 01, "midi.rs, mts.rs, midi.rs under tuner").
+// Channel messages, the bytes of tunings and tuners, written into lent buffers (document 01, "midi.rs, mts.rs, midi.rs under tuner").
+pub mod jit;
 pub mod midi;
-mod mts;
+pub mod mts;
 mod tuner;

@@ -30,9 +30,9 @@ const CHANNEL_PRESSURE: u8 = 0xd;
 
 const PITCH_BEND_CHANGE: u8 = 0xe;
 
-const HIGHEST_CHANNEL: u8 = 15;
+pub(crate) const HIGHEST_CHANNEL: u8 = 15;
 
-const HIGHEST_DATA_BYTE: u8 = 127;
+pub(crate) const HIGHEST_DATA_BYTE: u8 = 127;
 
 const LOWEST_BEND: i16 = -8192;
 

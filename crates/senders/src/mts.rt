@@ -7,13 +7,19 @@ ghost use Rattle.senders.specs.Lent.{Put, Answers, sent};
 ghost use Rattle.senders.specs.Answers.{sentAnswer};
 ghost use Rattle.senders.specs.Midi.{bytesOf};
 ghost use Rattle.models.specs.Steps.{InSteps};
-ghost use Rattle.senders.specs.Mts.{tuningMessages};
+ghost use Rattle.models.specs.declared.steps.TuningKind.{TuningKind};
+ghost use Rattle.senders.specs.Mts.{tuningMessages, channelTuningRule};
 use crate::midi::ChannelMessageType;
+use crate::midi::HIGHEST_CHANNEL;
 use crate::midi::Sent;
 use crate::midi::message_len;
 use crate::midi::put_message;
 use models::refusal::BUFFER_TOO_SHORT;
+use models::refusal::CHANNEL_OVER_15;
 use models::steps::Tuning;
+use models::steps::TuningAnswer;
+use models::steps::TuningKind;
+use models::steps::tuning_of;
 
 // The controllers that choose a registered parameter and set its value.
 const RPN_MSB: u8 = 0x65;
@@ -28,6 +34,32 @@ const DATA_ENTRY_LSB: u8 = 0x26;
 const CHANNEL_FINE_TUNING_MSB: u8 = 0x00;
 
 const CHANNEL_FINE_TUNING_LSB: u8 = 0x01;
+
+// Writes the fine tuning of a channel by a detuning to the buffer's start. Refuses 6, 2, 10.
+pub fn channel_fine_tuning(channel: u8, detuning: f64, out: &mut [u8]) -> Sent
+    ensures { λ r. ⌜ Answers (channelTuningRule TuningKind.FineTuning channel detuning) (now (out .entry)) (sentAnswer r) (now (out .exit)) ⌝ }
+{
+    channel_tuning(TuningKind::FineTuning, channel, detuning, out)
+}
+
+// Writes the bend of a channel by a detuning to the buffer's start. Refuses 6, 2, 10.
+pub fn channel_pitch_bend(channel: u8, detuning: f64, out: &mut [u8]) -> Sent
+    ensures { λ r. ⌜ Answers (channelTuningRule TuningKind.Bend channel detuning) (now (out .entry)) (sentAnswer r) (now (out .exit)) ⌝ }
+{
+    channel_tuning(TuningKind::Bend, channel, detuning, out)
+}
+
+fn channel_tuning(kind: TuningKind, channel: u8, detuning: f64, out: &mut [u8]) -> Sent
+    ensures { λ r. ⌜ Answers (channelTuningRule kind channel detuning) (now (out .entry)) (sentAnswer r) (now (out .exit)) ⌝ }
+{
+    if HIGHEST_CHANNEL < channel {
+        return Sent::Refused(CHANNEL_OVER_15);
+    }
+    match tuning_of(kind, detuning) {
+        TuningAnswer::Value(tuning) => write_tuning(channel, tuning, out),
+        TuningAnswer::Refused(number) => Sent::Refused(number),
+    }
+}
 
 // Writes the tuning of a channel to the buffer's start. Refuses 10.
 pub(crate) fn write_tuning(channel: u8, tuning: Tuning, out: &mut [u8]) -> Sent

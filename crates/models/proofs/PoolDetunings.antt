@@ -1,0 +1,62 @@
+-- The detuning that a press or a repitch answers can be measured: its note is a note, and its pitch a pitch. Assumes nothing.
+use mathlib.Core.Path.{_≡_, refl, sym, ap, subst, _∙_}
+use mathlib.Core.Bool.{Bool, true, not}
+use mathlib.Core.Option.{Option, some, none}
+use Prim.Native.Nat.{ℕ}
+use native.Mathlib.Omega.{arith}
+use lib.Dec.{T}
+use lib.IntN.{ℤ}
+use lib.Ieee.{Float}
+use lib.Ieee.Positive.{positive}
+use Rattle.arithmetic.specs.Outcome.{Outcome, value, refused}
+use Rattle.arithmetic.specs.Note.{isNote}
+use Rattle.arithmetic.specs.Pitch.{isPitch, detuningOf}
+use Rattle.arithmetic.specs.Nearest.{nearestNote}
+use Rattle.arithmetic.proofs.Bounds.{detuning-positive}
+use Rattle.arithmetic.proofs.Nearest.{nearest-is-note}
+use Rattle.models.specs.Entries.{first}
+use Rattle.models.specs.Pool.{State, Place, Press, accepted, rejected, Room, pool, found, roomFor, pressedOn, pressed, unlessHeld, registerRule, tuning, repitchRule, isHeld}
+use Rattle.models.specs.View.{view}
+use Rattle.models.specs.declared.jit.JitTuningModel.{JitTuningModel}
+use Rattle.models.proofs.Pools.{value-by, found-note}
+
+true-of : (b : Bool) → T b → b ≡ true
+true-of true t = refl
+
+measurable : (hz : Float) (z : ℤ) → isPitch hz ≡ true → isNote z ≡ true → positive (detuningOf hz z) ≡ true
+measurable hz z p n = true-of (positive (detuningOf hz z)) (detuning-positive hz z (subst T (sym p) tt) n)
+
+-- an accepted press answers the detuning that it was made with
+same-detuning : (s : State) (key : ℕ) (note : ℤ) (v : Float) {c : ℕ} {st : Option ℤ} {z : ℤ} {d : Float} → pressed s key note v .0 ≡ accepted c st z d → v ≡ d
+unfolding pressed pressedOn
+same-detuning s key note v {c} {st} {z} {d} = go (first (pool (roomFor s note .state) note .free))
+  where
+    go : (x : Option ℕ) → pressedOn x (roomFor s note) s key note v .0 ≡ accepted c st z d → v ≡ d
+    go (some x) e = cc
+    go none e = let f : _≡_ {A = ℕ} 0 1 = cc in absurd (omega arith)
+
+pub press-measurable :
+    (s : State) (key : ℕ) (hz : Float) {r : Press × State} {c : ℕ} {st : Option ℤ} {z : ℤ} {d : Float} → registerRule s key hz ≡ value r
+    → r .0 ≡ accepted c st z d → positive d ≡ true
+unfolding registerRule unlessHeld
+press-measurable s key hz {r} e a =
+    let note = nearestNote hz in
+    let v = detuningOf hz note in
+    let tested = value-by 1 r (isPitch hz) (unlessHeld s key note v) (sym e) in
+    let new = value-by 11 r (not (isHeld (found s key))) (value (pressed s key note v)) (tested .1) in
+    let same : pressed s key note v ≡ r = cc in
+    rw (← (same-detuning s key note v (ap (λ x. x .0) same ∙ a))) (measurable hz note (tested .0) (nearest-is-note hz (subst T (sym (tested .0)) tt)))
+
+pub repitch-measurable :
+    (m : JitTuningModel) (key : ℕ) (hz : Float) {p : Place} {d : Float} → repitchRule (view m) key hz ≡ value (some (p, d)) → positive d ≡ true
+unfolding repitchRule tuning
+repitch-measurable m key hz {p} {d} e = go (found (view m) key) refl (tested .1)
+  where
+    tested : (isPitch hz ≡ true) × (value (some (p, d)) ≡ value (tuning hz (found (view m) key)))
+    tested = value-by 1 (some (p, d)) (isPitch hz) (value (tuning hz (found (view m) key))) (sym e)
+
+    go : (o : Option Place) → found (view m) key ≡ o → value (some (p, d)) ≡ value (tuning hz o) → positive d ≡ true
+    go (some q) f h =
+        let same : _≡_ {A = Place × Float} (p, d) (q, detuningOf hz (q .note)) = cc in
+        rw (ap (λ (x : Place × Float). x .1) same) (measurable hz (q .note) (tested .0) (found-note m key q f))
+    go none f h = let z : _≡_ {A = ℕ} 0 1 = cc in absurd (omega arith)

@@ -1,0 +1,83 @@
+-- What the calls of a pool tuner come to: a press by the model's answer, and a release. Assumes nothing.
+use mathlib.Core.Path.{_≡_, refl, sym, ap, _∙_}
+use mathlib.Core.Option.{Option}
+use mathlib.Core.List.{List, []}
+use Prim.Native.Nat.{ℕ, _<_}
+use native.Mathlib.Omega.{arith}
+use lib.IntN.{ℤ}
+use lib.Ieee.{Float}
+use lib.ListN.{length}
+use borrow.Author.Tests.{lt-ltb}
+use Rattle.models.specs.Outcome.{Outcome, value, refused}
+use Rattle.models.specs.Pool.{State, found, released, accepted, rejected, registerRule, replied}
+use Rattle.models.specs.Steps.{sentAs}
+use Rattle.senders.specs.Lent.{Effect, sends, sent, Answers, Steps}
+use Rattle.senders.specs.Midi.{bytesOf}
+use Rattle.senders.specs.Tuner.{onChannel, pressMessages, keyMessages}
+use Rattle.senders.specs.Jit.{Tuner, withPool, Pressed, sounds, rejects, noteOnRule, noteOffRule}
+use Rattle.senders.specs.declared.tuner.NoteMessage.the-variants.{Off}
+use Rattle.senders.proofs.Lent.{counted, ends-written}
+
+-- ---- the model's reply
+
+pub reply-value : {A : Type 0} (s : State) (o : Outcome (A × State)) {a : A} {u : State} → _≡_ {A = Outcome A × State} (value a, u) (replied s o) → o ≡ value (a, u)
+unfolding replied
+reply-value {A} s (value r) {a} {u} e =
+    let f : _≡_ {A = Outcome A} (value a) (value (r .0)) = ap (λ (x : Outcome A × State). x .0) e in
+    let g : u ≡ r .1 = ap (λ (x : Outcome A × State). x .1) e in
+    let h : a ≡ r .0 = cc in
+    rw (h, g)
+reply-value {A} s (refused n) {a} e =
+    let f : _≡_ {A = Outcome A} (value a) (refused n) = ap (λ (x : Outcome A × State). x .0) e in
+    let z : _≡_ {A = ℕ} 0 1 = cc in
+    absurd (omega arith)
+
+pub reply-refused : {A : Type 0} (s : State) (o : Outcome (A × State)) {n : ℕ} {u : State} → _≡_ {A = Outcome A × State} (refused n, u) (replied s o) → o ≡ refused n
+unfolding replied
+reply-refused {A} s (value r) {n} e =
+    let f : _≡_ {A = Outcome A} (refused n) (value (r .0)) = ap (λ (x : Outcome A × State). x .0) e in
+    let z : _≡_ {A = ℕ} 0 1 = cc in
+    absurd (omega arith)
+reply-refused {A} s (refused m) {n} e =
+    let f : _≡_ {A = Outcome A} (refused n) (refused m) = ap (λ (x : Outcome A × State). x .0) e in
+    let same : m ≡ n = cc in
+    ap refused same
+
+-- ---- the press
+
+-- what is sent for a press on channel i
+abbrev pub pressBytes : Tuner → ℕ → Option ℤ → ℤ → Float → ℕ → List ℕ
+pressBytes t i stopped note d v = bytesOf (onChannel (t .pool .channels) i (λ ch. pressMessages ch stopped (sentAs (t .kind) d) note v))
+
+module _ (t : Tuner) (key : ℕ) (hz : Float) (v : ℕ) (low : v < 128) where
+  pub press-sent :
+      {i : ℕ} {stopped : Option ℤ} {note : ℤ} {d : Float} {u : State} → registerRule (t .pool) key hz ≡ value (accepted i stopped note d, u)
+      → noteOnRule t key hz v
+      ≡ value (record { says = sounds (length (pressBytes t i stopped note d v)); bytes = pressBytes t i stopped note d v; next = withPool t u })
+  press-sent e = rw (lt-ltb v 128 low, e)
+
+  pub press-rejected :
+      {u : State} → registerRule (t .pool) key hz ≡ value (rejected, u)
+      → noteOnRule t key hz v ≡ value (record { says = rejects; bytes = []; next = withPool t u })
+  press-rejected e = rw (lt-ltb v 128 low, e)
+
+  pub press-refused : {n : ℕ} → registerRule (t .pool) key hz ≡ refused n → noteOnRule t key hz v ≡ refused n
+  press-refused e = rw (lt-ltb v 128 low, e)
+
+-- a press whose bytes were written
+pub ends-sounding :
+    {T : Type 0} {view : T → Tuner} {rule : Outcome (Effect Pressed Tuner)} {s back : T} {next : Tuner} {bs old new : List ℕ} {n : ℕ}
+    → rule ≡ value (record { says = sounds (length bs); bytes = bs; next = next }) → Answers (sent bs) old (value n) new → view back ≡ next
+    → Steps view rule s old (value (sounds n)) back new
+ends-sounding {view = view} {rule = rule} {s = s} {back = back} {next = next} {bs = bs} {old = old} {new = new} {n = n} e p m =
+    let q : length bs ≡ n = sym (counted {bs = bs} {old = old} {new = new} p) in
+    let f : Effect Pressed Tuner = record { says = sounds (length bs); bytes = bs; next = next } in
+    rw q at (ends-written {view = view} {s = s} {old = old} {new = new} {f = f} {n = n} {back = back} e p m)
+
+-- ---- the release
+
+abbrev pub releaseBytes : Tuner → ℕ → ℕ → List ℕ
+releaseBytes t key v = bytesOf (keyMessages Off (t .pool .channels) v (found (t .pool) key))
+
+pub release-sent : (t : Tuner) (key v : ℕ) → v < 128 → noteOffRule t key v ≡ sends (releaseBytes t key v) (withPool t (released (t .pool) key))
+release-sent t key v low = rw (lt-ltb v 128 low)

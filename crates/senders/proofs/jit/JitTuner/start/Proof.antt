@@ -1,0 +1,27 @@
+-- `senders::jit::JitTuner::start` meets its contract: the model's opening, with the kind beside it. Assumes nothing.
+use mathlib.Core.Path.{_≡_, refl, sym, ap, _∙_}
+use mathlib.Core.List.{List}
+use Prim.Native.Nat.{ℕ}
+use Rattle.models.specs.Outcome.{Outcome}
+use Rattle.models.specs.Pool.{State}
+use Rattle.models.specs.View.{opened}
+use Rattle.models.specs.declared.steps.TuningKind.{TuningKind}
+use Rattle.senders.specs.Jit.{Tuner}
+use borrow.Author.Needs.{needs}
+use Rattle.senders.proofs.jit.JitTuner.start.Statement.{statement}
+use Rattle.senders.proofs.jit.JitTuner.start.Tie as tie
+
+abbrev beside : TuningKind → Outcome (List ℕ) × State → Outcome (List ℕ) × Tuner
+beside k o = (o .0, record { pool = o .1; kind = k })
+
+open-requires : tie.Need-open-requires
+open-requires c κs = search needs
+
+returns : tie.Need-returns
+unfolding opened
+returns c =
+    let k = c .before .before .before .args .kind in
+    ap (beside k) (c .before .«open» .ensures)
+
+pub start-spec : {M : Type 1} → statement M
+start-spec = tie.close (tie.spec open-requires returns)
