@@ -14,6 +14,7 @@ use Rattle.models.specs.Refusal.{bufferTooShort}
 use Rattle.senders.specs.Lent.{Effect, sends, sent, Answer, fitted, told, Moved, left, Steps, Answers}
 use Rattle.senders.specs.Answers.{sentAnswer}
 use Rattle.senders.specs.Jit.{Tuner, tuner, Pressed, noteOnRule, noteOffRule, notePitchRule}
+use Rattle.senders.proofs.Room.{Counts, press-counts, release-counts, repitch-counts}
 use Rattle.senders.specs.declared.jit.JitTuner.{JitTuner}
 use Rattle.senders.specs.declared.midi.Sent.{Sent}
 use Rattle.senders.specs.declared.midi.Sent.the-variants.{Written, Refused}
@@ -26,9 +27,12 @@ use Rattle.lines.specs.declared.line.Kind.the-variants.{On, Off, Bend}
 use Rattle.lines.specs.declared.line.Line.{Line}
 use Rattle.lines.specs.declared.line.Line.the-variants.{Event as IsEvent}
 use Rattle.lines.specs.declared.answer.Answered.{Answered}
-use Rattle.lines.proofs.Sent.{Counts, press-counts, release-counts, repitch-counts}
 
 -- ---- the calls in the words of `eventRule`
+
+pressed-counts : (t : Tuner) (key : ℕ) (hz : Float) (v : ℕ) → Counts count (noteOnRule t key hz v)
+unfolding count
+pressed-counts t key hz v = press-counts count (λ n. refl) refl t key hz v
 
 -- a press, by the bytes it sends
 pub press-heard : {t back : JitTuner} {old new : List ℕ} {a : Outcome Pressed} (rule : Outcome (Effect Pressed Tuner)) → Counts count rule
@@ -39,7 +43,7 @@ press-heard {t = t} {back = back} {old = old} {new = new} {a = a} (value e) n s 
     go : (b : Bool) → leb (length (e .bytes)) (length old) ≡ b → Steps tuner (sends (e .bytes) (e .next)) t old (counted a) back new
     go true h =
         record {
-          told-is = rw h (ap counted (rw h at (s .told-is)) ∙ ap value (n e refl .0));
+          told-is = rw h (ap counted (rw h at (s .told-is)) ∙ ap value (n .0));
           moved-is = rw h (rw h at (s .moved-is));
           left-is = rw h (rw h at (s .left-is));
         }
@@ -53,7 +57,7 @@ unfolding keeping
 repitch-heard {t = t} {old = old} {new = new} {a = a} (value e) n s = go (leb (length (e .bytes)) (length old)) refl
   where
     go : (b : Bool) → leb (length (e .bytes)) (length old) ≡ b → Steps tuner (sends (e .bytes) (tuner t)) t old a t new
-    go true h = record { told-is = rw h ((rw h at (s .told-is)) ∙ ap value (n e refl .0)); moved-is = rw h refl; left-is = rw h (rw h at (s .left-is)) }
+    go true h = record { told-is = rw h ((rw h at (s .told-is)) ∙ ap value (n .0)); moved-is = rw h refl; left-is = rw h (rw h at (s .left-is)) }
     go false h = record { told-is = rw h (rw h at (s .told-is)); moved-is = rw h refl; left-is = rw h (rw h at (s .left-is)) }
 repitch-heard (refused k) n s = record { told-is = s .told-is; moved-is = refl; left-is = s .left-is }
 
@@ -65,23 +69,22 @@ pub data Effected (o : Outcome (Effect ℕ Tuner)) : Type 0 where
 
 counted-effect : (o : Outcome (Effect ℕ Tuner)) → Counts (λ n. n) o → Effected o
 counted-effect (value e) n =
-    let p = n e refl in
-    sending (e .bytes) (e .next) (ap (λ (k : ℕ). value (record { says = k; bytes = e .bytes; next = e .next })) (p .0)) (p .1)
+    sending (e .bytes) (e .next) (ap (λ (k : ℕ). value (record { says = k; bytes = e .bytes; next = e .next })) (n .0)) (n .1)
 counted-effect (refused k) n = refusing k refl
 
 press-effect : (o : Outcome (Effect Pressed Tuner)) → Counts count o → Effected (heard o)
 unfolding heard
-press-effect (value e) n = sending (e .bytes) (e .next) refl (n e refl .1)
+press-effect (value e) n = sending (e .bytes) (e .next) refl (n .1)
 press-effect (refused k) n = refusing k refl
 
 repitch-effect : (t : Tuner) (o : Answer) → Counts (λ n. n) o → Effected (keeping t o)
 unfolding keeping
-repitch-effect t (value e) n = sending (e .bytes) t refl (n e refl .1)
+repitch-effect t (value e) n = sending (e .bytes) t refl (n .1)
 repitch-effect t (refused k) n = refusing k refl
 
 pub effected : (t : Tuner) (m : Outcome Event) → Effected (eventRule t m)
 unfolding eventRule
-effected t (value (event On key m v)) = press-effect (noteOnRule t key (pitchOf m) v) (press-counts t key (pitchOf m) v)
+effected t (value (event On key m v)) = press-effect (noteOnRule t key (pitchOf m) v) (pressed-counts t key (pitchOf m) v)
 effected t (value (event Off key m v)) = counted-effect (noteOffRule t key v) (release-counts t key v)
 effected t (value (event Bend key m v)) = repitch-effect t (notePitchRule t key (pitchOf m)) (repitch-counts t key (pitchOf m))
 effected t (refused n) = refusing n refl
@@ -164,7 +167,7 @@ module _ (t : JitTuner) {back : JitTuner} {old new : List ℕ} {o : Outcome Even
       subst (λ (x : Float). Steps tuner (noteOnRule (tuner t) key x v) t old a back new) h s in
       subst (λ (x : Outcome ℕ). Steps tuner (eventRule (tuner t) o) t old x back new) (sym q)
       (subst (λ (x : Outcome Event). Steps tuner (eventRule (tuner t) x) t old (counted a) back new) (sym e)
-      (press-heard (noteOnRule (tuner t) key (pitchOf m) v) (press-counts (tuner t) key (pitchOf m) v) p))
+      (press-heard (noteOnRule (tuner t) key (pitchOf m) v) (pressed-counts (tuner t) key (pitchOf m) v) p))
 
   pub off-heard : {a : Outcome ℕ} → o ≡ value (event Off key m v) → Steps tuner (noteOffRule (tuner t) key v) t old a back new
       → Steps tuner (eventRule (tuner t) o) t old a back new

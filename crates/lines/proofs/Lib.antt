@@ -6,7 +6,6 @@ pub mod Shows
 pub mod Holds
 pub mod Clips
 pub mod Streaming
-pub mod Sent
 pub mod Hears
 pub mod Ends
 pub mod Stepping
