@@ -1,4 +1,5 @@
-// The console program: standard input to standard output, through the step of `lines`.
+// The console program: it moves bytes between standard input, the steps of `lines` and standard output.
+
 ghost use Prim.Native.Nat.{_≤_};
 ghost use lib.ListN.{length};
 use libc::STDIN_FILENO;
@@ -13,8 +14,8 @@ fn main() {
     end(console, &mut out);
 }
 
-// The console at the end of the input. A proved loop has to end, and nothing says that the input
-// does, so the loop counts its turns down from a number that no run uses up.
+// The console at the end of the input, or where the output is gone. A proved loop has to end, and nothing says that the input does, so the loop
+// counts its turns down from a number that no run uses up.
 fn read_all(piece: &mut [u8], out: &mut [u8]) -> Console
     requires { ⌜ 54 ≤ length (now out) ⌝ }
 {
@@ -33,13 +34,13 @@ fn read_all(piece: &mut [u8], out: &mut [u8]) -> Console
 
 // Answers a line that the end of the input ends.
 fn end(console: Console, out: &mut [u8]) {
-    let shown = console.finish(out);
-    if let Sent::Written(n) = shown {
+    let answer = console.finish(out);
+    if let Sent::Written(n) = answer {
         write(out, n);
     }
 }
 
-// The console after what one read brought, and whether there may be more.
+// The console behind what one read brought, and whether there may be more.
 struct Fed {
     console: Console,
     more: bool,

@@ -11,3 +11,4 @@ pub mod Ends
 pub mod Stepping
 pub mod Fills
 pub mod Progress
+pub mod Rooms
