@@ -3,6 +3,7 @@ pub mod Lent
 pub mod Bends
 pub mod Messages
 pub mod Sizes
+pub mod Room
 pub mod Notes
 pub mod Reading
 pub mod Bytes

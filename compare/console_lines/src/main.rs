@@ -1,0 +1,133 @@
+//! The console program in Rust: the same lines in and out, over the Rust that the port replaces (its own files, unchanged, from the `shared` folder
+//! beside the repository). It has no refusal 11: the Rust does not tell that a key is held.
+#![allow(dead_code, clippy::all)]
+
+#[path = "../../../../shared/docs/src/key.rs"]
+pub mod key;
+#[path = "../../../../shared/docs/src/math.rs"]
+pub mod math;
+#[path = "../../../../shared/docs/src/midi.rs"]
+pub mod midi;
+#[path = "../../../../shared/docs/src/mts.rs"]
+pub mod mts;
+#[path = "../../../../shared/docs/src/note.rs"]
+pub mod note;
+mod parse;
+#[path = "../../../../shared/docs/src/pitch.rs"]
+pub mod pitch;
+#[path = "../../../../shared/docs/src/tuner/mod.rs"]
+pub mod tuner;
+#[path = "../../../../shared/docs/src/tuning.rs"]
+pub mod tuning;
+
+use std::cell::RefCell;
+use std::io::{BufRead, BufReader, BufWriter, Write, stdin, stdout};
+use std::rc::Rc;
+
+use pitch::Pitch;
+use tuner::{JitTuner, MidiTarget, MidiTunerMessage, PoolingMode, TunableMidi};
+
+const BUFFER: usize = 65536;
+
+enum Event {
+    On(u8, u32, u8),
+    Off(u8, u8),
+    Bend(u8, u32),
+}
+
+fn number(field: &[u8], places: usize) -> Option<u32> {
+    if field.is_empty() || field.len() > places {
+        return None;
+    }
+    field.iter().try_fold(0, |n, b| b.is_ascii_digit().then(|| n * 10 + u32::from(b - b'0')))
+}
+
+fn parse_line(line: &[u8]) -> Option<Event> {
+    if line.len() > 64 {
+        return None;
+    }
+    let mut fields = line.split(|b| *b == b',');
+    let kind = fields.next()?;
+    let key = u8::try_from(number(fields.next()?, 3)?).ok()?;
+    let millihertz = number(fields.next()?, 9)?;
+    let velocity = u8::try_from(number(fields.next()?, 3)?).ok()?;
+    if fields.next().is_some() {
+        return None;
+    }
+    match kind {
+        b"on" => Some(Event::On(key, millihertz, velocity)),
+        b"off" if millihertz == 0 => Some(Event::Off(key, velocity)),
+        b"bend" if velocity == 0 => Some(Event::Bend(key, millihertz)),
+        _ => None,
+    }
+}
+
+fn pitch_of(millihertz: u32) -> Option<Pitch> {
+    (millihertz > 0).then(|| Pitch::from_hz(f64::from(millihertz) / 1000.0))
+}
+
+fn main() {
+    let sent = Rc::new(RefCell::new(Vec::with_capacity(64)));
+    let bytes = sent.clone();
+    let handler = move |message: MidiTunerMessage| message.send_to(|raw| bytes.borrow_mut().extend_from_slice(raw));
+    let target = MidiTarget { handler, channels: vec![0, 1] };
+    let mut tuner = JitTuner::start(TunableMidi::channel_fine_tuning(target), PoolingMode::Stop);
+    let mut input = BufReader::with_capacity(BUFFER, stdin().lock());
+    let mut output = BufWriter::with_capacity(BUFFER, stdout().lock());
+    let mut line = Vec::new();
+    loop {
+        line.clear();
+        if input.read_until(b'\n', &mut line).unwrap() == 0 {
+            break;
+        }
+        if line.last() == Some(&b'\n') {
+            line.pop();
+        }
+        sent.borrow_mut().clear();
+        let refusal = match parse_line(&line) {
+            None => 13,
+            Some(Event::On(_, _, velocity) | Event::Off(_, velocity)) if velocity > 127 => 8,
+            Some(Event::On(key, millihertz, velocity)) => match pitch_of(millihertz) {
+                Some(pitch) => {
+                    tuner.note_on(key, pitch, velocity);
+                    0
+                }
+                None => 1,
+            },
+            Some(Event::Off(key, velocity)) => {
+                tuner.note_off(key, velocity);
+                0
+            }
+            Some(Event::Bend(key, millihertz)) => match pitch_of(millihertz) {
+                Some(pitch) => {
+                    tuner.note_pitch(key, pitch);
+                    0
+                }
+                None => 1,
+            },
+        };
+        answer(&mut output, refusal, &sent.borrow());
+    }
+}
+
+fn answer(output: &mut impl Write, refusal: u8, bytes: &[u8]) {
+    const DIGITS: &[u8; 16] = b"0123456789ABCDEF";
+    if refusal > 0 {
+        writeln!(output, "R{refusal}").unwrap();
+        return;
+    }
+    if bytes.is_empty() {
+        output.write_all(b"-\n").unwrap();
+        return;
+    }
+    let mut text = [0; 96];
+    let mut n = 0;
+    for byte in bytes {
+        text[n] = DIGITS[usize::from(byte / 16)];
+        text[n + 1] = DIGITS[usize::from(byte % 16)];
+        text[n + 2] = b' ';
+        n += 3;
+    }
+    text[n - 1] = b'\n';
+    output.write_all(&text[..n]).unwrap();
+}

@@ -1,0 +1,78 @@
+-- Whatever the pieces in which the input comes, and whatever room each call has, the program writes what it writes for the whole input. Assumes
+-- nothing.
+use Prim.Native.Nat.{ℕ, suc, _-_}
+use native.Mathlib.Omega.{arith}
+use mathlib.Core.Path.{_≡_, refl, sym, _∙_, ap}
+use mathlib.Core.Bool.{Bool, true, false, cond}
+use mathlib.Core.List.{List, [], _∷_, _++_, append-assoc, append-nil}
+use lib.ListN.{length, drop}
+use lib.Dec.{eqb, leb}
+use borrow.Author.Tests.{eqb-true, eqb-false}
+use Rattle.lines.specs.Split.{feed, into, split}
+use Rattle.lines.specs.Console.{opened, answer, next, answers, nonempty, ended, linesOf, output}
+use Rattle.lines.specs.Session.{Session, start, then, text, endedBy, longerBy, Taken, nothing, byteThen, stepRule, finish, Calls, none, call}
+use Rattle.lines.proofs.Splits.{into-none, into-into, split-sep, split-other}
+use Rattle.lines.proofs.Clips.{ended-clip}
+
+-- what is still to be written for the input behind a session
+unfoldable pub ahead : Session → List ℕ → List ℕ
+ahead s input = answers (s .tuner) (ended (into (s .begun) (split feed input)))
+
+-- a line with parts behind it is whole
+ended-line : (f s : List ℕ) → ended (f ∷ split feed s) ≡ f ∷ ended (split feed s)
+unfolding ended into
+ended-line f s = rw (← into-none feed s) (go (split feed s))
+  where
+    go : (x : List (List ℕ)) → ended (f ∷ into [] x) ≡ f ∷ ended (into [] x)
+    go [] = refl
+    go (g ∷ gs) = refl
+
+-- nothing more comes
+ahead-none : (s : Session) → ahead s [] ≡ finish s
+unfolding ahead finish split into ended
+ahead-none s = rw append-nil
+
+-- a byte more: what it answers, and then what the rest asks
+ahead-byte : (s : Session) (b : ℕ) (bs : List ℕ) → ahead s (b ∷ bs) ≡ text s b ++ ahead (then s b) bs
+unfolding text then ahead into answers
+ahead-byte s b bs = go (eqb b feed) refl
+  where
+    go : (t : Bool) → eqb b feed ≡ t
+        → ahead s (b ∷ bs) ≡ cond t (answer (s .tuner) (s .begun ++ [])) [] ++ ahead (cond t (endedBy s []) (longerBy s (b ∷ []))) bs
+    go true e =
+        ap (λ (x : List (List ℕ)). answers (s .tuner) (ended (into (s .begun) x))) (split-sep feed b bs (eqb-true b feed e))
+        ∙ ap (answers (s .tuner)) (ended-line (s .begun ++ []) bs)
+        ∙ ap (λ (x : List (List ℕ)). answer (s .tuner) (s .begun ++ []) ++ answers (next (s .tuner) (s .begun ++ [])) (ended x)) (sym (into-none feed bs))
+    go false e =
+        ap (λ (x : List (List ℕ)). answers (s .tuner) (ended (into (s .begun) x))) (split-other feed b bs (eqb-false b feed e))
+        ∙ ap (λ (x : List (List ℕ)). answers (s .tuner) (ended x)) (sym (into-into (s .begun) (b ∷ []) (split feed bs)))
+        ∙ sym (ended-clip (s .tuner) (s .begun ++ (b ∷ [])) (split feed bs))
+
+-- a call: what it wrote, and then what is left of its piece and the rest ask
+pub ahead-step : (room : ℕ) (s : Session) (piece rest : List ℕ)
+    → ahead s (piece ++ rest) ≡ stepRule room s piece .output ++ ahead (stepRule room s piece .session) (drop (stepRule room s piece .used) piece ++ rest)
+unfolding stepRule
+ahead-step room s [] rest = refl
+ahead-step room s (b ∷ bs) rest = go (leb (length (text s b)) room) (ahead-step (room - length (text s b)) (then s b) bs rest)
+  where
+    go : (t : Bool) → (let r = stepRule (room - length (text s b)) (then s b) bs in ahead (then s b) (bs ++ rest) ≡ r .output ++ ahead (r .session) (drop (r .used) bs ++ rest))
+        → (let q = cond t (byteThen (text s b) (stepRule (room - length (text s b)) (then s b) bs)) (nothing s) in
+        ahead s (b ∷ bs ++ rest) ≡ q .output ++ ahead (q .session) (drop (q .used) (b ∷ bs) ++ rest))
+    go true ih =
+        let r = stepRule (room - length (text s b)) (then s b) bs in
+        ahead-byte s b (bs ++ rest) ∙ ap (λ (l : List ℕ). text s b ++ l) ih
+        ∙ sym (append-assoc (text s b) (r .output) (ahead (r .session) (drop (r .used) bs ++ rest)))
+    go false ih = refl
+
+calls-ahead : {s s′ : Session} {input out : List ℕ} → Calls s input s′ out → ahead s input ≡ out ++ finish s′
+calls-ahead (none {s = s}) = ahead-none s
+calls-ahead (call {s = s} {s′ = s′} {out = out} room piece rest r e cs) =
+    ahead-step room s piece rest
+    ∙ ap (λ (q : Taken). q .output ++ ahead (q .session) (drop (q .used) piece ++ rest)) (sym e)
+    ∙ ap (λ (l : List ℕ). r .output ++ l) (calls-ahead cs)
+    ∙ sym (append-assoc (r .output) out (finish s′))
+
+-- THE THEOREM of the program: from `Console::new` over any calls of `step` to `finish`, what is written is the output for the whole input
+pub whole-input : {s : Session} {input out : List ℕ} → Calls start input s out → out ++ finish s ≡ output input
+unfolding output linesOf ahead
+whole-input {s} {input} {out} cs = sym (calls-ahead cs) ∙ ap (λ (x : List (List ℕ)). answers opened (ended x)) (into-none feed input)

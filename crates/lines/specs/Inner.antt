@@ -1,0 +1,39 @@
+-- What the inner functions of the library answer. No public contract rests on these words. Assumes nothing.
+use Prim.Native.Nat.{ℕ, _≤_}
+use mathlib.Core.Path.{_≡_}
+use mathlib.Core.List.{List, _++_}
+use lib.ListN.{length, take}
+use Rattle.models.specs.Outcome.{Outcome, value, refused}
+use Rattle.senders.specs.Lent.{Answers, sent}
+use Rattle.senders.specs.Answers.{sentAnswer}
+use Rattle.senders.specs.Jit.{Pressed, sounds, rejects}
+use Rattle.senders.specs.declared.jit.JitTuner.{JitTuner}
+use Rattle.senders.specs.declared.midi.Sent.{Sent}
+use Rattle.senders.specs.declared.midi.Sent.the-variants.{Written, Refused}
+use Rattle.lines.specs.Console.{answer}
+use Rattle.lines.specs.Session.{Session, session, endedBy}
+use Rattle.lines.specs.declared.step.Ended.{Ended}
+
+-- `answer::settled`: the tuner after an answer that was written, or not
+unfoldable pub settle : Sent → JitTuner → JitTuner → JitTuner
+settle (Written n) next before = next
+settle (Refused n) next before = before
+
+-- `answer::sent_of`: how many bytes a press sent
+unfoldable pub count : Pressed → ℕ
+count (sounds n) = n
+count rejects = 0
+
+unfoldable pub counted : Outcome Pressed → Outcome ℕ
+counted (value p) = value (count p)
+counted (refused n) = refused n
+
+-- `step::Console::ended_by`: a line that ends behind more bytes
+pub record EndedBy (s : Session) (more old new : List ℕ) (r : Ended) : Type 0 where
+  pub text : Answers (sent (answer (s .tuner) (s .begun ++ more))) old (sentAnswer (r .answer)) new
+  pub session-is : {n : ℕ} → r .answer ≡ Written n → session (r .console) ≡ endedBy s more
+
+-- `step::hold`: bytes put behind the bytes of a line that has begun, as many as there is room for
+pub record Holds (held : List ℕ) (n : ℕ) (more new : List ℕ) (r : ℕ) : Type 0 where
+  pub within : r ≤ length new
+  pub bytes : take r new ≡ take (length held) (take n held ++ more)

@@ -1,0 +1,170 @@
+// Lines of the input answered as they come, whatever pieces they come in.
+
+ghost use mathlib.Core.Path.{_≡_};
+ghost use Prim.Native.Nat.{min};
+ghost use Rattle.senders.specs.Lent.{Answers};
+ghost use Rattle.senders.specs.Answers.{sentAnswer};
+ghost use Rattle.lines.specs.Session.{session, start, longerBy, finishRule, Stepped};
+ghost use Rattle.lines.specs.Inner.{EndedBy, Holds};
+use crate::answer::answer;
+use crate::answer::open;
+use crate::line::find;
+use senders::jit::JitTuner;
+use senders::midi::Sent;
+
+// One byte more than the longest line, which says that a line is longer.
+const MOST_HELD: usize = 65;
+
+// The tuner, and the line that has begun: `len` bytes of it.
+pub struct Console {
+    tuner: JitTuner,
+    held: [u8; MOST_HELD],
+    len: usize,
+}
+
+// The console behind what was used of a piece, how many bytes that were, and how many were written.
+pub struct Step {
+    pub console: Console,
+    pub used: usize,
+    pub written: usize,
+}
+
+// The answer to a line, and the console.
+struct Ended {
+    answer: Sent,
+    console: Console,
+}
+
+impl Console {
+    // The console before the input.
+    pub fn new() -> Console
+        ensures { λ r. ⌜ session r ≡ start ⌝ }
+    {
+        Console {
+            tuner: open(),
+            held: [0; MOST_HELD],
+            len: 0,
+        }
+    }
+
+    // Answers the lines that end in a piece of the input, and keeps the line that begins behind them. Where the buffer has no room for the next
+    // answer, the rest of the piece, from that line's feed on, is left for another call.
+    pub fn step(self, piece: &[u8], out: &mut [u8]) -> Step
+        ensures { λ r. ⌜ Stepped (session self) (now (piece .entry)) (now (out .entry)) (now (out .exit)) r ⌝ }
+    {
+        let mut console = self;
+        let mut at: usize = 0;
+        let mut end: usize = 0;
+        while at < piece.len() {
+            let rest = &piece[at..];
+            let n = find(rest, b'\n');
+            if n == rest.len() {
+                return Step {
+                    console: console.longer_by(rest),
+                    used: at + n,
+                    written: end,
+                };
+            }
+            let line = &rest[..n];
+            let ended = console.ended_by(line, &mut out[end..]);
+            let answer = ended.answer;
+            let Sent::Written(written) = answer else {
+                return Step {
+                    console: console.longer_by(line),
+                    used: at + n,
+                    written: end,
+                };
+            };
+            console = ended.console;
+            end += written;
+            at += n + 1;
+        }
+        Step {
+            console,
+            used: at,
+            written: end,
+        }
+    }
+
+    // The end of the input, which ends a line that has begun. Refuses 10.
+    pub fn finish(self, out: &mut [u8]) -> Sent
+        ensures { λ r. ⌜ Answers (finishRule (session self)) (now (out .entry)) (sentAnswer r) (now (out .exit)) ⌝ }
+    {
+        let tuner = self.tuner;
+        let held = self.held;
+        let len = self.len;
+        let whole = &held[..];
+        let n = least(len, whole.len());
+        if n == 0 {
+            return Sent::Written(0);
+        }
+        let answered = answer(tuner, &whole[..n], out);
+        answered.answer
+    }
+
+    // A line ends behind more bytes: its answer, and the console behind it where the answer was written. Refuses 10.
+    fn ended_by(self, more: &[u8], out: &mut [u8]) -> Ended
+        ensures { λ r. ⌜ EndedBy (session self) (now (more .entry)) (now (out .entry)) (now (out .exit)) r ⌝ }
+    {
+        let tuner = self.tuner;
+        let mut held = self.held;
+        let n = self.len;
+        if n == 0 {
+            let answered = answer(tuner, more, out);
+            let sent = answered.answer;
+            let next = answered.tuner;
+            return Ended {
+                answer: sent,
+                console: Console {
+                    tuner: next,
+                    held,
+                    len: 0,
+                },
+            };
+        }
+        let len = hold(&mut held, n, more);
+        let answered = answer(tuner, &held[..len], out);
+        let sent = answered.answer;
+        let next = answered.tuner;
+        Ended {
+            answer: sent,
+            console: Console {
+                tuner: next,
+                held,
+                len: 0,
+            },
+        }
+    }
+
+    // The line that has begun has more bytes.
+    fn longer_by(self, more: &[u8]) -> Console
+        ensures { λ r. ⌜ session r ≡ longerBy (session self) (now (more .entry)) ⌝ }
+    {
+        let tuner = self.tuner;
+        let mut held = self.held;
+        let n = self.len;
+        let len = hold(&mut held, n, more);
+        Console { tuner, held, len }
+    }
+}
+
+// Puts more bytes behind the n bytes of a line that has begun, as many as are kept, and answers how many it has then.
+fn hold(held: &mut [u8], n: usize, more: &[u8]) -> usize
+    ensures { λ r. ⌜ Holds (now (held .entry)) n (now (more .entry)) (now (held .exit)) r ⌝ }
+{
+    let room = held.len();
+    let k = least(n, room);
+    let m = least(more.len(), room - k);
+    let mut i = 0;
+    while i < m {
+        held[k + i] = more[i];
+        i += 1;
+    }
+    k + m
+}
+
+fn least(a: usize, b: usize) -> usize
+    ensures { λ r. ⌜ r ≡ min a b ⌝ }
+{
+    if a < b { a } else { b }
+}
