@@ -4,16 +4,16 @@ use mathlib.Core.Path.{_≡_, refl, sym, ap, _∙_}
 use mathlib.Core.Bool.{Bool, true, false, cond}
 use mathlib.Core.Option.{Option, some, none}
 use mathlib.Core.List.{List, [], _∷_, _++_}
-use Prim.Native.Nat.{ℕ, _<_}
+use Prim.Native.Nat.{ℕ, zero, suc, _<_}
 use native.Mathlib.Omega.{arith}
 use lib.Dec.{ltb, eqb}
 use lib.IntN.{ℤ, pos, negsuc}
 use lib.Ieee.{Float}
-use lib.ListN.{length, take, drop, getElem?}
+use lib.ListN.{length, take, drop, getD, getElem?}
 use lib.Seq.{take-at}
 use borrow.Author.Tests.{lt-ltb, ltb-true, eq-eqb}
 use Rattle.models.specs.Outcome.{Outcome, value}
-use Rattle.models.specs.Pool.{State as Pools, Place, Held, accepted, found, registerRule, repitchRule, heldKeys}
+use Rattle.models.specs.Pool.{State as Pools, Place, Held, accepted, found, registerRule, repitchRule, heldFrom, heldKeys}
 use Rattle.models.specs.Steps.{sentAs}
 use Rattle.models.specs.View.{view}
 use Rattle.models.proofs.Values.{sent-in-steps}
@@ -206,3 +206,44 @@ module _ (channels : List ℕ) where
       (rw (e, n, eq-eqb c c refl, lt-ltb k 128 low, eq-eqb k k refl) refl)
   hushed-off (g ∷ before) behind h c k r e n low =
       hushed-off before behind h c k (onListed (getElem? channels (g .place .channel)) (noted false (g .place .note)) r) e n low
+
+-- every found key is among those that `stop` goes through
+record Within (p : Place) (hs : List Held) : Type 0 where
+  before : List Held
+  held : Held
+  behind : List Held
+  place-is : held .place ≡ p
+  parts : hs ≡ before ++ held ∷ behind
+
+within : (l : List (Option Place)) (from key : ℕ) (p : Place) → getD l key none ≡ some p → Within p (heldFrom from l)
+unfolding heldFrom
+within [] from key p e = let z : _≡_ {A = ℕ} 0 1 = cc in absurd (omega arith)
+within (some q ∷ l) from zero p e =
+    record { before = []; held = record { key = from; place = q }; behind = heldFrom (suc from) l; place-is = (cc); parts = refl }
+within (none ∷ l) from zero p e = let z : _≡_ {A = ℕ} 0 1 = cc in absurd (omega arith)
+within (some q ∷ l) from (suc key) p e =
+    let w = within l (suc from) key p e in
+    let first : Held = record { key = from; place = q } in
+    record {
+      before = first ∷ w .before;
+      held = w .held;
+      behind = w .behind;
+      place-is = w .place-is;
+      parts = ap (λ (hs : List Held). first ∷ hs) (w .parts);
+    }
+within (none ∷ l) from (suc key) p e =
+    let w = within l (suc from) key p e in
+    record { before = w .before; held = w .held; behind = w .behind; place-is = w .place-is; parts = w .parts }
+
+-- After `stop` the note of every key that was found is off on the key's channel.
+pub stop-silences :
+    (other : Other) (st : State) (r : Receiver) (self back : JitTuner) {old new : List ℕ} {n : ℕ}
+    → Steps tuner (stopRule (tuner self)) self old (value n) back new → (key : ℕ) (p : Place) (c k : ℕ) → found (tuner self .pool) key ≡ some p
+    → getElem? (tuner self .pool .channels) (p .channel) ≡ some c → p .note ≡ pos k → k < 128 → hearBytes other st (take n new) r c .sounds k ≡ false
+unfolding found heldKeys
+stop-silences other st r self back {n = n} s key p c k f e note low =
+    let w = within (tuner self .pool .keys) 0 key p f in
+    let chs = tuner self .pool .channels in
+    ap (λ (q : Receiver). q c .sounds k) (stop-received other st r self {back = back} s)
+    ∙ ap (λ (hs : List Held). hushed chs hs r c .sounds k) (w .parts)
+    ∙ hushed-off chs (w .before) (w .behind) (w .held) c k r (rw (w .place-is) e) (rw (w .place-is) note) low
