@@ -21,7 +21,7 @@ use Rattle.senders.specs.Lent.{Effect, sent, Steps, Answers, written}
 use Rattle.senders.specs.Message.{Message, Valid, AllValid}
 use Rattle.senders.specs.Midi.{bytesOf, meant}
 use Rattle.senders.specs.Tuner.{keyMessages, onChannel, isKept, toAll, pressMessages}
-use Rattle.senders.specs.Jit.{Tuner, tuner, withPool, Pressed, sounds, noteOnRule, noteOffRule, noteAttrRule, notePitchRule, repitchMessages, globalAttrRule, stopMessages, stopRule}
+use Rattle.senders.specs.Jit.{Tuner, tuner, withPool, Pressed, sounds, noteOnRule, noteOffRule, noteAttrRule, notePitchRule, repitchMessages, globalAttrRule, releaseMessages, stopRule}
 use Rattle.senders.specs.Reader.{State, read}
 use Rattle.senders.specs.Padding.{allHeardAs, unpadded}
 use Rattle.senders.specs.Receiver.{Channel, Receiver, Other, withNote, hear, hearAll, hearBytes}
@@ -90,7 +90,7 @@ module _ (other : Other) (st : State) (r : Receiver) (self : JitTuner) where
     unfolding view
     stop-received p =
         let c = conveys-each other (λ (h : Held). keyMessages Off channels 0 (some (h .place))) (λ (h : Held). keyMeant Off channels 0 (some (h .place))) (heldKeys (tuner self .pool) 0) (λ h. conveys-key other (self .model .channels) Off 0 (some (h .place)) (omega arith)) in
-        sent-conveyed other st (stopMessages (tuner self)) r c refl p
+        sent-conveyed other st (releaseMessages (tuner self)) r c refl p
 
   module _ {old new : List ℕ} {n : ℕ} where
     -- A pressure changes nothing of what is kept here.
