@@ -11,14 +11,14 @@ use lib.ListN.{length}
 use lib.IntN.{ℤ}
 use lib.Ieee.{Float}
 use lib.Ieee.Positive.{positive}
-use Rattle.arithmetic.specs.Outcome.{Outcome, value, refused}
+use Rattle.arithmetic.specs.Outcome.{value}
 use Rattle.arithmetic.specs.Note.{isNote}
 use Rattle.arithmetic.specs.Pitch.{isPitch, detuningOf}
 use Rattle.arithmetic.specs.Nearest.{nearestNote}
 use Rattle.arithmetic.proofs.Bounds.{detuning-positive}
 use Rattle.arithmetic.proofs.Nearest.{nearest-is-note}
 use Rattle.models.specs.Lists.{first}
-use Rattle.models.specs.Pool.{State, Place, Press, accepted, rejected, Room, pool, found, roomFor, pressedOn, pressed, unlessHeld, registerRule, tuning, repitchRule, isHeld}
+use Rattle.models.specs.Pool.{State, Place, Press, accepted, pool, found, roomFor, pressedOn, pressed, unlessHeld, registerRule, tuning, repitchRule, isHeld}
 use Rattle.models.specs.JitModel.{view}
 use Rattle.models.specs.Recital.{Call}
 use Rattle.models.specs.declared.jit.JitTuningModel.{JitTuningModel}

@@ -1,29 +1,27 @@
 -- A pool tuner however it was played, refused calls included: its model is a pool model that was played, so the invariant of pools carries over, and
 -- every channel it sends on is an entry of its list. Assumes nothing.
 use mathlib.Core.Path.{_≡_, refl, sym, ap, subst, _∙_}
-use mathlib.Core.Logic.{_⊎_, inl, inr}
-use mathlib.Core.Bool.{Bool, true, false, cond, not}
-use mathlib.Core.Option.{Option, some, none}
+use mathlib.Core.Bool.{Bool, true, false, cond}
+use mathlib.Core.Option.{Option, some}
 use mathlib.Core.List.{List, [], _∷_}
 use Prim.Native.Nat.{ℕ, zero, suc, _<_}
 use native.Mathlib.Omega.{arith}
 use lib.Dec.{ltb, leb}
 use lib.IntN.{ℤ}
 use lib.Ieee.{Float}
-use lib.ListN.{length, getD, getElem?}
+use lib.ListN.{length, getElem?}
 use Rattle.models.specs.Outcome.{Outcome, value, refused}
 use Rattle.models.specs.ChannelList.{listRule, present}
-use Rattle.models.specs.Pool.{keyCount, State, Place, Press, accepted, found, released, stopped, registerRule, replied, openRule}
+use Rattle.models.specs.Pool.{keyCount, State, Place, Press, accepted, found, stopped, registerRule, replied}
 use Rattle.models.specs.Recital as recital
 use Rattle.models.specs.declared.steps.TuningKind.{TuningKind}
 use Rattle.models.specs.declared.jit.PoolingMode.{PoolingMode}
 use Rattle.models.specs.declared.jit.PoolGroupBy.the-variants.{Channel}
-use Rattle.models.proofs.PoolInvariant.{Ok, model, model-ok, found-channel}
+use Rattle.models.proofs.PoolInvariant.{Ok, model, model-ok}
 use Rattle.models.proofs.PoolPresses.{press-channel}
 use Rattle.models.proofs.PoolSettings.{channels-kept}
 use Rattle.senders.specs.Lent.{Effect, fitted, Moved, Steps}
-use Rattle.senders.specs.Midi.{bytesOf}
-use Rattle.senders.specs.Jit.{Tuner, withPool, pressEffect, noteOnRule, noteOffRule, stopRule, startRule}
+use Rattle.senders.specs.Jit.{Tuner, pressEffect, noteOnRule, noteOffRule, stopRule, startRule}
 use Rattle.senders.specs.Passage.{Call, noteOn, noteOff, stop, settled, after, played}
 
 -- ---- the code's calls are calls of a passage

@@ -3,35 +3,35 @@
 use mathlib.Core.Path.{_≡_, refl, sym, ap, _∙_}
 use mathlib.Core.Bool.{Bool, true, false, cond}
 use mathlib.Core.Option.{Option, some, none}
-use mathlib.Core.List.{List, [], _∷_}
-use Prim.Native.Nat.{ℕ, _<_}
+use mathlib.Core.List.{List, [], _∷_, _++_}
+use Prim.Native.Nat.{ℕ, zero, suc, _<_}
 use native.Mathlib.Omega.{arith}
-use lib.Dec.{ltb}
-use lib.IntN.{ℤ}
+use lib.Dec.{ltb, eqb}
+use lib.IntN.{ℤ, pos, negsuc}
 use lib.Ieee.{Float}
-use lib.ListN.{length, take, drop, getElem?}
+use lib.ListN.{length, take, drop, getD, getElem?}
 use lib.Seq.{take-at}
-use borrow.Author.Tests.{lt-ltb, ltb-true}
-use Rattle.models.specs.Outcome.{Outcome, value, refused}
-use Rattle.models.specs.Pool.{State as Pools, Place, Held, accepted, found, registerRule, repitchRule, heldKeys}
+use borrow.Author.Tests.{lt-ltb, ltb-true, eq-eqb}
+use Rattle.models.specs.Outcome.{Outcome, value}
+use Rattle.models.specs.Pool.{State as Pools, Place, Held, accepted, found, registerRule, repitchRule, heldFrom, heldKeys}
 use Rattle.models.specs.Steps.{sentAs}
 use Rattle.models.specs.JitModel.{view}
 use Rattle.models.proofs.Values.{sent-in-steps}
-use Rattle.senders.specs.Lent.{Effect, sends, sent, Steps, Answers, written}
+use Rattle.senders.specs.Lent.{Effect, sent, Steps, Answers, written}
 use Rattle.senders.specs.Message.{Message, Valid, AllValid}
-use Rattle.senders.specs.Midi.{bytesOf, meant, checked}
-use Rattle.senders.specs.Tuner.{keyMessages, each, onChannel, isKept, toAll, pressMessages}
-use Rattle.senders.specs.Jit.{Tuner, tuner, withPool, Pressed, sounds, noteOnRule, noteOffRule, noteAttrRule, notePitchRule, repitchMessages, globalAttrRule, stopMessages, stopRule}
+use Rattle.senders.specs.Midi.{bytesOf, meant}
+use Rattle.senders.specs.Tuner.{keyMessages, onChannel, isKept, toAll, pressMessages}
+use Rattle.senders.specs.Jit.{Tuner, tuner, withPool, Pressed, sounds, noteOnRule, noteOffRule, noteAttrRule, notePitchRule, repitchMessages, globalAttrRule, releaseMessages, stopRule}
 use Rattle.senders.specs.Reader.{State, read}
 use Rattle.senders.specs.Padding.{allHeardAs, unpadded}
-use Rattle.senders.specs.Receiver.{Receiver, Other, hear, hearAll, hearBytes}
-use Rattle.senders.specs.Meant.{tuned, pressed, onListed, keyMeant, inTurn}
+use Rattle.senders.specs.Receiver.{Channel, Receiver, Other, withNote, hear, hearAll, hearBytes}
+use Rattle.senders.specs.Meant.{tuned, noted, pressed, onListed, keyMeant, inTurn}
 use Rattle.senders.specs.declared.midi.ChannelMessageType.{ChannelMessageType}
 use Rattle.senders.specs.declared.tuner.NoteMessage.the-variants.{Off, Pressure}
 use Rattle.senders.specs.declared.jit.JitTuner.{JitTuner}
 use Rattle.senders.proofs.Bytes.{read-padded, sent-read, read-plain}
-use Rattle.senders.proofs.Calls.{pressBytes, press-sent, release-sent}
-use Rattle.senders.proofs.Conveyed.{Conveys, conveys-none, conveys-each, sent-conveyed, conveys-key, conveys-tuning, conveys-press, all-valid, echoes-heard, all-hear}
+use Rattle.senders.proofs.Calls.{press-sent, release-sent}
+use Rattle.senders.proofs.Conveyed.{conveys-none, conveys-each, sent-conveyed, conveys-key, conveys-tuning, conveys-press, all-valid, echoes-heard, all-hear}
 use Rattle.senders.proofs.Hearing.{on-none}
 use Rattle.senders.proofs.Lent.{accepted as done, starts-with}
 use Rattle.senders.proofs.Messages.{test-held, checked-valid, valid-checked}
@@ -83,14 +83,14 @@ module _ (other : Other) (st : State) (r : Receiver) (self : JitTuner) where
         let o = found (tuner self .pool) key in
         sent-conveyed other st (keyMessages Off channels v o) r (conveys-key other (self .model .channels) Off v o low) (release-sent (tuner self) key v low) p
 
-    -- After `stop` the note of every key that was found is off.
+    -- After `stop` a release with velocity 0 was heard for every key that was found, by rising key.
     pub stop-received :
         Steps tuner (stopRule (tuner self)) self old (value n) back new
         → hearBytes other st (take n new) r ≡ inTurn (λ (h : Held). keyMeant Off channels 0 (some (h .place))) (heldKeys (tuner self .pool) 0) r
     unfolding view
     stop-received p =
         let c = conveys-each other (λ (h : Held). keyMessages Off channels 0 (some (h .place))) (λ (h : Held). keyMeant Off channels 0 (some (h .place))) (heldKeys (tuner self .pool) 0) (λ h. conveys-key other (self .model .channels) Off 0 (some (h .place)) (omega arith)) in
-        sent-conveyed other st (stopMessages (tuner self)) r c refl p
+        sent-conveyed other st (releaseMessages (tuner self)) r c refl p
 
   module _ {old new : List ℕ} {n : ℕ} where
     -- A pressure changes nothing of what is kept here.
@@ -163,3 +163,87 @@ module _ (other : Other) (st : State) (r : Receiver) (self : JitTuner) where
           hearBytes other st (take n new) r ≡ cond (isKept (self .kind) m) r (inTurn (λ ch. hear other (meant ch m)) channels r)
       global-received-padded =
           ap (λ (l : List Message). hearAll other l r) global-read-padded ∙ echoes-heard other all r ∙ all-hear other (self .kind) channels m r
+
+-- ---- what `stop` comes to: silence
+
+-- a note-off leaves a note off that was off
+stays-off : (note : ℤ) (k : ℕ) (x : Channel) → x .sounds k ≡ false → noted false note x .sounds k ≡ false
+stays-off (pos n) k x h = by (ltb n 128)
+  where
+    at : (b : Bool) → cond b false (x .sounds k) ≡ false
+    at true = refl
+    at false = h
+
+    by : (b : Bool) → cond b (withNote n false x) x .sounds k ≡ false
+    by true = at (eqb k n)
+    by false = h
+stays-off (negsuc n) k x h = h
+
+off-elsewhere : (o : Option ℕ) (note : ℤ) (c k : ℕ) (r : Receiver) → r c .sounds k ≡ false → onListed o (noted false note) r c .sounds k ≡ false
+off-elsewhere (some ch) note c k r h = by (eqb c ch)
+  where
+    by : (b : Bool) → cond b (noted false note (r c)) (r c) .sounds k ≡ false
+    by true = stays-off note k (r c) h
+    by false = h
+off-elsewhere none note c k r h = h
+
+module _ (channels : List ℕ) where
+  abbrev hushed : List Held → Receiver → Receiver
+  hushed hs r = inTurn (λ (h : Held). keyMeant Off channels 0 (some (h .place))) hs r
+
+  stay-off : (hs : List Held) (c k : ℕ) (r : Receiver) → r c .sounds k ≡ false → hushed hs r c .sounds k ≡ false
+  stay-off [] c k r h = h
+  stay-off (g ∷ hs) c k r h =
+      stay-off hs c k (onListed (getElem? channels (g .place .channel)) (noted false (g .place .note)) r)
+      (off-elsewhere (getElem? channels (g .place .channel)) (g .place .note) c k r h)
+
+  -- Of every key that was found, on whatever channel, the note is off afterwards.
+  pub hushed-off :
+      (before behind : List Held) (h : Held) (c k : ℕ) (r : Receiver) → getElem? channels (h .place .channel) ≡ some c → h .place .note ≡ pos k → k < 128
+      → hushed (before ++ h ∷ behind) r c .sounds k ≡ false
+  hushed-off [] behind h c k r e n low =
+      stay-off behind c k (onListed (getElem? channels (h .place .channel)) (noted false (h .place .note)) r)
+      (rw (e, n, eq-eqb c c refl, lt-ltb k 128 low, eq-eqb k k refl) refl)
+  hushed-off (g ∷ before) behind h c k r e n low =
+      hushed-off before behind h c k (onListed (getElem? channels (g .place .channel)) (noted false (g .place .note)) r) e n low
+
+-- every found key is among those that `stop` goes through
+record Within (p : Place) (hs : List Held) : Type 0 where
+  before : List Held
+  held : Held
+  behind : List Held
+  place-is : held .place ≡ p
+  parts : hs ≡ before ++ held ∷ behind
+
+within : (l : List (Option Place)) (from key : ℕ) (p : Place) → getD l key none ≡ some p → Within p (heldFrom from l)
+unfolding heldFrom
+within [] from key p e = let z : _≡_ {A = ℕ} 0 1 = cc in absurd (omega arith)
+within (some q ∷ l) from zero p e =
+    record { before = []; held = record { key = from; place = q }; behind = heldFrom (suc from) l; place-is = (cc); parts = refl }
+within (none ∷ l) from zero p e = let z : _≡_ {A = ℕ} 0 1 = cc in absurd (omega arith)
+within (some q ∷ l) from (suc key) p e =
+    let w = within l (suc from) key p e in
+    let first : Held = record { key = from; place = q } in
+    record {
+      before = first ∷ w .before;
+      held = w .held;
+      behind = w .behind;
+      place-is = w .place-is;
+      parts = ap (λ (hs : List Held). first ∷ hs) (w .parts);
+    }
+within (none ∷ l) from (suc key) p e =
+    let w = within l (suc from) key p e in
+    record { before = w .before; held = w .held; behind = w .behind; place-is = w .place-is; parts = w .parts }
+
+-- After `stop` the note of every key that was found is off on the key's channel.
+pub stop-silences :
+    (other : Other) (st : State) (r : Receiver) (self back : JitTuner) {old new : List ℕ} {n : ℕ}
+    → Steps tuner (stopRule (tuner self)) self old (value n) back new → (key : ℕ) (p : Place) (c k : ℕ) → found (tuner self .pool) key ≡ some p
+    → getElem? (tuner self .pool .channels) (p .channel) ≡ some c → p .note ≡ pos k → k < 128 → hearBytes other st (take n new) r c .sounds k ≡ false
+unfolding found heldKeys
+stop-silences other st r self back {n = n} s key p c k f e note low =
+    let w = within (tuner self .pool .keys) 0 key p f in
+    let chs = tuner self .pool .channels in
+    ap (λ (q : Receiver). q c .sounds k) (stop-received other st r self {back = back} s)
+    ∙ ap (λ (hs : List Held). hushed chs hs r c .sounds k) (w .parts)
+    ∙ hushed-off chs (w .before) (w .behind) (w .held) c k r (rw (w .place-is) e) (rw (w .place-is) note) low

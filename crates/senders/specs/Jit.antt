@@ -45,11 +45,12 @@ opened o = (channelsAnswer (o .answer), tuner (o .tuner))
 
 -- ---- "Presses from a pool: 8, 1, 11, 10; a rejected press needs no bytes and so never meets 10"
 
+-- what a press answers: so many bytes were sent, or no channel was free
 pub data Pressed : Type 0 where
-  -- so many bytes were sent
   sounds : ℕ → Pressed
   rejects : Pressed
 
+-- an accepted press is sent on its channel
 abbrev pub soundMessages : Tuner → ℕ → Press → List Message
 soundMessages t velocity (accepted i stopped note detuning) =
     onChannel (t .pool .channels) i (λ ch. pressMessages ch stopped (sentAs (t .kind) detuning) note velocity)
@@ -100,8 +101,8 @@ globalAttrRule t m = checked m (sent (bytesOf (toAll (t .kind) (t .pool .channel
 
 -- ---- "`stop` on a pool tuner releases every found key with velocity 0", by rising key: 10 only
 
-abbrev pub stopMessages : Tuner → List Message
-stopMessages t = each (λ (h : Held). keyMessages Off (t .pool .channels) 0 (some (h .place))) (heldKeys (t .pool) 0)
+abbrev pub releaseMessages : Tuner → List Message
+releaseMessages t = each (λ (h : Held). keyMessages Off (t .pool .channels) 0 (some (h .place))) (heldKeys (t .pool) 0)
 
 abbrev pub stopRule : Tuner → Outcome (Effect ℕ Tuner)
-stopRule t = sends (bytesOf (stopMessages t)) (withPool t (stopped (t .pool)))
+stopRule t = sends (bytesOf (releaseMessages t)) (withPool t (stopped (t .pool)))

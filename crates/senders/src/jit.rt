@@ -8,7 +8,7 @@ ghost use Rattle.models.specs.JitModel.{place, view};
 ghost use Rattle.senders.specs.Lent.{Put, Answers, Steps};
 ghost use Rattle.senders.specs.Answers.{sentAnswer, pressAnswer};
 ghost use Rattle.senders.specs.Midi.{bytesOf};
-ghost use Rattle.senders.specs.Jit.{tuner, opened, startRule, noteOnRule, noteOffRule, notePitchRule, noteAttrRule, globalAttrRule, stopMessages, stopRule};
+ghost use Rattle.senders.specs.Jit.{tuner, opened, startRule, noteOnRule, noteOffRule, notePitchRule, noteAttrRule, globalAttrRule, releaseMessages, stopRule};
 use crate::midi::ChannelMessageType;
 use crate::midi::Check;
 use crate::midi::HIGHEST_DATA_BYTE;
@@ -234,7 +234,7 @@ impl JitTuner {
 
     // How many bytes the releases of all found keys take.
     fn stop_len(self) -> usize
-        ensures { λ r. ⌜ r ≡ length (bytesOf (stopMessages (tuner self))) ⌝ }
+        ensures { λ r. ⌜ r ≡ length (bytesOf (releaseMessages (tuner self))) ⌝ }
     {
         let channels = self.model.channel_list();
         let mut len: usize = 0;
@@ -251,8 +251,8 @@ impl JitTuner {
 
     // Puts the releases of all found keys, and answers the place behind them.
     fn put_stop(self, out: &mut [u8]) -> usize
-        requires { ⌜ length (bytesOf (stopMessages (tuner self))) ≤ length (now out) ⌝ }
-        ensures { λ r. ⌜ Put 0 (bytesOf (stopMessages (tuner self))) r (now (out .entry)) (now (out .exit)) ⌝ }
+        requires { ⌜ length (bytesOf (releaseMessages (tuner self))) ≤ length (now out) ⌝ }
+        ensures { λ r. ⌜ Put 0 (bytesOf (releaseMessages (tuner self))) r (now (out .entry)) (now (out .exit)) ⌝ }
     {
         let channels = self.model.channel_list();
         let mut at: usize = 0;

@@ -1,6 +1,6 @@
 -- `senders::jit::JitTuner::note_on` meets its contract: refused by the test of the velocity; or, by the model's answer, refused, rejected, or as the
 -- writing of its messages ends. Assumes nothing.
-use mathlib.Core.Path.{_≡_, refl, sym, ap, _∙_}
+use mathlib.Core.Path.{_≡_, refl}
 use Prim.Native.Nat.{_<_}
 use native.Mathlib.Omega.{arith}
 use mir.Syntax.{w32}
