@@ -1,21 +1,18 @@
 -- A piece of the input taken line by line, as `step` takes it. Assumes nothing.
 use Prim.Native.Nat.{ℕ, zero, suc, _+_, _-_, _≤_, _<_}
-use native.Mathlib.Nat.{add-assoc, zero-add, add-zero, sub-zero, le-of-eq}
-use native.Mathlib.Numerals.{add-one}
+use native.Mathlib.Nat.{add-assoc, zero-add, sub-zero}
 use native.Mathlib.Omega.{arith}
-use mathlib.Core.Path.{_≡_, refl, sym, _∙_, ap}
-use mathlib.Core.Bool.{true, false}
+use mathlib.Core.Path.{_≡_, sym, _∙_, ap}
 use mathlib.Core.List.{List, [], _∷_, _++_, append-assoc, append-nil}
 use lib.ListN.{length, take, drop, getD, length-take}
-use lib.Seq.{take-all, drop-length, take-length}
-use lib.Dec.{leb}
+use lib.Seq.{take-all, drop-length}
 use borrow.Author.Tests.{le-leb, lt-leb, eq-eqb, ne-eqb}
 use Rattle.senders.specs.Jit.{Tuner}
 use Rattle.lines.specs.Split.{feed, First}
 use Rattle.lines.specs.Console.{answer, next}
 use Rattle.lines.specs.Session.{Session, clip, then, text, endedBy, longerBy, Taken, nothing, byteThen, stepRule}
 use Rattle.lines.proofs.Splits.{drop-step}
-use Rattle.lines.proofs.Clips.{clip-append, clip-clip, answer-clip, next-clip}
+use Rattle.lines.proofs.Clips.{clip-append, answer-clip, next-clip}
 
 -- what was taken behind n bytes that answered `out`
 abbrev pub behind : ℕ → List ℕ → Taken → Taken

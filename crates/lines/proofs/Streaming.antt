@@ -1,7 +1,6 @@
 -- Whatever the pieces in which the input comes, and whatever room each call has, the program writes what it writes for the whole input. Assumes
 -- nothing.
-use Prim.Native.Nat.{ℕ, suc, _-_}
-use native.Mathlib.Omega.{arith}
+use Prim.Native.Nat.{ℕ, _-_}
 use mathlib.Core.Path.{_≡_, refl, sym, _∙_, ap}
 use mathlib.Core.Bool.{Bool, true, false, cond}
 use mathlib.Core.List.{List, [], _∷_, _++_, append-assoc, append-nil}
@@ -9,7 +8,7 @@ use lib.ListN.{length, drop}
 use lib.Dec.{eqb, leb}
 use borrow.Author.Tests.{eqb-true, eqb-false}
 use Rattle.lines.specs.Split.{feed, into, split}
-use Rattle.lines.specs.Console.{opened, answer, next, answers, nonempty, ended, linesOf, output}
+use Rattle.lines.specs.Console.{opened, answer, next, answers, ended, linesOf, output}
 use Rattle.lines.specs.Session.{Session, start, then, text, endedBy, longerBy, Taken, nothing, byteThen, stepRule, finish, Calls, none, call}
 use Rattle.lines.proofs.Splits.{into-none, into-into, split-sep, split-other}
 use Rattle.lines.proofs.Clips.{ended-clip}

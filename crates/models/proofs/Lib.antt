@@ -13,5 +13,5 @@ pub mod PoolSettings
 pub mod PoolInvariant
 pub mod PoolAnswers
 pub mod PoolRefusals
-pub mod PoolDetunings
+pub mod PoolPresses
 pub mod PoolExamples

@@ -13,5 +13,8 @@ pub mod Each
 pub mod Channels
 pub mod Stops
 pub mod Calls
+pub mod Passages
+pub mod Conveyed
+pub mod PoolTuner
 pub mod Refusals
 pub mod Examples

@@ -9,10 +9,23 @@ use native.Mathlib.Omega.{arith}
 use lib.Dec.{ltb, leb, eqb}
 use lib.ListN.{length}
 use borrow.Author.Tests.{le-ltb, lt-ltb, lt-leb, le-leb, ltb-true, ltb-false, leb-true, leb-false}
-use Rattle.models.specs.Outcome.{Outcome, value, refused}
+use mathlib.Core.Option.{Option, none}
+use lib.Ieee.{Float}
+use lib.Ieee.Positive.{positive}
+use Rattle.models.specs.Outcome.{Outcome, value, refused, refuse_unless_then_}
 use Rattle.models.specs.Refusal.{channelOver15, bufferTooShort}
+use Rattle.models.specs.Pool.{State, Place, Press, rejected, fresh, found, registerRule, repitchRule}
+use Rattle.models.specs.Steps.{sentAs, tuningRule}
+use Rattle.models.specs.declared.steps.Tuning.{Tuning}
+use Rattle.models.specs.declared.steps.TuningKind.{TuningKind}
+use Rattle.models.specs.declared.jit.PoolingMode.{PoolingMode}
+use Rattle.models.specs.declared.jit.PoolGroupBy.the-variants.{Channel as PoolGroup}
+use Rattle.models.proofs.PoolPresses.{repitch-unknown}
+use Rattle.models.proofs.PoolRefusals.{open-refused, register-refused, repitch-refused}
 use Rattle.senders.specs.Lent.{Effect, sent, fitted, told, Moved, left, Steps}
-use Rattle.senders.specs.Message.{Valid, isChannel, isBend}
+use Rattle.senders.specs.Mts.{tuningSent, channelTuningRule}
+use Rattle.senders.specs.Jit.{Tuner, withPool, rejects, pressEffect, startRule, noteOnRule, noteOffRule, noteAttrRule, repitchEffect, notePitchRule, globalAttrRule, stopRule}
+use Rattle.senders.specs.Message.{Valid, isChannel, isData, isBend}
 use Rattle.senders.specs.Midi.{bytes, meant, checked, messageRule}
 use Rattle.senders.specs.declared.midi.ChannelMessageType.{ChannelMessageType}
 use Rattle.senders.specs.declared.midi.ChannelMessageType.the-variants.{NoteOff, NoteOn, PolyphonicKeyPressure, ControlChange, ProgramChange, ChannelPressure, PitchBendChange}
@@ -73,7 +86,108 @@ message-refusals ch m room =
     among-fitted ns room (messageRule ch m) refl
     (among-test ns 6 (ltb ch 16) o refl (among-checked ns m (sent (bytes (meant ch m))) refl refl tt))
 
+-- fine tunings and bends of a detuning: 6, 2, 10
+tuning-among : (ns : List ℕ) (ch : ℕ) (b : Bool) (t : Tuning) → has ns 2 ≡ true → Among ns (tuningSent ch (cond b (value t) (refused 2)))
+tuning-among ns ch true t h = tt
+tuning-among ns ch false t h = h
+
+pub tuning-refusals : (kind : TuningKind) (ch : ℕ) (v : Float) (room : ℕ) → Among (6 ∷ 2 ∷ 10 ∷ []) (fitted room (channelTuningRule kind ch v))
+unfolding tuningRule
+tuning-refusals kind ch v room =
+    let ns : List ℕ = 6 ∷ 2 ∷ 10 ∷ [] in
+    among-fitted ns room (channelTuningRule kind ch v) refl
+    (among-test ns 6 (ltb ch 16) (tuningSent ch (tuningRule kind v)) refl (tuning-among ns ch (positive v) (sentAs kind v) refl))
+
+-- ---- the pool tuner's calls
+
+-- starting: 6, 7; a tuner without channels then
+pub start-refusals :
+    (channels : List ℕ) (kind : TuningKind) (mode : PoolingMode) (n : ℕ) → startRule channels kind mode .0 ≡ refused n
+    → ((n ≡ 6) ⊎ (n ≡ 7)) × (startRule channels kind mode .1 .pool ≡ fresh [] PoolGroup mode)
+start-refusals channels kind mode n e = let o = open-refused channels PoolGroup mode n e in (o .0, o .2)
+
+-- presses: 8, 1, 11, 10
+among-register : (s : State) (key : ℕ) (hz : Float) (n : ℕ) → registerRule s key hz ≡ refused n → has (8 ∷ 1 ∷ 11 ∷ 10 ∷ []) n ≡ true
+among-register s key hz n e =
+    elim (register-refused s key hz n .0 e) [ inl h ↦ ap (has (8 ∷ 1 ∷ 11 ∷ 10 ∷ [])) (h .1) | inr h ↦ ap (has (8 ∷ 1 ∷ 11 ∷ 10 ∷ [])) (h .1 .1) ]
+
+pub press-refusals : (t : Tuner) (key : ℕ) (hz : Float) (v room : ℕ) → Among (8 ∷ 1 ∷ 11 ∷ 10 ∷ []) (fitted room (noteOnRule t key hz v))
+press-refusals t key hz v room =
+    among-fitted ns room (noteOnRule t key hz v) refl
+    (among-test ns 8 (ltb v 128) (pressEffect t v (registerRule (t .pool) key hz)) refl (by (registerRule (t .pool) key hz) refl))
+  where
+    ns : List ℕ
+    ns = 8 ∷ 1 ∷ 11 ∷ 10 ∷ []
+
+    by : (o : Outcome (Press × State)) → registerRule (t .pool) key hz ≡ o → Among (8 ∷ 1 ∷ 11 ∷ 10 ∷ []) (pressEffect t v o)
+    by (value r) e = tt
+    by (refused n) e = among-register (t .pool) key hz n e
+
+-- releases and pressures: 8, 10
+pub release-refusals : (t : Tuner) (key v room : ℕ) → Among (8 ∷ 10 ∷ []) (fitted room (noteOffRule t key v))
+release-refusals t key v room =
+    among-fitted (8 ∷ 10 ∷ []) room (noteOffRule t key v) refl (among-test (8 ∷ 10 ∷ []) 8 (ltb v 128) _ refl tt)
+
+pub pressure-refusals : (t : Tuner) (key v room : ℕ) → Among (8 ∷ 10 ∷ []) (fitted room (noteAttrRule t key v))
+pressure-refusals t key v room =
+    among-fitted (8 ∷ 10 ∷ []) room (noteAttrRule t key v) refl (among-test (8 ∷ 10 ∷ []) 8 (ltb v 128) _ refl tt)
+
+-- a repitch: 1, 10, and 1 only of an unknown key
+among-repitch : (ns : List ℕ) (t : Tuner) (key : ℕ) (hz : Float) → has ns 1 ≡ true → Among ns (notePitchRule t key hz)
+among-repitch ns t key hz h = by (repitchRule (t .pool) key hz) refl
+  where
+    by : (o : Outcome (Option (Place × Float))) → repitchRule (t .pool) key hz ≡ o → Among ns (repitchEffect t o)
+    by (value r) e = tt
+    by (refused n) e = ap (has ns) (repitch-refused (t .pool) key hz n .0 e .1) ∙ h
+
+pub repitch-refusals : (t : Tuner) (key : ℕ) (hz : Float) (room : ℕ) → Among (1 ∷ 10 ∷ []) (fitted room (notePitchRule t key hz))
+repitch-refusals t key hz room = among-fitted (1 ∷ 10 ∷ []) room (notePitchRule t key hz) refl (among-repitch (1 ∷ 10 ∷ []) t key hz refl)
+
+pub repitch-unknown-refusals :
+    (t : Tuner) (key : ℕ) (hz : Float) (room : ℕ) → found (t .pool) key ≡ none → Among (1 ∷ []) (fitted room (notePitchRule t key hz))
+repitch-unknown-refusals t key hz room e = by (repitchRule (t .pool) key hz) refl
+  where
+    by : (o : Outcome (Option (Place × Float))) → repitchRule (t .pool) key hz ≡ o → Among (1 ∷ []) (fitted room (repitchEffect t o))
+    by (value r) h = rw (repitch-unknown (t .pool) key hz e h, le-leb 0 room (omega arith)) tt
+    by (refused n) h = ap (has (1 ∷ [])) (repitch-refused (t .pool) key hz n .0 h .1)
+
+-- a message to all: 8, 9, 10, also where nothing is sent
+pub global-refusals : (t : Tuner) (m : ChannelMessageType) (room : ℕ) → Among (8 ∷ 9 ∷ 10 ∷ []) (fitted room (globalAttrRule t m))
+global-refusals t m room =
+    among-fitted (8 ∷ 9 ∷ 10 ∷ []) room (globalAttrRule t m) refl (among-checked (8 ∷ 9 ∷ 10 ∷ []) m _ refl refl tt)
+
+-- `stop`: 10 only
+pub stop-refusals : (t : Tuner) (room : ℕ) → Among (10 ∷ []) (fitted room (stopRule t))
+stop-refusals t room = among-fitted (10 ∷ []) room (stopRule t) refl tt
+
 -- ---- in which order
+
+-- a test comes before the room
+pub test-first :
+    {R S : Type 0} (room k : ℕ) (test : Bool) (o : Outcome (Effect R S))
+    → fitted room (refuse k unless test then o) ≡ (refuse k unless test then fitted room o)
+test-first room k true o = refl
+test-first room k false o = refl
+
+-- what is refused behind the tests is refused for want of room alone
+pub room-refuses :
+    {R S : Type 0} (room : ℕ) (e : Effect R S) {n : ℕ} → fitted room (value e) ≡ refused n → (room < length (e .bytes)) × (n ≡ bufferTooShort)
+room-refuses room e {n} h = by (leb (length (e .bytes)) room) refl h
+  where
+    by : (b : Bool) → leb (length (e .bytes)) room ≡ b → cond b (value e) (refused bufferTooShort) ≡ refused n → (room < length (e .bytes)) × (n ≡ bufferTooShort)
+    by true l h = let z : _≡_ {A = ℕ} 0 1 = cc in absurd (omega arith)
+    by false l h = (leb-false (length (e .bytes)) room l, (cc))
+
+-- A press: 8 before all else, then what the model refuses, 1 and then 11 by `register-refused`, then 10.
+pub press-order :
+    (t : Tuner) (key : ℕ) (hz : Float) (v room : ℕ)
+    → fitted room (noteOnRule t key hz v) ≡ (refuse 8 unless isData v then fitted room (pressEffect t v (registerRule (t .pool) key hz)))
+press-order t key hz v room = test-first room 8 (ltb v 128) (pressEffect t v (registerRule (t .pool) key hz))
+
+-- A rejected press never meets 10.
+pub rejected-fits :
+    (t : Tuner) (v room : ℕ) (u : State) → fitted room (pressEffect t v (value (rejected, u))) ≡ value (record { says = rejects; bytes = []; next = withPool t u })
+rejected-fits t v room u = rw (le-leb 0 room (omega arith))
 
 module _ (ch : ℕ) (m : ChannelMessageType) (room : ℕ) where
   -- a channel over 15 is refused before all else

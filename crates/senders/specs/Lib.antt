@@ -5,6 +5,7 @@ pub mod Midi
 pub mod Mts
 pub mod Tuner
 pub mod Jit
+pub mod Passage
 pub mod Answers
 pub mod Reader
 pub mod Padding

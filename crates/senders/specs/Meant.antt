@@ -5,6 +5,8 @@ use mathlib.Core.Option.{Option, some, none}
 use Prim.Native.Nat.{ℕ}
 use lib.Dec.{ltb}
 use lib.IntN.{ℤ, pos, negsuc, _-ℤ_}
+use lib.ListN.{getElem?}
+use Rattle.models.specs.Pool.{Place}
 use Rattle.senders.specs.Message.{isData}
 use Rattle.senders.specs.Receiver.{Channel, Receiver, on, withChoice, withFine, withBend, withNote, parameter, fineShift, bendShift, sensitivityCents}
 use Rattle.models.specs.declared.steps.Tuning.{Tuning}
@@ -40,6 +42,21 @@ pressed s t note v x = noteMeant On note v (tuned t (stopped s x))
 abbrev pub onEach : {A : Type 0} → (A → ℕ) → (A → Channel → Channel) → List A → Receiver → Receiver
 onEach channel change [] r = r
 onEach channel change (x ∷ xs) r = onEach channel change xs (on (channel x) (change x) r)
+
+-- a change of channel i of a list; no channel changes where the list is shorter
+abbrev pub onListed : Option ℕ → (Channel → Channel) → Receiver → Receiver
+onListed (some ch) change r = on ch change r
+onListed none change r = r
+
+-- a message of a found key's note changes the key's channel, that of an unknown key nothing
+abbrev pub keyMeant : NoteMessage → List ℕ → ℕ → Option Place → Receiver → Receiver
+keyMeant kind channels v (some p) r = onListed (getElem? channels (p .channel)) (noteMeant kind (p .note) v) r
+keyMeant kind channels v none r = r
+
+-- one change after the other
+abbrev pub inTurn : {A : Type 0} → (A → Receiver → Receiver) → List A → Receiver → Receiver
+inTurn change [] r = r
+inTurn change (x ∷ xs) r = inTurn change xs (change x r)
 
 -- ---- how far a tuning moves its channel, in cents times 8192
 

@@ -36,6 +36,12 @@ fn magnitude(n: i64) -> u64
     n as u64
 }
 
+// Two hexadecimal digits.
+pub fn byte(n: u8) {
+    word(b" ");
+    io::print_hex(STDOUT_FILENO, n as u64, 2);
+}
+
 // A refusal by its number, as R4.
 pub fn refusal(n: u8) {
     word(b" R");

@@ -2,7 +2,7 @@
 use mathlib.Core.Path.{_≡_, sym, ap, _∙_}
 use native.Mathlib.Omega.{arith}
 use borrow.Author.Tests.{le-ltb, lt-ltb}
-use Rattle.models.specs.Outcome.{value, refused}
+use Rattle.models.specs.Outcome.{value}
 use Rattle.models.specs.Answers.{tuningAnswer}
 use Rattle.models.specs.Steps.{tuningRule}
 use Rattle.models.proofs.Values.{value-in-steps}

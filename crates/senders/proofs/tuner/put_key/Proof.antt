@@ -1,5 +1,5 @@
 -- `senders::tuner::put_key` meets its contract: the list has the entry, and then the note is put, or not. Assumes nothing.
-use mathlib.Core.Path.{_≡_, refl, sym, ap, _∙_}
+use mathlib.Core.Path.{_≡_, sym, ap, _∙_}
 use mir.Syntax.{w32}
 use mir.Val.{toZ, ofZ}
 use mir.Facts.{toZ-ofZ}
@@ -7,7 +7,6 @@ use lib.ListN.{getElem?}
 use mathlib.Core.Option.{some}
 use mathlib.Core.List.{List}
 use Prim.Native.Nat.{ℕ}
-use native.Mathlib.Omega.{arith}
 use Rattle.models.specs.ChannelList.{entries, entryAnswer}
 use Rattle.senders.specs.Message.{Message}
 use Rattle.senders.specs.Tuner.{noteMessages}

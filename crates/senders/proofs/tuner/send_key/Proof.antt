@@ -1,14 +1,11 @@
 -- `senders::tuner::send_key` meets its contract: the key is not found, or there is no room, or its message is sent. Assumes nothing.
-use mathlib.Core.Path.{_≡_, refl, sym, ap, _∙_}
+use mathlib.Core.Path.{_≡_, refl}
 use mir.Syntax.{w32}
 use mir.Val.{toZ, ofZ}
 use mir.Facts.{toZ-ofZ}
-use lib.IntN.{ℤ}
 use native.Mathlib.Omega.{arith}
 use Rattle.models.specs.ChannelList.{entries}
 use Rattle.models.specs.View.{place}
-use Rattle.senders.specs.Midi.{bytesOf}
-use Rattle.senders.specs.Tuner.{keyMessages}
 use Rattle.senders.proofs.Channels.{key-size}
 use Rattle.senders.proofs.Lent.{ends-short, ends-counted, put-none}
 use borrow.Author.Needs.{needs}
@@ -28,8 +25,6 @@ enum-told c = search needs
 returns : tie.Need-returns
 unfolding place
 returns c =
-    let s = c .before .before .before in
-    let a = s .args in
     rw (c .enum-told .given .1) (ends-counted refl (put-none 0 _) (omega arith) refl)
 
 key-len-requires : tie.Need-key-len-requires

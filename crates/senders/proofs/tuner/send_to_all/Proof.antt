@@ -1,5 +1,5 @@
 -- `senders::tuner::send_to_all` meets its contract: kept, or no room, or sent to all. Assumes nothing.
-use mathlib.Core.Path.{_≡_, refl, sym, ap, _∙_}
+use mathlib.Core.Path.{_≡_, refl, sym, _∙_}
 use mathlib.Core.Bool.{false}
 use native.Mathlib.Omega.{arith}
 use Rattle.models.specs.ChannelList.{entries}

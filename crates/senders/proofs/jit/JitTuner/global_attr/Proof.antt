@@ -1,7 +1,6 @@
 -- `senders::jit::JitTuner::global_attr` meets its contract: refused by a test of the message, or it goes to all. Assumes nothing.
-use mathlib.Core.Path.{_≡_, refl, sym, ap, _∙_}
+use mathlib.Core.Path.{sym, ap, _∙_}
 use native.Mathlib.Omega.{arith}
-use Prim.Native.Nat.{ℕ}
 use Rattle.models.specs.Outcome.{value}
 use Rattle.models.specs.View.{view}
 use Rattle.senders.specs.Answers.{checkAnswer}

@@ -1,5 +1,4 @@
 -- `senders::jit::JitTuner::note_attr` meets its contract: refused by the test of the pressure, or the message is sent. Assumes nothing.
-use mathlib.Core.Path.{_≡_, refl, sym, ap, _∙_}
 use native.Mathlib.Omega.{arith}
 use borrow.Author.Tests.{le-ltb, lt-ltb}
 use Rattle.senders.proofs.Lent.{ends-refused}

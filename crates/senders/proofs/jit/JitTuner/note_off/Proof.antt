@@ -1,5 +1,5 @@
 -- `senders::jit::JitTuner::note_off` meets its contract: refused by the test of the velocity, or it ends as the writing of its message does. Assumes nothing.
-use mathlib.Core.Path.{_≡_, refl, sym, ap, _∙_}
+use mathlib.Core.Path.{ap}
 use native.Mathlib.Omega.{arith}
 use borrow.Author.Tests.{le-ltb}
 use Rattle.senders.specs.Jit.{tuner, withPool}

@@ -1,6 +1,6 @@
 -- `senders::jit::JitTuner::note_on` meets its contract: refused by the test of the velocity; or, by the model's answer, refused, rejected, or as the
 -- writing of its messages ends. Assumes nothing.
-use mathlib.Core.Path.{_≡_, refl, sym, ap, _∙_}
+use mathlib.Core.Path.{_≡_, refl}
 use Prim.Native.Nat.{_<_}
 use native.Mathlib.Omega.{arith}
 use mir.Syntax.{w32}
@@ -10,7 +10,7 @@ use borrow.Author.Tests.{le-ltb}
 use Rattle.models.specs.Outcome.{value}
 use Rattle.models.specs.Pool.{accepted, registerRule}
 use Rattle.models.specs.View.{view, stoppedNote, press, told}
-use Rattle.models.proofs.PoolDetunings.{press-measurable}
+use Rattle.models.proofs.PoolPresses.{press-measurable}
 use Rattle.models.proofs.Values.{sent-in-steps}
 use Rattle.senders.specs.Jit.{tuner}
 use Rattle.senders.proofs.Lent.{ends-refused, ends-sent, ends-unwritten, put-none}

@@ -1,11 +1,11 @@
 -- `senders::jit::JitTuner::note_pitch` meets its contract by the model's answer: the tuning is sent, or nothing, or it is refused. Assumes nothing.
 use mathlib.Core.Path.{_≡_, refl, sym, ap, _∙_}
-use mathlib.Core.Option.{some, none}
+use mathlib.Core.Option.{some}
 use native.Mathlib.Omega.{arith}
-use Rattle.models.specs.Outcome.{value, refused}
+use Rattle.models.specs.Outcome.{value}
 use Rattle.models.specs.Pool.{repitchRule}
 use Rattle.models.specs.View.{view, repitched}
-use Rattle.models.proofs.PoolDetunings.{repitch-measurable}
+use Rattle.models.proofs.PoolPresses.{repitch-measurable}
 use Rattle.models.proofs.Values.{sent-in-steps}
 use Rattle.senders.proofs.Lent.{ends-refused, ends-counted, put-none}
 use borrow.Author.Needs.{needs}

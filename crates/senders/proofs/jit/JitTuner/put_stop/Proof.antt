@@ -1,5 +1,5 @@
 -- `senders::jit::JitTuner::put_stop` meets its contract. The loop's invariant: the releases of the keys before `from` were put. Assumes nothing.
-use mathlib.Core.Path.{_≡_, refl, sym, ap, _∙_}
+use mathlib.Core.Path.{_≡_, sym, ap, _∙_}
 use mathlib.Core.Option.{some}
 use Prim.Native.Nat.{_-_, _≤_}
 use native.Mathlib.Omega.{arith}

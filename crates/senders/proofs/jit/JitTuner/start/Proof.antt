@@ -1,5 +1,5 @@
 -- `senders::jit::JitTuner::start` meets its contract: the model's opening, with the kind beside it. Assumes nothing.
-use mathlib.Core.Path.{_≡_, refl, sym, ap, _∙_}
+use mathlib.Core.Path.{ap}
 use mathlib.Core.List.{List}
 use Prim.Native.Nat.{ℕ}
 use Rattle.models.specs.Outcome.{Outcome}

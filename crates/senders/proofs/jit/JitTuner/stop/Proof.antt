@@ -1,5 +1,5 @@
 -- `senders::jit::JitTuner::stop` meets its contract: no room, or every found key is released. Assumes nothing.
-use mathlib.Core.Path.{_≡_, refl, sym, ap, _∙_}
+use mathlib.Core.Path.{refl, ap}
 use native.Mathlib.Omega.{arith}
 use Rattle.senders.specs.Jit.{tuner, withPool}
 use Rattle.senders.proofs.Lent.{ends-short, ends-counted}

@@ -1,5 +1,5 @@
 -- `senders::jit::JitTuner::stop_len` meets its contract. The loop's invariant: `len` bytes, and the releases of the keys from `from` on, are all. Assumes nothing.
-use mathlib.Core.Path.{_≡_, refl, sym, ap, _∙_}
+use mathlib.Core.Path.{_≡_, sym, ap, _∙_}
 use mathlib.Core.Option.{some}
 use Prim.Native.Nat.{_+_, _-_, _*_, _≤_}
 use native.Mathlib.Omega.{arith}

@@ -1,0 +1,249 @@
+-- What the calls of a pool tuner wrote, as a reader and a receiver by the Specification take it, from any state they were in: a press, a release, a
+-- pressure, a repitch, a message to all, and `stop`. Assumes nothing.
+use mathlib.Core.Path.{_≡_, refl, sym, ap, _∙_}
+use mathlib.Core.Bool.{Bool, true, false, cond}
+use mathlib.Core.Option.{Option, some, none}
+use mathlib.Core.List.{List, [], _∷_, _++_}
+use Prim.Native.Nat.{ℕ, zero, suc, _<_}
+use native.Mathlib.Omega.{arith}
+use lib.Dec.{ltb, eqb}
+use lib.IntN.{ℤ, pos, negsuc}
+use lib.Ieee.{Float}
+use lib.ListN.{length, take, drop, getD, getElem?}
+use lib.Seq.{take-at}
+use borrow.Author.Tests.{lt-ltb, ltb-true, eq-eqb}
+use Rattle.models.specs.Outcome.{Outcome, value}
+use Rattle.models.specs.Pool.{State as Pools, Place, Held, accepted, found, registerRule, repitchRule, heldFrom, heldKeys}
+use Rattle.models.specs.Steps.{sentAs}
+use Rattle.models.specs.View.{view}
+use Rattle.models.proofs.Values.{sent-in-steps}
+use Rattle.senders.specs.Lent.{Effect, sent, Steps, Answers, written}
+use Rattle.senders.specs.Message.{Message, Valid, AllValid}
+use Rattle.senders.specs.Midi.{bytesOf, meant}
+use Rattle.senders.specs.Tuner.{keyMessages, onChannel, isKept, toAll, pressMessages}
+use Rattle.senders.specs.Jit.{Tuner, tuner, withPool, Pressed, sounds, noteOnRule, noteOffRule, noteAttrRule, notePitchRule, repitchMessages, globalAttrRule, stopMessages, stopRule}
+use Rattle.senders.specs.Reader.{State, read}
+use Rattle.senders.specs.Padding.{allHeardAs, unpadded}
+use Rattle.senders.specs.Receiver.{Channel, Receiver, Other, withNote, hear, hearAll, hearBytes}
+use Rattle.senders.specs.Meant.{tuned, noted, pressed, onListed, keyMeant, inTurn}
+use Rattle.senders.specs.declared.midi.ChannelMessageType.{ChannelMessageType}
+use Rattle.senders.specs.declared.tuner.NoteMessage.the-variants.{Off, Pressure}
+use Rattle.senders.specs.declared.jit.JitTuner.{JitTuner}
+use Rattle.senders.proofs.Bytes.{read-padded, sent-read, read-plain}
+use Rattle.senders.proofs.Calls.{press-sent, release-sent}
+use Rattle.senders.proofs.Conveyed.{conveys-none, conveys-each, sent-conveyed, conveys-key, conveys-tuning, conveys-press, all-valid, echoes-heard, all-hear}
+use Rattle.senders.proofs.Hearing.{on-none}
+use Rattle.senders.proofs.Lent.{accepted as done, starts-with}
+use Rattle.senders.proofs.Messages.{test-held, checked-valid, valid-checked}
+
+-- what a press says it wrote stands at the buffer's start
+pub sounding-starts :
+    {T : Type 0} {view : T → Tuner} {rule : Outcome (Effect Pressed Tuner)} {s back : T} {next : Tuner} {bs old new : List ℕ} {n : ℕ}
+    → rule ≡ value (record { says = sounds (length bs); bytes = bs; next = next }) → Steps view rule s old (value (sounds n)) back new
+    → take n new ≡ bs
+sounding-starts {bs = bs} {old = old} {new = new} {n = n} e p =
+    let a = done p in
+    let f = sym e ∙ a .rule-is in
+    let is : bs ≡ a .effect .bytes = cc in
+    let says : sounds n ≡ sounds (length bs) = cc in
+    let k : n ≡ length bs = cc in
+    ap (λ (l : List ℕ). take n l) (a .new-is)
+    ∙ ap (λ (l : List ℕ). take n (written l old)) (sym is)
+    ∙ take-at bs (drop (length bs) old) n (sym k)
+
+module _ (other : Other) (st : State) (r : Receiver) (self : JitTuner) where
+  abbrev channels : List ℕ
+  channels = tuner self .pool .channels
+
+  module _ {back : JitTuner} {old new : List ℕ} {n : ℕ} where
+    -- After an accepted press the stopped note is off, the channel tuned, and the new note on.
+    pub press-received :
+        (key : ℕ) (hz : Float) (v : ℕ) {i : ℕ} {stopped : Option ℤ} {note : ℤ} {d : Float} {u : Pools}
+        → registerRule (tuner self .pool) key hz ≡ value (accepted i stopped note d, u)
+        → Steps tuner (noteOnRule (tuner self) key hz v) self old (value (sounds n)) back new
+        → hearBytes other st (take n new) r ≡ onListed (getElem? channels i) (pressed stopped (sentAs (self .kind) d) note v) r
+    unfolding view
+    press-received key hz v {i} {stopped} {note} {d} {u} e p =
+        let low = ltb-true v 128 (test-held 8 (ltb v 128) _ (done p .rule-is) .0) in
+        let c = conveys-press other (self .model .channels) i stopped (sentAs (self .kind) d) note v (sent-in-steps (self .kind) d) low in
+        let ms = onChannel channels i (λ ch. pressMessages ch stopped (sentAs (self .kind) d) note v) in
+        let starts : take n new ≡ bytesOf ms =
+        sounding-starts {next = withPool (tuner self) u} {bs = bytesOf ms} (press-sent (tuner self) key hz v low e) p in
+        ap (λ (l : List ℕ). hearBytes other st l r) starts
+        ∙ ap (λ (l : List Message). hearAll other l r) (read-plain st ms (c .plain))
+        ∙ c .heard r
+
+    -- After a release the key's note is off.
+    pub release-received :
+        (key v : ℕ) → Steps tuner (noteOffRule (tuner self) key v) self old (value n) back new
+        → hearBytes other st (take n new) r ≡ keyMeant Off channels v (found (tuner self .pool) key) r
+    unfolding view
+    release-received key v p =
+        let low = ltb-true v 128 (test-held 8 (ltb v 128) _ (done p .rule-is) .0) in
+        let o = found (tuner self .pool) key in
+        sent-conveyed other st (keyMessages Off channels v o) r (conveys-key other (self .model .channels) Off v o low) (release-sent (tuner self) key v low) p
+
+    -- After `stop` a release with velocity 0 was heard for every key that was found, by rising key.
+    pub stop-received :
+        Steps tuner (stopRule (tuner self)) self old (value n) back new
+        → hearBytes other st (take n new) r ≡ inTurn (λ (h : Held). keyMeant Off channels 0 (some (h .place))) (heldKeys (tuner self .pool) 0) r
+    unfolding view
+    stop-received p =
+        let c = conveys-each other (λ (h : Held). keyMessages Off channels 0 (some (h .place))) (λ (h : Held). keyMeant Off channels 0 (some (h .place))) (heldKeys (tuner self .pool) 0) (λ h. conveys-key other (self .model .channels) Off 0 (some (h .place)) (omega arith)) in
+        sent-conveyed other st (stopMessages (tuner self)) r c refl p
+
+  module _ {old new : List ℕ} {n : ℕ} where
+    -- A pressure changes nothing of what is kept here.
+    pub pressure-received : (key v : ℕ) → Answers (noteAttrRule (tuner self) key v) old (value n) new → hearBytes other st (take n new) r ≡ r
+    unfolding view
+    pressure-received key v p =
+        let low = ltb-true v 128 (test-held 8 (ltb v 128) _ (done p .rule-is) .0) in
+        let o = found (tuner self .pool) key in
+        let ms = keyMessages Pressure channels v o in
+        let e : noteAttrRule (tuner self) key v ≡ sent (bytesOf ms) = rw (lt-ltb v 128 low) in
+        sent-conveyed other st ms r (conveys-key other (self .model .channels) Pressure v o low) e p ∙ nothing v o
+      where
+        at : (o : Option ℕ) → onListed o (λ x. x) r ≡ r
+        at (some c) = sym (on-none c r)
+        at none = refl
+
+        nothing : (v : ℕ) (o : Option Place) → keyMeant Pressure channels v o r ≡ r
+        nothing v (some q) = at (getElem? channels (q .channel))
+        nothing v none = refl
+
+    -- After a repitch of a found key its channel is tuned; that of an unknown key changes nothing.
+    pub repitch-received :
+        (key : ℕ) (hz : Float) (p : Place) (d : Float) → repitchRule (tuner self .pool) key hz ≡ value (some (p, d))
+        → Answers (notePitchRule (tuner self) key hz) old (value n) new
+        → hearBytes other st (take n new) r ≡ onListed (getElem? channels (p .channel)) (tuned (sentAs (self .kind) d)) r
+    unfolding view
+    repitch-received key hz p d e a =
+        let ms = repitchMessages (tuner self) (some (p, d)) in
+        let s : notePitchRule (tuner self) key hz ≡ sent (bytesOf ms) = rw e in
+        sent-conveyed other st ms r (conveys-tuning other (self .model .channels) (p .channel) (sentAs (self .kind) d) (sent-in-steps (self .kind) d)) s a
+
+    pub repitch-unknown :
+        (key : ℕ) (hz : Float) → repitchRule (tuner self .pool) key hz ≡ value none → Answers (notePitchRule (tuner self) key hz) old (value n) new
+        → hearBytes other st (take n new) r ≡ r
+    repitch-unknown key hz e a =
+        let s : notePitchRule (tuner self) key hz ≡ sent [] = rw e in
+        sent-conveyed other st [] r (conveys-none other) s a
+
+    -- ---- a message to all, whose kinds C and D have a padding
+
+    module _ (m : ChannelMessageType) (a : Answers (globalAttrRule (tuner self) m) old (value n) new) where
+      abbrev all : List Message
+      all = toAll (self .kind) channels m
+
+      valid : Valid (meant 0 m)
+      valid = checked-valid m (sent (bytesOf all)) (done a .rule-is) 0 (omega arith)
+
+      sent-is : globalAttrRule (tuner self) m ≡ sent (bytesOf all)
+      sent-is = valid-checked 0 m (sent (bytesOf all)) valid
+
+      valid-all : AllValid all
+      unfolding view
+      valid-all = all-valid (self .kind) (self .model .channels) m valid
+
+      -- The padding dropped, a reader finds the message on each channel; with it, what `heardAs` says.
+      pub global-read : read st (unpadded (take n new)) ≡ all
+      global-read = sent-read st all sent-is a valid-all
+
+      pub global-read-padded : read st (take n new) ≡ allHeardAs all
+      global-read-padded =
+          let starts : take n new ≡ bytesOf all = starts-with {bs = bytesOf all} sent-is a in
+          ap (read st) starts ∙ read-padded st all valid-all
+
+      -- Every channel hears it, or, of a bend by a tuner that tunes by bends, none: the padding changes nothing of what is kept here.
+      pub global-received :
+          hearBytes other st (unpadded (take n new)) r ≡ cond (isKept (self .kind) m) r (inTurn (λ ch. hear other (meant ch m)) channels r)
+      global-received = ap (λ (l : List Message). hearAll other l r) global-read ∙ all-hear other (self .kind) channels m r
+
+      pub global-received-padded :
+          hearBytes other st (take n new) r ≡ cond (isKept (self .kind) m) r (inTurn (λ ch. hear other (meant ch m)) channels r)
+      global-received-padded =
+          ap (λ (l : List Message). hearAll other l r) global-read-padded ∙ echoes-heard other all r ∙ all-hear other (self .kind) channels m r
+
+-- ---- what `stop` comes to: silence
+
+-- a note-off leaves a note off that was off
+stays-off : (note : ℤ) (k : ℕ) (x : Channel) → x .sounds k ≡ false → noted false note x .sounds k ≡ false
+stays-off (pos n) k x h = by (ltb n 128)
+  where
+    at : (b : Bool) → cond b false (x .sounds k) ≡ false
+    at true = refl
+    at false = h
+
+    by : (b : Bool) → cond b (withNote n false x) x .sounds k ≡ false
+    by true = at (eqb k n)
+    by false = h
+stays-off (negsuc n) k x h = h
+
+off-elsewhere : (o : Option ℕ) (note : ℤ) (c k : ℕ) (r : Receiver) → r c .sounds k ≡ false → onListed o (noted false note) r c .sounds k ≡ false
+off-elsewhere (some ch) note c k r h = by (eqb c ch)
+  where
+    by : (b : Bool) → cond b (noted false note (r c)) (r c) .sounds k ≡ false
+    by true = stays-off note k (r c) h
+    by false = h
+off-elsewhere none note c k r h = h
+
+module _ (channels : List ℕ) where
+  abbrev hushed : List Held → Receiver → Receiver
+  hushed hs r = inTurn (λ (h : Held). keyMeant Off channels 0 (some (h .place))) hs r
+
+  stay-off : (hs : List Held) (c k : ℕ) (r : Receiver) → r c .sounds k ≡ false → hushed hs r c .sounds k ≡ false
+  stay-off [] c k r h = h
+  stay-off (g ∷ hs) c k r h =
+      stay-off hs c k (onListed (getElem? channels (g .place .channel)) (noted false (g .place .note)) r)
+      (off-elsewhere (getElem? channels (g .place .channel)) (g .place .note) c k r h)
+
+  -- Of every key that was found, on whatever channel, the note is off afterwards.
+  pub hushed-off :
+      (before behind : List Held) (h : Held) (c k : ℕ) (r : Receiver) → getElem? channels (h .place .channel) ≡ some c → h .place .note ≡ pos k → k < 128
+      → hushed (before ++ h ∷ behind) r c .sounds k ≡ false
+  hushed-off [] behind h c k r e n low =
+      stay-off behind c k (onListed (getElem? channels (h .place .channel)) (noted false (h .place .note)) r)
+      (rw (e, n, eq-eqb c c refl, lt-ltb k 128 low, eq-eqb k k refl) refl)
+  hushed-off (g ∷ before) behind h c k r e n low =
+      hushed-off before behind h c k (onListed (getElem? channels (g .place .channel)) (noted false (g .place .note)) r) e n low
+
+-- every found key is among those that `stop` goes through
+record Within (p : Place) (hs : List Held) : Type 0 where
+  before : List Held
+  held : Held
+  behind : List Held
+  place-is : held .place ≡ p
+  parts : hs ≡ before ++ held ∷ behind
+
+within : (l : List (Option Place)) (from key : ℕ) (p : Place) → getD l key none ≡ some p → Within p (heldFrom from l)
+unfolding heldFrom
+within [] from key p e = let z : _≡_ {A = ℕ} 0 1 = cc in absurd (omega arith)
+within (some q ∷ l) from zero p e =
+    record { before = []; held = record { key = from; place = q }; behind = heldFrom (suc from) l; place-is = (cc); parts = refl }
+within (none ∷ l) from zero p e = let z : _≡_ {A = ℕ} 0 1 = cc in absurd (omega arith)
+within (some q ∷ l) from (suc key) p e =
+    let w = within l (suc from) key p e in
+    let first : Held = record { key = from; place = q } in
+    record {
+      before = first ∷ w .before;
+      held = w .held;
+      behind = w .behind;
+      place-is = w .place-is;
+      parts = ap (λ (hs : List Held). first ∷ hs) (w .parts);
+    }
+within (none ∷ l) from (suc key) p e =
+    let w = within l (suc from) key p e in
+    record { before = w .before; held = w .held; behind = w .behind; place-is = w .place-is; parts = w .parts }
+
+-- After `stop` the note of every key that was found is off on the key's channel.
+pub stop-silences :
+    (other : Other) (st : State) (r : Receiver) (self back : JitTuner) {old new : List ℕ} {n : ℕ}
+    → Steps tuner (stopRule (tuner self)) self old (value n) back new → (key : ℕ) (p : Place) (c k : ℕ) → found (tuner self .pool) key ≡ some p
+    → getElem? (tuner self .pool .channels) (p .channel) ≡ some c → p .note ≡ pos k → k < 128 → hearBytes other st (take n new) r c .sounds k ≡ false
+unfolding found heldKeys
+stop-silences other st r self back {n = n} s key p c k f e note low =
+    let w = within (tuner self .pool .keys) 0 key p f in
+    let chs = tuner self .pool .channels in
+    ap (λ (q : Receiver). q c .sounds k) (stop-received other st r self {back = back} s)
+    ∙ ap (λ (hs : List Held). hushed chs hs r c .sounds k) (w .parts)
+    ∙ hushed-off chs (w .before) (w .behind) (w .held) c k r (rw (w .place-is) e) (rw (w .place-is) note) low

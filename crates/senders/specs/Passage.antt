@@ -1,0 +1,29 @@
+-- Calls of a pool tuner one after the other, each with a buffer of some length. The calls that are left out, `note_pitch`, `note_attr`,
+-- `global_attr` and the lookup, hand back no tuner. Assumes nothing.
+use mathlib.Core.List.{List, [], _∷_}
+use Prim.Native.Nat.{ℕ, _<_}
+use lib.Ieee.{Float}
+use Rattle.models.specs.Outcome.{Outcome, value, refused}
+use Rattle.models.specs.Pool.{keyCount}
+use Rattle.senders.specs.Lent.{Effect, fitted}
+use Rattle.senders.specs.Jit.{Tuner, noteOnRule, noteOffRule, stopRule}
+
+-- any key there is, any f64, any velocity and any room: calls may be refused, and presses rejected
+pub data Call : Type 0 where
+  noteOn : (key : ℕ) → key < keyCount → (hz : Float) → (velocity room : ℕ) → Call
+  noteOff : (key velocity room : ℕ) → Call
+  stop : (room : ℕ) → Call
+
+-- what a call goes on to: a refusal leaves what was
+abbrev pub settled : {R S : Type 0} → S → Outcome (Effect R S) → S
+settled s (value e) = e .next
+settled s (refused n) = s
+
+unfoldable pub after : Tuner → Call → Tuner
+after t (noteOn key h hz velocity room) = settled t (fitted room (noteOnRule t key hz velocity))
+after t (noteOff key velocity room) = settled t (fitted room (noteOffRule t key velocity))
+after t (stop room) = settled t (fitted room (stopRule t))
+
+unfoldable pub played : Tuner → List Call → Tuner
+played t [] = t
+played t (c ∷ cs) = played (after t c) cs
