@@ -14,8 +14,8 @@ use Rattle.senders.specs.declared.midi.Sent.{Sent}
 use Rattle.senders.specs.declared.midi.Sent.the-variants.{Written, Refused}
 use Rattle.lines.specs.Split.{feed, First}
 use Rattle.lines.specs.Console.{answer}
-use Rattle.lines.specs.Session.{Session, session, endedBy, longerBy, Taken, nothing, stepRule, Stepped}
-use Rattle.lines.specs.Inner.{EndedBy}
+use Rattle.lines.specs.Session.{Session, session, Taken, nothing, stepRule, Stepped}
+use Rattle.lines.specs.Inner.{endedBy, longerBy, EndedBy}
 use Rattle.lines.specs.declared.step.Console.{Console}
 use Rattle.lines.specs.declared.step.Ended.{Ended}
 use Rattle.lines.proofs.Fills.{Filled, unfilled, filled-is, tail-part, tail-back, put-length, put-refused, fill, fill-text}

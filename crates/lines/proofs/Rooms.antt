@@ -46,8 +46,8 @@ text-room : (s : Session) (b : ℕ) → length (text s b) ≤ 54
 unfolding text
 text-room s b = go (eqb b feed)
   where
-    go : (t : Bool) → length (cond t (answer (s .tuner) (s .begun ++ [])) []) ≤ 54
-    go true = answer-room (s .tuner) (s .begun ++ [])
+    go : (t : Bool) → length (cond t (answer (s .tuner) (s .begun)) []) ≤ 54
+    go true = answer-room (s .tuner) (s .begun)
     go false = omega arith
 
 -- a step over a piece that is not empty, with that much room, uses some of it
