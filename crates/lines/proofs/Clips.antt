@@ -3,15 +3,14 @@ use Prim.Native.Nat.{ℕ, _≤_, _<_}
 use native.Mathlib.Omega.{arith}
 use mathlib.Core.Path.{_≡_, refl, sym, _∙_, ap}
 use mathlib.Core.Bool.{Bool, true, false}
-use mathlib.Core.List.{List, [], _∷_, _++_, append-nil}
-use lib.ListN.{length, length-take}
+use mathlib.Core.List.{List, [], _∷_, _++_}
+use lib.ListN.{length}
 use lib.Seq.{take-all, take-take, take-append-le, length-take-le}
 use lib.Dec.{leb}
 use borrow.Author.Tests.{leb-true, leb-false}
 use Rattle.senders.specs.Jit.{Tuner}
 use Rattle.lines.specs.Split.{into}
-use Rattle.lines.specs.Line.{meaning}
-use Rattle.lines.specs.Console.{answer, next, answers, eventRule, shown, after, nonempty, ended}
+use Rattle.lines.specs.Console.{answer, next, answers, nonempty, ended}
 use Rattle.lines.specs.Session.{clip}
 use Rattle.lines.proofs.Lines.{meaning-clip}
 

@@ -10,9 +10,9 @@ use lib.ListN.{length, length-append}
 use lib.Dec.{eqb, leb}
 use borrow.Author.Tests.{eqb-true, leb-true}
 use Rattle.lines.specs.Split.{into, split}
-use Rattle.models.specs.Outcome.{Outcome, value, refused}
+use Rattle.models.specs.Outcome.{value, refused}
 use Rattle.lines.specs.Grammar.{word, digits, decimal, allowed, Spells, Means}
-use Rattle.lines.specs.Line.{Event, event, same, kindOf, number, eventOf, ofFields, meaning, meant}
+use Rattle.lines.specs.Line.{event, same, kindOf, number, eventOf, ofFields, meaning, meant}
 use Rattle.lines.specs.declared.line.Kind.{Kind}
 use Rattle.lines.specs.declared.line.Line.{Line}
 use Rattle.lines.specs.declared.line.Line.the-variants.{Event as IsEvent, Malformed}

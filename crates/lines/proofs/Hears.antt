@@ -2,16 +2,15 @@
 use Prim.Native.Nat.{ℕ, _≤_}
 use native.Mathlib.Omega.{arith}
 use mathlib.Core.Path.{_≡_, refl, sym, _∙_, ap, subst}
-use mathlib.Core.Bool.{Bool, true, false, cond}
-use mathlib.Core.List.{List, [], _∷_, _++_}
+use mathlib.Core.Bool.{Bool, true, false}
+use mathlib.Core.List.{List, _++_}
 use lib.Dec.{leb}
 use lib.Ieee.{Float}
 use lib.ListN.{length, take, drop, length-append}
 use lib.Seq.{take-at}
 use borrow.Author.Tests.{le-leb}
 use Rattle.models.specs.Outcome.{Outcome, value, refused}
-use Rattle.models.specs.Refusal.{bufferTooShort}
-use Rattle.senders.specs.Lent.{Effect, sends, sent, Answer, fitted, told, Moved, left, Steps, Answers}
+use Rattle.senders.specs.Lent.{Effect, sends, sent, Answer, Steps, Answers}
 use Rattle.senders.specs.Answers.{sentAnswer}
 use Rattle.senders.specs.Jit.{Tuner, tuner, Pressed, noteOnRule, noteOffRule, notePitchRule}
 use Rattle.senders.proofs.Room.{Counts, press-counts, release-counts, repitch-counts}
@@ -95,15 +94,15 @@ clash : {A B : Type 0} {n : ℕ} {b : B} → value b ≡ refused n → A
 clash e = let z : _≡_ {A = ℕ} 0 1 = cc e in absurd (omega arith)
 
 -- it sent n bytes, which stand at the buffer's start
-pub record Wrote18 (o : Outcome (Effect ℕ Tuner)) (n : ℕ) (back : JitTuner) (new : List ℕ) : Type 0 where
+pub record SentHere (o : Outcome (Effect ℕ Tuner)) (n : ℕ) (back : JitTuner) (new : List ℕ) : Type 0 where
   pub effect-is : o ≡ sends (take n new) (tuner back)
   pub within : n ≤ length new
 
 module _ {o : Outcome (Effect ℕ Tuner)} {t back : JitTuner} {old new : List ℕ} (x : Effected o) (room : length old ≡ 18) where
-  pub sent-some : {n : ℕ} → Steps tuner o t old (value n) back new → Wrote18 o n back new
+  pub sent-some : {n : ℕ} → Steps tuner o t old (value n) back new → SentHere o n back new
   sent-some {n} s = go x
     where
-      go : Effected o → Wrote18 o n back new
+      go : Effected o → SentHere o n back new
       go (refusing k e) = clash (rw e at (s .told-is))
       go (sending bs u e l) =
           let h : leb (length bs) (length old) ≡ true = le-leb (length bs) (length old) (omega arith) in
@@ -128,7 +127,7 @@ module _ {o : Outcome (Effect ℕ Tuner)} {t back : JitTuner} {old new : List �
 
 -- ---- the answer's line
 
-pub line-sent : (t : Tuner) (line : List ℕ) {n : ℕ} {back : JitTuner} {bs : List ℕ} → Wrote18 (eventRule t (meaning line)) n back bs
+pub line-sent : (t : Tuner) (line : List ℕ) {n : ℕ} {back : JitTuner} {bs : List ℕ} → SentHere (eventRule t (meaning line)) n back bs
     → (answer t line ≡ bytesLine (take n bs)) × (next t line ≡ tuner back)
 unfolding answer next shown after
 line-sent t line w = (rw (w .effect-is), rw (w .effect-is))
@@ -184,7 +183,7 @@ bend-heard t {old = old} {new = new} {key = key} {m = m} {a = a} e h s =
 
 module _ (t : JitTuner) (m : Outcome Event) {back : JitTuner} {old new : List ℕ} {s : Sent} {n : ℕ} (room : length old ≡ 18)
     (h : Steps tuner (eventRule (tuner t) m) t old (sentAnswer s) back new) where
-  pub heard-some : s ≡ Written n → Wrote18 (eventRule (tuner t) m) n back new
+  pub heard-some : s ≡ Written n → SentHere (eventRule (tuner t) m) n back new
   heard-some e =
       sent-some {t = t} (effected (tuner t) m) room (subst (λ (x : Sent). Steps tuner (eventRule (tuner t) m) t old (sentAnswer x) back new) e h)
 
@@ -200,11 +199,11 @@ module _ (t : JitTuner) (line : List ℕ) {m : Outcome Event} {out new : List �
       subst (λ (z : Sent). Steps tuner (lineRule (tuner t) line) t out (sentAnswer z) (r .tuner) new) (sym (q .0))
       (answered back (answer (tuner t) line) s (subst (λ (z : List ℕ). Answers (sent z) out (sentAnswer s) new) (sym a) p) (y ∙ sym x) (q .1))
 
-  pub sent-line : {n : ℕ} {back : JitTuner} {bytes : List ℕ} → Wrote18 (eventRule (tuner t) m) n back bytes
+  pub sent-line : {n : ℕ} {back : JitTuner} {bytes : List ℕ} → SentHere (eventRule (tuner t) m) n back bytes
       → Answers (sent (bytesLine (take n bytes))) out (sentAnswer s) new → (r .answer ≡ s) × (r .tuner ≡ settle s back t)
       → Steps tuner (lineRule (tuner t) line) t out (sentAnswer (r .answer)) (r .tuner) new
   sent-line {n = n} {back = back} {bytes = bytes} w p q =
-      let l = line-sent (tuner t) line (subst (λ (x : Outcome Event). Wrote18 (eventRule (tuner t) x) n back bytes) e w) in
+      let l = line-sent (tuner t) line (subst (λ (x : Outcome Event). SentHere (eventRule (tuner t) x) n back bytes) e w) in
       line-steps back (l .0) (l .1) refl p q
 
   pub refused-line : {n : ℕ} {back : JitTuner} → (eventRule (tuner t) m ≡ refused n) × (back ≡ t)

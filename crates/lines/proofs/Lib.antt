@@ -12,3 +12,4 @@ pub mod Stepping
 pub mod Fills
 pub mod Progress
 pub mod Rooms
+pub mod Refusals

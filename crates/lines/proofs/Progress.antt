@@ -3,19 +3,19 @@ use Prim.Native.Nat.{ℕ, _+_, _-_, _≤_, _<_}
 use native.Mathlib.Nat.{zero-add, add-zero, sub-zero}
 use native.Mathlib.Omega.{arith}
 use mathlib.Core.Path.{_≡_, refl, sym, _∙_, ap, subst}
-use mathlib.Core.List.{List, [], _∷_, _++_, append-nil}
+use mathlib.Core.List.{List, [], _++_, append-nil}
 use lib.ListN.{length, take, drop, length-drop, drop-of-length-le, take-append-drop}
 use lib.Seq.{drop-drop, length-take-le, take-length}
 use borrow.Rule.Slice.PartMut.{putMid}
-use Rattle.models.specs.Outcome.{Outcome, value, refused}
+use Rattle.models.specs.Outcome.{value}
 use Rattle.senders.specs.Lent.{Answers, sent, written}
 use Rattle.senders.specs.Answers.{sentAnswer}
 use Rattle.senders.specs.declared.midi.Sent.{Sent}
 use Rattle.senders.specs.declared.midi.Sent.the-variants.{Written, Refused}
 use Rattle.lines.specs.Split.{feed, First}
 use Rattle.lines.specs.Console.{answer}
-use Rattle.lines.specs.Session.{Session, session, clip, endedBy, longerBy, Taken, nothing, stepRule, Stepped}
-use Rattle.lines.specs.Inner.{EndedBy}
+use Rattle.lines.specs.Session.{Session, session, Taken, nothing, stepRule, Stepped}
+use Rattle.lines.specs.Inner.{endedBy, longerBy, EndedBy}
 use Rattle.lines.specs.declared.step.Console.{Console}
 use Rattle.lines.specs.declared.step.Ended.{Ended}
 use Rattle.lines.proofs.Fills.{Filled, unfilled, filled-is, tail-part, tail-back, put-length, put-refused, fill, fill-text}

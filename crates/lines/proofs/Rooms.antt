@@ -1,7 +1,6 @@
 -- How much room an answer needs: with 54 bytes a step uses some of its piece. Assumes nothing.
 use Prim.Native.Nat.{ℕ, _+_, _-_, _/_, _%_, _≤_, _<_}
 use native.Mathlib.Omega.{arith}
-use mathlib.Core.Path.{_≡_, refl}
 use mathlib.Core.Bool.{Bool, true, false, cond}
 use mathlib.Core.List.{List, [], _∷_, _++_}
 use lib.ListN.{length}
@@ -47,8 +46,8 @@ text-room : (s : Session) (b : ℕ) → length (text s b) ≤ 54
 unfolding text
 text-room s b = go (eqb b feed)
   where
-    go : (t : Bool) → length (cond t (answer (s .tuner) (s .begun ++ [])) []) ≤ 54
-    go true = answer-room (s .tuner) (s .begun ++ [])
+    go : (t : Bool) → length (cond t (answer (s .tuner) (s .begun)) []) ≤ 54
+    go true = answer-room (s .tuner) (s .begun)
     go false = omega arith
 
 -- a step over a piece that is not empty, with that much room, uses some of it

@@ -1,21 +1,19 @@
 -- A piece of the input taken line by line, as `step` takes it. Assumes nothing.
 use Prim.Native.Nat.{ℕ, zero, suc, _+_, _-_, _≤_, _<_}
-use native.Mathlib.Nat.{add-assoc, zero-add, add-zero, sub-zero, le-of-eq}
-use native.Mathlib.Numerals.{add-one}
+use native.Mathlib.Nat.{add-assoc, zero-add, sub-zero}
 use native.Mathlib.Omega.{arith}
-use mathlib.Core.Path.{_≡_, refl, sym, _∙_, ap}
-use mathlib.Core.Bool.{true, false}
+use mathlib.Core.Path.{_≡_, sym, _∙_, ap}
 use mathlib.Core.List.{List, [], _∷_, _++_, append-assoc, append-nil}
 use lib.ListN.{length, take, drop, getD, length-take}
-use lib.Seq.{take-all, drop-length, take-length}
-use lib.Dec.{leb}
+use lib.Seq.{take-all, drop-length}
 use borrow.Author.Tests.{le-leb, lt-leb, eq-eqb, ne-eqb}
 use Rattle.senders.specs.Jit.{Tuner}
 use Rattle.lines.specs.Split.{feed, First}
 use Rattle.lines.specs.Console.{answer, next}
-use Rattle.lines.specs.Session.{Session, clip, then, text, endedBy, longerBy, Taken, nothing, byteThen, stepRule}
+use Rattle.lines.specs.Session.{Session, clip, then, text, Taken, nothing, byteThen, stepRule}
+use Rattle.lines.specs.Inner.{endedBy, longerBy}
 use Rattle.lines.proofs.Splits.{drop-step}
-use Rattle.lines.proofs.Clips.{clip-append, clip-clip, answer-clip, next-clip}
+use Rattle.lines.proofs.Clips.{clip-append, answer-clip, next-clip}
 
 -- what was taken behind n bytes that answered `out`
 abbrev pub behind : ℕ → List ℕ → Taken → Taken
@@ -66,17 +64,20 @@ before-feed room s (suc n) (b ∷ l) m h f =
     ∙ ap (λ (k : ℕ). behind k [] r) one
 
 -- a feed, with room for the answer and without
-feed-byte : (room : ℕ) (s : Session) (b : ℕ) (bs : List ℕ) → b ≡ feed → length (answer (s .tuner) (s .begun ++ [])) ≤ room
+abbrev endHere : Session → Session
+endHere s = record { tuner = next (s .tuner) (s .begun); begun = [] }
+
+feed-byte : (room : ℕ) (s : Session) (b : ℕ) (bs : List ℕ) → b ≡ feed → length (answer (s .tuner) (s .begun)) ≤ room
     → stepRule room s (b ∷ bs)
-    ≡ behind 1 (answer (s .tuner) (s .begun ++ [])) (stepRule (room - length (answer (s .tuner) (s .begun ++ []))) (endedBy s []) bs)
+    ≡ behind 1 (answer (s .tuner) (s .begun)) (stepRule (room - length (answer (s .tuner) (s .begun))) (endHere s) bs)
 unfolding stepRule text then
 feed-byte room s b bs e h =
-    rw (eq-eqb b feed e, le-leb (length (answer (s .tuner) (s .begun ++ []))) room h)
-    (byte-behind (answer (s .tuner) (s .begun ++ [])) (stepRule (room - length (answer (s .tuner) (s .begun ++ []))) (endedBy s []) bs))
+    rw (eq-eqb b feed e, le-leb (length (answer (s .tuner) (s .begun))) room h)
+    (byte-behind (answer (s .tuner) (s .begun)) (stepRule (room - length (answer (s .tuner) (s .begun))) (endHere s) bs))
 
-no-room-byte : (room : ℕ) (s : Session) (b : ℕ) (bs : List ℕ) → b ≡ feed → room < length (answer (s .tuner) (s .begun ++ [])) → stepRule room s (b ∷ bs) ≡ nothing s
+no-room-byte : (room : ℕ) (s : Session) (b : ℕ) (bs : List ℕ) → b ≡ feed → room < length (answer (s .tuner) (s .begun)) → stepRule room s (b ∷ bs) ≡ nothing s
 unfolding stepRule text then
-no-room-byte room s b bs e h = rw (eq-eqb b feed e, lt-leb (length (answer (s .tuner) (s .begun ++ []))) room h)
+no-room-byte room s b bs e h = rw (eq-eqb b feed e, lt-leb (length (answer (s .tuner) (s .begun))) room h)
 
 -- ---- a piece that starts with a line, by the place of its feed
 
@@ -87,11 +88,11 @@ module _ (room : ℕ) (s : Session) (l : List ℕ) {n : ℕ} (m : Small s) (f : 
   at-feed : n < length l → drop n l ≡ getD l n 0 ∷ drop (n + 1) l
   at-feed h = drop-step l n h
 
-  kept : answer (s .tuner) (clip (s .begun ++ take n l) ++ []) ≡ answer (s .tuner) (s .begun ++ take n l)
-  kept = ap (answer (s .tuner)) (append-nil (clip (s .begun ++ take n l))) ∙ answer-clip (s .tuner) (s .begun ++ take n l)
+  kept : answer (s .tuner) (clip (s .begun ++ take n l)) ≡ answer (s .tuner) (s .begun ++ take n l)
+  kept = answer-clip (s .tuner) (s .begun ++ take n l)
 
-  kept-next : next (s .tuner) (clip (s .begun ++ take n l) ++ []) ≡ next (s .tuner) (s .begun ++ take n l)
-  kept-next = ap (next (s .tuner)) (append-nil (clip (s .begun ++ take n l))) ∙ next-clip (s .tuner) (s .begun ++ take n l)
+  kept-next : next (s .tuner) (clip (s .begun ++ take n l)) ≡ next (s .tuner) (s .begun ++ take n l)
+  kept-next = next-clip (s .tuner) (s .begun ++ take n l)
 
   -- no line ends in the piece
   pub no-feed : n ≡ length l → stepRule room s l ≡ behind n [] (nothing (longerBy s (take n l)))
@@ -117,6 +118,6 @@ module _ (room : ℕ) (s : Session) (l : List ℕ) {n : ℕ} (m : Small s) (f : 
       up-to-feed
       ∙ ap (λ (x : List ℕ). behind n [] (stepRule room (longerBy s (take n l)) x)) (at-feed h)
       ∙ ap (behind n []) (feed-byte room (longerBy s (take n l)) (getD l n 0) (drop (n + 1) l) (f .found h) (rw kept q))
-      ∙ ap (λ (x : List ℕ). behind n [] (behind 1 x (stepRule (room - length x) (endedBy (longerBy s (take n l)) []) (drop (n + 1) l)))) kept
+      ∙ ap (λ (x : List ℕ). behind n [] (behind 1 x (stepRule (room - length x) (endHere (longerBy s (take n l))) (drop (n + 1) l)))) kept
       ∙ ap (λ (u : Session). behind n [] (behind 1 a (stepRule (room - length a) u (drop (n + 1) l)))) (ap (λ (t : Tuner). record { tuner = t; begun = [] }) kept-next)
       ∙ behind-behind n 1 [] a (stepRule (room - length a) (endedBy s (take n l)) (drop (n + 1) l))

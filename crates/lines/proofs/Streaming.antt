@@ -1,7 +1,6 @@
 -- Whatever the pieces in which the input comes, and whatever room each call has, the program writes what it writes for the whole input. Assumes
 -- nothing.
-use Prim.Native.Nat.{ℕ, suc, _-_}
-use native.Mathlib.Omega.{arith}
+use Prim.Native.Nat.{ℕ, _-_}
 use mathlib.Core.Path.{_≡_, refl, sym, _∙_, ap}
 use mathlib.Core.Bool.{Bool, true, false, cond}
 use mathlib.Core.List.{List, [], _∷_, _++_, append-assoc, append-nil}
@@ -9,8 +8,8 @@ use lib.ListN.{length, drop}
 use lib.Dec.{eqb, leb}
 use borrow.Author.Tests.{eqb-true, eqb-false}
 use Rattle.lines.specs.Split.{feed, into, split}
-use Rattle.lines.specs.Console.{opened, answer, next, answers, nonempty, ended, linesOf, output}
-use Rattle.lines.specs.Session.{Session, start, then, text, endedBy, longerBy, Taken, nothing, byteThen, stepRule, finish, Calls, none, call}
+use Rattle.lines.specs.Console.{opened, answer, next, answers, ended, linesOf, output}
+use Rattle.lines.specs.Session.{Session, start, clip, then, text, Taken, nothing, byteThen, stepRule, finish, Calls, none, call}
 use Rattle.lines.proofs.Splits.{into-none, into-into, split-sep, split-other}
 use Rattle.lines.proofs.Clips.{ended-clip}
 
@@ -38,11 +37,12 @@ unfolding text then ahead into answers
 ahead-byte s b bs = go (eqb b feed) refl
   where
     go : (t : Bool) → eqb b feed ≡ t
-        → ahead s (b ∷ bs) ≡ cond t (answer (s .tuner) (s .begun ++ [])) [] ++ ahead (cond t (endedBy s []) (longerBy s (b ∷ []))) bs
+        → ahead s (b ∷ bs) ≡ cond t (answer (s .tuner) (s .begun)) [] ++ ahead (cond t (record { tuner = next (s .tuner) (s .begun); begun = [] }) (record { tuner = s .tuner; begun = clip (s .begun ++ (b ∷ [])) })) bs
     go true e =
         ap (λ (x : List (List ℕ)). answers (s .tuner) (ended (into (s .begun) x))) (split-sep feed b bs (eqb-true b feed e))
-        ∙ ap (answers (s .tuner)) (ended-line (s .begun ++ []) bs)
-        ∙ ap (λ (x : List (List ℕ)). answer (s .tuner) (s .begun ++ []) ++ answers (next (s .tuner) (s .begun ++ [])) (ended x)) (sym (into-none feed bs))
+        ∙ ap (λ (l : List ℕ). answers (s .tuner) (ended (l ∷ split feed bs))) (append-nil (s .begun))
+        ∙ ap (answers (s .tuner)) (ended-line (s .begun) bs)
+        ∙ ap (λ (x : List (List ℕ)). answer (s .tuner) (s .begun) ++ answers (next (s .tuner) (s .begun)) (ended x)) (sym (into-none feed bs))
     go false e =
         ap (λ (x : List (List ℕ)). answers (s .tuner) (ended (into (s .begun) x))) (split-other feed b bs (eqb-false b feed e))
         ∙ ap (λ (x : List (List ℕ)). answers (s .tuner) (ended x)) (sym (into-into (s .begun) (b ∷ []) (split feed bs)))

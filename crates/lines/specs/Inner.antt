@@ -1,7 +1,7 @@
 -- What the inner functions of the library answer. No public contract rests on these words. Assumes nothing.
 use Prim.Native.Nat.{ℕ, _≤_}
 use mathlib.Core.Path.{_≡_}
-use mathlib.Core.List.{List, _++_}
+use mathlib.Core.List.{List, [], _++_}
 use lib.ListN.{length, take}
 use Rattle.models.specs.Outcome.{Outcome, value, refused}
 use Rattle.senders.specs.Lent.{Answers, sent}
@@ -10,8 +10,8 @@ use Rattle.senders.specs.Jit.{Pressed, sounds, rejects}
 use Rattle.senders.specs.declared.jit.JitTuner.{JitTuner}
 use Rattle.senders.specs.declared.midi.Sent.{Sent}
 use Rattle.senders.specs.declared.midi.Sent.the-variants.{Written, Refused}
-use Rattle.lines.specs.Console.{answer}
-use Rattle.lines.specs.Session.{Session, session, endedBy}
+use Rattle.lines.specs.Console.{answer, next}
+use Rattle.lines.specs.Session.{Session, session, clip}
 use Rattle.lines.specs.declared.step.Ended.{Ended}
 
 -- `answer::settled`: the tuner after an answer that was written, or not
@@ -28,7 +28,14 @@ unfoldable pub counted : Outcome Pressed → Outcome ℕ
 counted (value p) = value (count p)
 counted (refused n) = refused n
 
+-- `step::Console::longer_by`: more bytes of a line that has begun
+abbrev pub longerBy : Session → List ℕ → Session
+longerBy s more = record { tuner = s .tuner; begun = clip (s .begun ++ more) }
+
 -- `step::Console::ended_by`: a line that ends behind more bytes
+abbrev pub endedBy : Session → List ℕ → Session
+endedBy s more = record { tuner = next (s .tuner) (s .begun ++ more); begun = [] }
+
 pub record EndedBy (s : Session) (more old new : List ℕ) (r : Ended) : Type 0 where
   pub text : Answers (sent (answer (s .tuner) (s .begun ++ more))) old (sentAnswer (r .answer)) new
   pub session-is : {n : ℕ} → r .answer ≡ Written n → session (r .console) ≡ endedBy s more

@@ -30,17 +30,13 @@ clip line = take 65 line
 
 -- ---- a byte of the input: a feed ends the line, any other byte belongs to it
 
-abbrev pub endedBy : Session → List ℕ → Session
-endedBy s more = record { tuner = next (s .tuner) (s .begun ++ more); begun = [] }
-
-abbrev pub longerBy : Session → List ℕ → Session
-longerBy s more = record { tuner = s .tuner; begun = clip (s .begun ++ more) }
-
 unfoldable pub then : Session → ℕ → Session
-then s b = cond (eqb b feed) (endedBy s []) (longerBy s (b ∷ []))
+then s b =
+    cond (eqb b feed) (record { tuner = next (s .tuner) (s .begun); begun = [] }) (record { tuner = s .tuner; begun = clip (s .begun ++ (b ∷ [])) })
 
+-- what it has answered
 unfoldable pub text : Session → ℕ → List ℕ
-text s b = cond (eqb b feed) (answer (s .tuner) (s .begun ++ [])) []
+text s b = cond (eqb b feed) (answer (s .tuner) (s .begun)) []
 
 -- ---- a piece of the input, as far as there is room for the answers
 

@@ -7,7 +7,7 @@ ghost use Rattle.lines.specs.Line.{same as List·same};
 ghost use Rattle.lines.specs.Split.{First};
 
 // "At most 64 bytes a line."
-pub(crate) const LONGEST_LINE: usize = 64;
+const LONGEST_LINE: usize = 64;
 
 // Digits of a key or a velocity, and of a pitch in millihertz.
 const BYTE_DIGITS: usize = 3;

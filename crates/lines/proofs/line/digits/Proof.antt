@@ -6,7 +6,7 @@ use lib.ListN.{length, drop, getD, drop-of-length-le}
 use mathlib.Core.List.{[]}
 use mathlib.Core.Option.{some}
 use Rattle.lines.specs.Grammar.{digits, decimal}
-use Rattle.lines.specs.Line.{number, numbered}
+use Rattle.lines.specs.Line.{numbered}
 use Rattle.lines.proofs.Lines.{number-none, number-long, number-other, number-some, digits-low, digits-high, digits-passed, decimal-passed, more-digits, few-digits}
 use Rattle.lines.proofs.line.digits.Statement.{statement}
 use Rattle.lines.proofs.line.digits.Tie as tie

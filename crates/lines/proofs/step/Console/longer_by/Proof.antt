@@ -5,7 +5,6 @@ use mathlib.Core.Path.{_≡_, ap}
 use mathlib.Core.List.{List}
 use lib.ListN.{length}
 use Rattle.senders.specs.Jit.{tuner}
-use Rattle.lines.specs.Session.{Session}
 use Rattle.lines.proofs.Holds.{held-more}
 use borrow.Author.Needs.{needs}
 use Rattle.lines.proofs.step.Console.longer_by.Statement.{statement}

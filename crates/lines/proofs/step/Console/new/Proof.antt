@@ -2,7 +2,6 @@
 use mathlib.Core.Path.{ap}
 use mathlib.Core.List.{[]}
 use Rattle.senders.specs.Jit.{Tuner}
-use Rattle.lines.specs.Session.{Session}
 use borrow.Author.Needs.{needs}
 use Rattle.lines.proofs.step.Console.new.Statement.{statement}
 use Rattle.lines.proofs.step.Console.new.Tie as tie

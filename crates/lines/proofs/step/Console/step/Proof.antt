@@ -1,6 +1,6 @@
 -- `lines::step::Console::step` meets its contract. The invariant: what the call does is what it has taken and written, and then what it does with
 -- the rest of the piece. Assumes nothing.
-use Prim.Native.Nat.{ℕ, _+_, _-_, _≤_}
+use Prim.Native.Nat.{_+_, _-_}
 use native.Mathlib.Omega.{arith}
 use mathlib.Core.Path.{_≡_, sym, _∙_, ap}
 use lib.ListN.{length, length-map, length-take, length-drop}
