@@ -1,0 +1,23 @@
+-- `jit::JitTuningModel::open` meets its contract: the channel list's answer, and a fresh model with the channels present. Assumes nothing.
+use borrow.Author.Needs.{needs}
+use mathlib.Core.Path.{_≡_, ap, _∙_}
+use Rattle.models.specs.Pool.{openRule}
+use Rattle.models.specs.View.{opened}
+use Rattle.models.proofs.jit.JitTuningModel.open.Statement.{statement}
+use Rattle.models.proofs.jit.JitTuningModel.open.Tie as tie
+
+of-requires : tie.Need-of-requires
+of-requires c κs = search needs
+
+present-requires : tie.Need-present-requires
+present-requires c κs = search needs
+
+fresh-requires : tie.Need-fresh-requires
+fresh-requires c κs = search needs
+
+returns : tie.Need-returns
+unfolding opened openRule
+returns c = rw (c .fresh .ensures, c .before .present .ensures, c .before .before .of .ensures)
+
+pub open-spec : {M : Type 1} → statement M
+open-spec = tie.close (tie.spec of-requires present-requires fresh-requires returns)

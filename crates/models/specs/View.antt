@@ -1,0 +1,96 @@
+-- What the structs of the pool model hold, and what its answers are, in the words of the rules. Assumes nothing.
+use Prim.Native.Nat.{ℕ}
+use mathlib.Core.Bool.{cond}
+use mathlib.Core.List.{List, map}
+use mathlib.Core.Option.{Option, some, none}
+use lib.IntN.{ℤ}
+use lib.Ieee.{Float}
+use lib.ListN.{take}
+use Rattle.arithmetic.specs.Outcome.{Outcome, value, refused}
+use Rattle.arithmetic.specs.Note.{isNote}
+use Rattle.models.specs.ChannelList.{entries, channelsAnswer}
+use Rattle.models.specs.Pool.{Place, Held, Pool, State, poolCount, Room, room, Press, accepted, rejected}
+use Rattle.models.specs.declared.queue.Queue.{Queue}
+use Rattle.models.specs.declared.queue.Front as F
+use Rattle.models.specs.declared.keys.AccessKeyResult as A
+use Rattle.models.specs.declared.keys.NextKey as N
+use Rattle.models.specs.declared.keys.Slot.{Slot}
+use Rattle.models.specs.declared.keys.Keys.{Keys}
+use Rattle.models.specs.declared.jit.StoppedNote as S
+use Rattle.models.specs.declared.jit.Oldest as O
+use Rattle.models.specs.declared.jit.RegisterKeyResult as R
+use Rattle.models.specs.declared.jit.RepitchKeyResult as P
+use Rattle.models.specs.declared.jit.JitPool.{JitPool}
+use Rattle.models.specs.declared.jit.JitTuningModel.{JitTuningModel}
+use Rattle.models.specs.declared.jit.Room as C
+use Rattle.models.specs.declared.jit.Registered.{Registered}
+use Rattle.models.specs.declared.jit.Opened.{Opened}
+
+-- ---- the model
+
+-- A queue's items, the front first: the first of its sixteen places, all of them if its length is larger.
+unfoldable pub items : Queue → List ℕ
+items q = take (q .len) (q .slots)
+
+-- A key is found if its record has a note.
+unfoldable pub recordOf : Slot → Option Place
+recordOf s = cond (isNote (s .note)) (some (record { channel = s .channel; note = s .note })) none
+
+unfoldable pub records : Keys → List (Option Place)
+records k = map recordOf (k .slots)
+
+unfoldable pub poolView : JitPool → Pool
+poolView p = record { free = items (p .free); order = items (p .order) }
+
+unfoldable pub view : JitTuningModel → State
+view m =
+    record {
+      channels = entries (m .channels);
+      group = m .«group_by»;
+      mode = m .«pooling_mode»;
+      pools = take (poolCount (m .«group_by»)) (map poolView (m .pools));
+      keys = records (m .keys);
+    }
+
+-- ---- the answers
+
+unfoldable pub front : F.Front → Option ℕ
+front (F.the-variants.Item x) = some x
+front F.the-variants.Empty = none
+
+unfoldable pub place : A.AccessKeyResult → Option Place
+place (A.the-variants.Found channel note) = some (record { channel = channel; note = note })
+place A.the-variants.NotFound = none
+
+unfoldable pub nextHeld : N.NextKey → Option Held
+nextHeld (N.the-variants.Held key channel note) = some (record { key = key; place = record { channel = channel; note = note } })
+nextHeld N.the-variants.NoMore = none
+
+unfoldable pub old : O.Oldest → Option Held
+old (O.the-variants.Key key channel note) = some (record { key = key; place = record { channel = channel; note = note } })
+old O.the-variants.Nothing = none
+
+unfoldable pub stoppedNote : S.StoppedNote → Option ℤ
+stoppedNote (S.the-variants.Note note) = some note
+stoppedNote S.the-variants.Nothing = none
+
+unfoldable pub press : R.RegisterKeyResult → Outcome Press
+press (R.the-variants.Accepted channel stopped started detuning) = value (accepted channel (stoppedNote stopped) started detuning)
+press R.the-variants.Rejected = value rejected
+press (R.the-variants.Refused n) = refused n
+
+unfoldable pub repitched : P.RepitchKeyResult → Outcome (Option (Place × Float))
+repitched (P.the-variants.Found channel note detuning) = value (some (record { channel = channel; note = note }, detuning))
+repitched P.the-variants.NotFound = value none
+repitched (P.the-variants.Refused n) = refused n
+
+-- ---- the answers beside the model
+
+unfoldable pub opened : Opened → Outcome (List ℕ) × State
+opened r = (channelsAnswer (r .answer), view (r .model))
+
+unfoldable pub told : Registered → Outcome Press × State
+told r = (press (r .result), view (r .model))
+
+unfoldable pub roomView : C.Room → Room
+roomView r = room (view (r .model)) (stoppedNote (r .«stopped_note»))

@@ -1,0 +1,120 @@
+// The records of all keys: which are found, on which channel and note.
+
+ghost use mathlib.Core.Path.{_≡_};
+ghost use mathlib.Core.Bool.{true};
+ghost use mathlib.Core.Option.{some, none};
+ghost use lib.ListN.{getD, set, replicate, drop};
+ghost use Rattle.arithmetic.specs.Note.{isNote};
+ghost use Rattle.models.specs.Entries.{first};
+ghost use Rattle.models.specs.Pool.{keyCount, heldFrom};
+ghost use Rattle.models.specs.View.{records, place, nextHeld};
+use arithmetic::note::is_note;
+
+// The number of keys, as `keyCount` of specs/.
+pub const KEYS: usize = 256;
+
+// One above the highest note: the key is not found.
+const NO_NOTE: i16 = 501;
+
+// What a lookup of a key finds.
+pub enum AccessKeyResult {
+    Found { channel: u8, found_note: i32 },
+    NotFound,
+}
+
+// The next found key.
+pub enum NextKey {
+    Held { key: u8, channel: u8, note: i32 },
+    NoMore,
+}
+
+// A key's channel and note. A number that is no note says that the key is not found.
+pub struct Slot {
+    channel: u8,
+    note: i16,
+}
+
+pub struct Keys {
+    slots: [Slot; KEYS],
+}
+
+impl Keys {
+    pub(crate) fn new() -> Keys
+        ensures { λ r. ⌜ records r ≡ replicate keyCount none ⌝ }
+    {
+        let slot = Slot {
+            channel: 0,
+            note: NO_NOTE,
+        };
+        Keys {
+            slots: [slot; KEYS],
+        }
+    }
+
+    pub(crate) fn lookup(self, key: u8) -> AccessKeyResult
+        ensures { λ r. ⌜ place r ≡ getD (records self) key none ⌝ }
+    {
+        let at = key as usize;
+        let slots = self.slots;
+        let slot = slots[at];
+        let channel = slot.channel;
+        let found_note = slot.note as i32;
+        if is_note(found_note) {
+            return AccessKeyResult::Found {
+                channel,
+                found_note,
+            };
+        }
+        AccessKeyResult::NotFound
+    }
+
+    // The key is found on this channel and note.
+    pub(crate) fn store(self, key: u8, channel: u8, note: i32) -> Keys
+        requires { ⌜ isNote note ≡ true ⌝ }
+        ensures { λ r. ⌜ records r ≡ set (records self) key (some (record { channel = channel; note = note })) ⌝ }
+    {
+        let at = key as usize;
+        let mut slots = self.slots;
+        let low = note as i16;
+        let slot = Slot { channel, note: low };
+        slots[at] = slot;
+        Keys { slots }
+    }
+
+    // The key is not found any more.
+    pub(crate) fn clear(self, key: u8) -> Keys
+        ensures { λ r. ⌜ records r ≡ set (records self) key none ⌝ }
+    {
+        let at = key as usize;
+        let mut slots = self.slots;
+        let slot = Slot {
+            channel: 0,
+            note: NO_NOTE,
+        };
+        slots[at] = slot;
+        Keys { slots }
+    }
+
+    // The first found key from a number on.
+    pub(crate) fn next(self, from: usize) -> NextKey
+        ensures { λ r. ⌜ nextHeld r ≡ first (heldFrom from (drop from (records self))) ⌝ }
+    {
+        let mut key = from;
+        while key < KEYS {
+            let low = key as u8;
+            let found = self.lookup(low);
+            if let AccessKeyResult::Found {
+                channel,
+                found_note,
+            } = found {
+                return NextKey::Held {
+                    key: low,
+                    channel,
+                    note: found_note,
+                };
+            }
+            key += 1;
+        }
+        NextKey::NoMore
+    }
+}
