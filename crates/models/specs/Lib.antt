@@ -6,3 +6,10 @@ pub mod ChannelList
 pub mod Pool
 pub mod View
 pub mod Recital
+pub mod Lists
+pub mod Line
+pub mod Walk
+pub mod Placing
+pub mod PlanLists
+pub mod AotModel
+pub mod Inside

@@ -1,0 +1,49 @@
+-- When two models are the same, and which one has no keys. Assumes nothing.
+use mathlib.Core.Path.{_≡_, refl}
+use mathlib.Core.Bool.{Bool, true, false, not, _&&_, cond}
+use mathlib.Core.List.{List, [], _∷_}
+use mathlib.Core.Option.{none}
+use Prim.Native.Nat.{ℕ, zero, suc, _<_}
+use lib.Dec.{T, leb}
+use lib.IntN.{ℤ}
+use lib.Ieee.Fits.{and-l, and-r}
+use lib.ListN.{getD}
+use Rattle.models.specs.declared.aot.GroupBy.{GroupBy}
+use Rattle.models.specs.declared.aot.KeyRecord.{KeyRecord}
+use Rattle.models.specs.Line.{group, same}
+use Rattle.models.specs.AotModel.{Model, nobody, isIn, keyIn, counts, highest}
+use Rattle.models.proofs.ListLaws.{T→false, outcome, passed, failed}
+
+pub same-model : (m n : Model) → m .channels ≡ n .channels → m .groupBy ≡ n .groupBy → m .tuned ≡ n .tuned → m .numChannels ≡ n .numChannels
+    → ((k : ℕ) → m .keys k ≡ n .keys k) → ((c : ℕ) (g : ℤ) → m .detunings c g ≡ n .detunings c g) → m ≡ n
+same-model m n a b t d e f =
+    λ i. record { channels = a i; groupBy = b i; tuned = t i; numChannels = d i; keys = λ k. e k i; detunings = λ c g. f c g i }
+
+-- no record is of a key in the plan
+abbrev pub allOut : List KeyRecord → Bool
+allOut [] = true
+allOut (r ∷ rs) = not (isIn r) && allOut rs
+
+pub out-at : (rs : List KeyRecord) → T (allOut rs) → (k : ℕ) → isIn (getD rs k nobody) ≡ false
+unfolding isIn
+out-at [] h k = refl
+out-at (r ∷ rs) h zero = T→false (isIn r) (and-l (not (isIn r)) (allOut rs) h)
+out-at (r ∷ rs) h (suc k) = out-at rs (and-r (not (isIn r)) (allOut rs) h) k
+
+pub no-keys : (rs : List KeyRecord) → T (allOut rs) → (k : ℕ) → keyIn rs k ≡ none
+unfolding keyIn
+no-keys rs h k = rw (out-at rs h k)
+
+-- what is not in the plan counts for no group
+pub out-counts : (by : GroupBy) (c : ℕ) (g : ℤ) (r : KeyRecord) → isIn r ≡ false → counts by c g r ≡ false
+unfolding counts
+out-counts by c g r e = rw e (and-no (leb (r .channel) c) (same (group by (r .note)) g))
+  where
+    and-no : (a b : Bool) → (a && false && b) ≡ false
+    and-no true b = refl
+    and-no false b = refl
+
+pub no-detunings : (by : GroupBy) (c : ℕ) (g : ℤ) (rs : List KeyRecord) → T (allOut rs) → highest by c g rs ≡ none
+unfolding highest
+no-detunings by c g [] h = refl
+no-detunings by c g (r ∷ rs) h = rw (out-counts by c g r (T→false (isIn r) (and-l (not (isIn r)) (allOut rs) h)), no-detunings by c g rs (and-r (not (isIn r)) (allOut rs) h))

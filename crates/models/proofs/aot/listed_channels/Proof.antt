@@ -1,0 +1,28 @@
+-- `models::aot::listed_channels` meets its contract, by the answer's cases. Assumes nothing.
+
+use mathlib.Core.Path.{_≡_, sym, ap, _∙_}
+use Rattle.models.specs.ChannelList.{channelsAnswer}
+use borrow.Author.Needs.{needs}
+use Rattle.models.proofs.aot.listed_channels.Statement.{statement}
+use Rattle.models.proofs.aot.listed_channels.Tie as tie
+
+enum-known-answer : tie.Need-enum-known-answer
+enum-known-answer c = search needs
+
+enum-told : tie.Need-enum-told
+enum-told c = search needs
+
+none-requires : tie.Need-none-requires
+none-requires c κs = search needs
+
+returns : tie.Need-returns
+unfolding channelsAnswer
+returns c = rw (c .before .answer .given .1)
+
+returns-2 : tie.Need-returns-2
+unfolding channelsAnswer
+returns-2 c = rw (c .before .enum-told .given .1) (c .none .ensures)
+
+pub listed-channels-spec : {M : Type 1} → statement M
+listed-channels-spec =
+    tie.close (tie.spec enum-known-answer enum-told none-requires returns returns-2)

@@ -1,0 +1,180 @@
+-- A model of planned tunings as its calls see it (document 01, "aot.rs"), and the rule of each call. Assumes nothing.
+use mathlib.Core.Bool.{Bool, true, false, cond, _&&_}
+use mathlib.Core.List.{List, [], _∷_}
+use mathlib.Core.Option.{Option, none, some}
+use Prim.Native.Nat.{ℕ, zero, suc}
+use lib.Dec.{leb, ltb}
+use lib.IntN.{ℤ, pos, _+ℤ_}
+use lib.Signed.{leZ}
+use lib.Ieee.{Float, nan, le}
+use lib.ListN.{length, getD}
+use Rattle.arithmetic.specs.Outcome.{Outcome, value}
+use Rattle.arithmetic.specs.Note.{isNote, lowestNote}
+use Rattle.models.specs.declared.aot.GroupBy.{GroupBy}
+use Rattle.models.specs.declared.aot.GroupBy.the-variants.{Note, NoteLetter, Channel}
+use Rattle.models.specs.declared.aot.KeyRecord.{KeyRecord}
+use Rattle.models.specs.declared.aot.AotTuningModel.{AotTuningModel}
+use Rattle.models.specs.declared.aot.Access as A
+use Rattle.models.specs.declared.aot.Tuning as T
+use Rattle.models.specs.declared.aot.DetuningAnswer as D
+use Rattle.models.specs.declared.aot.NextAnswer as N
+use Rattle.models.specs.declared.aot.SetTuning.{SetTuning}
+use Rattle.models.specs.declared.aot.Opened.{Opened}
+use Rattle.models.specs.ChannelList.{entries, listRule, channelsAnswer}
+use Rattle.models.specs.Line.{Line, group, same}
+use Rattle.models.specs.Walk.{count, seat, entry}
+use Rattle.models.specs.Placing.{Demand3}
+use Rattle.models.specs.PlanLists.{noteLists, pitchLists}
+
+pub record Model : Type 0 where
+  -- the MIDI channels present: channel i is entry i
+  pub channels : List ℕ
+  pub groupBy : GroupBy
+  pub tuned : Bool
+  -- of the plan; without a plan as many as are present
+  pub numChannels : ℕ
+  -- the channel and the note of a key that is in the plan
+  pub keys : ℕ → Option (ℕ × ℤ)
+  -- the detuning of a group on a channel
+  pub detunings : ℕ → ℤ → Option Float
+
+-- ---- opening
+
+-- a model with no keys
+abbrev pub empty : List ℕ → GroupBy → Model
+empty cs by = record { channels = cs; groupBy = by; tuned = false; numChannels = length cs; keys = λ k. none; detunings = λ c g. none }
+
+-- the list's entries, none of a list that is refused
+abbrev pub accepted : Outcome (List ℕ) → List ℕ
+accepted (value cs) = cs
+accepted (Outcome.refused n) = []
+
+unfoldable pub openRule : List ℕ → GroupBy → Model × Outcome (List ℕ)
+openRule cs by = (empty (accepted (listRule cs)) by, listRule cs)
+
+-- ---- planning
+
+pub data Answer : Type 0 where
+  -- each with the count of channels
+  tuned untuned : ℕ → Answer
+  refused : ℕ → Answer
+
+-- the model with the plan of these lines
+abbrev pub holding : Model → List Line → Model
+holding m lines = record {
+  channels = m .channels;
+  groupBy = m .groupBy;
+  tuned = true;
+  numChannels = count (m .groupBy) lines;
+  keys = seat (m .groupBy) lines;
+  detunings = entry (m .groupBy) lines;
+}
+
+-- "If more channels are needed than exist: result "untuned" with the count, model emptied"; a refusal leaves the model as it was
+unfoldable pub planned : Model → Outcome (List Line) → Model × Answer
+planned m (Outcome.refused n) = (m, refused n)
+planned m (value lines) =
+    let n = count (m .groupBy) lines in
+    cond (leb n (length (m .channels))) (holding m lines, tuned n) (empty (m .channels) (m .groupBy), untuned n)
+
+abbrev pub setTuning : Model → List ℕ → List ℤ → List Float → Model × Answer
+setTuning m ks ns ds = planned m (noteLists ks ns ds)
+
+abbrev pub setTuningOfPitches : Model → List ℕ → List Float → Model × Answer
+setTuningOfPitches m ks hzs = planned m (pitchLists ks hzs)
+
+-- Demand 3 of what planning these lists on a model gave, if they were not refused. The channels present are the model's, and the lookup is the new model's.
+abbrev pub Smallest : Model → Outcome (List Line) → Model × Answer → Type 0
+Smallest m (Outcome.refused n) r = Unit {0}
+Smallest m (value lines) (next, tuned n) = Demand3 (m .groupBy) lines (length (m .channels)) (next .keys) true n
+Smallest m (value lines) (next, untuned n) = Demand3 (m .groupBy) lines (length (m .channels)) (next .keys) false n
+Smallest m (value lines) (next, refused n) = ⊥
+
+-- ---- the entries of a channel, by rising group
+
+-- z, z + 1 and so on, n of them
+unfoldable pub numbersFrom : ℕ → ℤ → List ℤ
+numbersFrom zero z = []
+numbersFrom (suc n) z = z ∷ numbersFrom n (z +ℤ pos 1)
+
+-- all groups: the notes, the letters, or the one whole channel
+unfoldable pub groups : GroupBy → List ℤ
+groups Note = numbersFrom 801 lowestNote
+groups NoteLetter = numbersFrom 12 (pos 0)
+groups Channel = numbersFrom 1 (pos 0)
+
+abbrev pub entryAt : ℤ → Option Float → Option (ℤ × Float) → Option (ℤ × Float)
+entryAt g (some d) r = some (g, d)
+entryAt g none r = r
+
+-- the first of these groups, not below `from`, that has an entry
+unfoldable pub firstEntry : ℤ → (ℤ → Option Float) → List ℤ → Option (ℤ × Float)
+firstEntry from f [] = none
+firstEntry from f (g ∷ gs) = let r = firstEntry from f gs in cond (leZ from g) (entryAt g (f g) r) r
+
+unfoldable pub nextRule : Model → ℕ → ℤ → Option (ℤ × Float)
+nextRule m c from = firstEntry from (m .detunings c) (groups (m .groupBy))
+
+-- ---- how a model's fields are read
+
+-- a record is of a key in the plan where its channel is one of the sixteen and its note is a note
+unfoldable pub isIn : KeyRecord → Bool
+isIn r = ltb (r .channel) 16 && isNote (r .note)
+
+-- what stands for a key beyond the records
+abbrev pub nobody : KeyRecord
+nobody = record { note = pos 0; channel = 255; detuning = nan }
+
+unfoldable pub keyIn : List KeyRecord → ℕ → Option (ℕ × ℤ)
+keyIn rs k = let r = getD rs k nobody in cond (isIn r) (some (r .channel, r .note)) none
+
+abbrev pub larger : Float → Option Float → Option Float
+larger d none = some d
+larger d (some e) = cond (le d e) (some e) (some d)
+
+-- the record counts for the group g on channel c
+unfoldable pub counts : GroupBy → ℕ → ℤ → KeyRecord → Bool
+counts by c g r = leb (r .channel) c && isIn r && same (group by (r .note)) g
+
+-- The largest detuning of the group g up to channel c: keys of a group come to their channels by rising detuning, so it is the one that came last.
+unfoldable pub highest : GroupBy → ℕ → ℤ → List KeyRecord → Option Float
+highest by c g [] = none
+highest by c g (r ∷ rs) = let h = highest by c g rs in cond (counts by c g r) (larger (r .detuning) h) h
+
+unfoldable pub detuningIn : AotTuningModel → ℕ → ℤ → Option Float
+detuningIn s c g = cond (ltb c (s .«num_channels»)) (highest (s .«group_by») c g (s .records)) none
+
+abbrev pub modelOf : AotTuningModel → Model
+modelOf s = record {
+  channels = entries (s .channels);
+  groupBy = s .«group_by»;
+  tuned = s .tuned;
+  numChannels = s .«num_channels»;
+  keys = keyIn (s .records);
+  detunings = detuningIn s;
+}
+
+-- ---- the code's answers in these words
+
+abbrev pub accessAnswer : A.Access → Option (ℕ × ℤ)
+accessAnswer (A.the-variants.Found c n) = some (c, n)
+accessAnswer A.the-variants.NotFound = none
+
+abbrev pub tuningAnswer : T.Tuning → Answer
+tuningAnswer (T.the-variants.Tuned n) = tuned n
+tuningAnswer (T.the-variants.Untuned n) = untuned n
+tuningAnswer (T.the-variants.Refused n) = refused n
+
+abbrev pub detuningAnswer : D.DetuningAnswer → Option Float
+detuningAnswer (D.the-variants.Detuning d) = some d
+detuningAnswer D.the-variants.NoEntry = none
+
+abbrev pub nextAnswer : N.NextAnswer → Option (ℤ × Float)
+nextAnswer (N.the-variants.Entry g d) = some (g, d)
+nextAnswer N.the-variants.NoEntry = none
+
+abbrev pub tuningOf : SetTuning → Model × Answer
+tuningOf r = (modelOf (r .model), tuningAnswer (r .answer))
+
+abbrev pub openedOf : Opened → Model × Outcome (List ℕ)
+openedOf r = (modelOf (r .model), channelsAnswer (r .answer))

@@ -1,0 +1,424 @@
+// Plans ("ahead of time"): every key gets a channel and a note before anyone plays.
+
+ghost use mathlib.Core.Path.{_≡_};
+ghost use mathlib.Core.Bool.{true, _&&_};
+ghost use mathlib.Core.List.{List};
+ghost use Prim.Native.Nat.{_<_, _≤_};
+ghost use lib.Dec.{leb};
+ghost use Rattle.arithmetic.specs.Note.{isNote};
+ghost use Rattle.models.specs.ChannelList.{channelsAnswer, entries};
+ghost use Rattle.models.specs.Line.{Line, group, joins, rising};
+ghost use Rattle.models.specs.PlanLists.{noteLists, pitchLists};
+ghost use Rattle.models.specs.AotModel.{
+    Smallest, accepted, accessAnswer, detuningAnswer, empty, highest, isIn, larger, modelOf, nextAnswer, nextRule, openRule, openedOf, planned, setTuning, setTuningOfPitches,
+    tuningOf,
+};
+ghost use Rattle.models.specs.Inside.{Accepted, Least, Ready, Seats, channelsWith, linesOf, slotOf, waits};
+use crate::channels::ChannelList;
+use crate::channels::ChannelsAnswer;
+use crate::waiting::KEYS;
+use crate::waiting::Waiting;
+use crate::waiting::note_lists;
+use crate::waiting::pitch_lists;
+use arithmetic::note::HIGHEST_NOTE;
+use arithmetic::note::LOWEST_NOTE;
+use arithmetic::note::LetterAnswer;
+use arithmetic::note::is_note;
+use arithmetic::note::letter;
+use arithmetic::pitch::Ratio;
+
+// What a sound module retunes together: one note, one note letter, or a whole channel.
+pub enum GroupBy {
+    Note,
+    NoteLetter,
+    Channel,
+}
+
+// Where a key is.
+pub enum Access {
+    // Its channel and its note.
+    Found(u8, i32),
+    NotFound,
+}
+
+// What a tuning answers.
+pub enum Tuning {
+    // How many channels the plan uses.
+    Tuned(u16),
+    // How many it would need; there are fewer.
+    Untuned(u16),
+    Refused(u8),
+}
+
+// The detuning of a group on a channel.
+pub enum DetuningAnswer {
+    Detuning(f64),
+    NoEntry,
+}
+
+// The next group with a detuning on a channel, and the detuning.
+pub enum NextAnswer {
+    Entry(i32, f64),
+    NoEntry,
+}
+
+// MIDI has so many channels.
+const MOST_CHANNELS: u8 = 16;
+
+// The channel of a key that is not in the plan.
+const NO_CHANNEL: u8 = 255;
+
+// There are so many notes, and no more groups of any kind.
+const GROUPS: usize = 801;
+
+// A key of a plan.
+pub struct KeyRecord {
+    note: i32,
+    channel: u8,
+    detuning: f64,
+}
+
+// A model of tunings that are planned.
+pub struct AotTuningModel {
+    // By key.
+    records: [KeyRecord; 256],
+    channels: ChannelList,
+    group_by: GroupBy,
+    num_channels: u8,
+    tuned: bool,
+}
+
+// A tuning's answer beside the model.
+pub struct SetTuning {
+    pub model: AotTuningModel,
+    pub answer: Tuning,
+}
+
+// The channel list's answer beside the model. A list that is refused opens a model without channels.
+pub struct Opened {
+    pub model: AotTuningModel,
+    pub answer: ChannelsAnswer,
+}
+
+impl AotTuningModel {
+    // A model with no keys, for the channels of a list. Refuses, entry by entry, 6 a channel over 15 and 7 one that came before.
+    pub fn open(channels: &[u8], group_by: GroupBy) -> Opened
+        ensures { λ r. ⌜ openedOf r ≡ openRule (now (channels .entry)) «group_by» ⌝ }
+    {
+        let answer = ChannelList::of(channels);
+        let list = listed_channels(answer);
+        Opened {
+            model: AotTuningModel::empty(list, group_by),
+            answer: answer,
+        }
+    }
+
+    // A model with no keys.
+    pub fn empty(channels: ChannelList, group_by: GroupBy) -> AotTuningModel
+        ensures { λ r. ⌜ modelOf r ≡ empty (entries channels) «group_by» ⌝ }
+    {
+        let num_channels = channels.len();
+        AotTuningModel {
+            records: [KeyRecord {
+                note: 0,
+                channel: NO_CHANNEL,
+                detuning: 1.0,
+            }; 256],
+            channels: channels,
+            group_by: group_by,
+            num_channels: num_channels,
+            tuned: false,
+        }
+    }
+
+    // Plans keys with their notes and detunings. Refuses 12, then line by line 4, 3, 5.
+    pub fn set_tuning(self, keys: &[u8], notes: &[i32], detunings: &[f64]) -> SetTuning
+        ensures { λ r. ⌜ tuningOf r ≡ setTuning (modelOf self) (now (keys .entry)) (now (notes .entry)) (now (detunings .entry)) ⌝ }
+        ensures { λ r. ⌜ Smallest (modelOf self) (noteLists (now (keys .entry)) (now (notes .entry)) (now (detunings .entry))) (tuningOf r) ⌝ }
+    {
+        self.with_plan(note_lists(keys, notes, detunings))
+    }
+
+    // Plans keys with their pitches in Hz: each has the nearest note. Refuses 12, then line by line 1, 5.
+    pub fn set_tuning_of_pitches(self, keys: &[u8], pitches: &[f64]) -> SetTuning
+        ensures { λ r. ⌜ tuningOf r ≡ setTuningOfPitches (modelOf self) (now (keys .entry)) (now (pitches .entry)) ⌝ }
+        ensures { λ r. ⌜ Smallest (modelOf self) (pitchLists (now (keys .entry)) (now (pitches .entry))) (tuningOf r) ⌝ }
+    {
+        self.with_plan(pitch_lists(keys, pitches))
+    }
+
+    // The channel and the note of a key of the plan.
+    pub fn access_key(self, key: u8) -> Access
+        ensures { λ r. ⌜ accessAnswer r ≡ modelOf self .keys key ⌝ }
+    {
+        let at = key as usize;
+        let record = self.records[at];
+        if record.is_planned() {
+            return Access::Found(record.channel, record.note);
+        }
+        Access::NotFound
+    }
+
+    // How many channels the plan uses, and without a plan how many there are.
+    pub fn num_channels(self) -> u8
+        ensures { λ r. ⌜ r ≡ modelOf self .numChannels ⌝ }
+    {
+        self.num_channels
+    }
+
+    // Whether there is a plan.
+    pub fn tuned(self) -> bool
+        ensures { λ r. ⌜ r ≡ modelOf self .tuned ⌝ }
+    {
+        self.tuned
+    }
+
+    // The channel list that the model was opened with.
+    pub fn channels(self) -> ChannelList
+        ensures { λ r. ⌜ entries r ≡ modelOf self .channels ⌝ }
+    {
+        self.channels
+    }
+
+    // What the model retunes together.
+    pub fn group_by(self) -> GroupBy
+        ensures { λ r. ⌜ r ≡ modelOf self .groupBy ⌝ }
+    {
+        self.group_by
+    }
+
+    // The detuning of a group on a channel of the plan, carried over from the channels before where it was not replaced. A note is its own group's number,
+    // a letter's is 0 to 11, a whole channel's 0.
+    pub fn detuning(self, channel: u8, group: i32) -> DetuningAnswer
+        ensures { λ r. ⌜ detuningAnswer r ≡ modelOf self .detunings channel group ⌝ }
+    {
+        if self.num_channels <= channel {
+            return DetuningAnswer::NoEntry;
+        }
+        let records = self.records;
+        let by = self.group_by;
+        highest(records, by, channel, group)
+    }
+
+    // The first of a channel's detunings whose group is `from` or higher: they are listed by rising group.
+    pub fn next_detuning(self, channel: u8, from: i32) -> NextAnswer
+        ensures { λ r. ⌜ nextAnswer r ≡ nextRule (modelOf self) channel from ⌝ }
+    {
+        let records = self.records;
+        let by = self.group_by;
+        let group = least_group(records, by, channel, from);
+        match self.detuning(channel, group) {
+            DetuningAnswer::Detuning(detuning) => NextAnswer::Entry(group, detuning),
+            DetuningAnswer::NoEntry => NextAnswer::NoEntry,
+        }
+    }
+
+    // The model with the plan of the keys that wait, if there are channels enough.
+    fn with_plan(self, waiting: Waiting) -> SetTuning
+        requires { ⌜ (waiting .count ≤ 256) × Ready (waits waiting) ⌝ }
+        ensures { λ r. ⌜ tuningOf r ≡ planned (modelOf self) (waits waiting) ⌝ }
+    {
+        let refusal = waiting.refusal;
+        if refusal != 0 {
+            return SetTuning {
+                model: self,
+                answer: Tuning::Refused(refusal),
+            };
+        }
+        let by = self.group_by;
+        let channels = self.channels;
+        let plan = place_keys(waiting, by);
+        let count = plan.count;
+        let present = channels.len() as u16;
+        if present < count {
+            return SetTuning {
+                model: AotTuningModel::empty(channels, by),
+                answer: Tuning::Untuned(count),
+            };
+        }
+        let records = plan.records;
+        let num_channels = count as u8;
+        SetTuning {
+            model: AotTuningModel {
+                records: records,
+                channels: channels,
+                group_by: by,
+                num_channels: num_channels,
+                tuned: true,
+            },
+            answer: Tuning::Tuned(count),
+        }
+    }
+}
+
+fn listed_channels(answer: ChannelsAnswer) -> ChannelList
+    ensures { λ r. ⌜ entries r ≡ accepted (channelsAnswer answer) ⌝ }
+{
+    match answer {
+        ChannelsAnswer::Listed(list) => list,
+        ChannelsAnswer::Refused(_) => ChannelList::none(),
+    }
+}
+
+impl KeyRecord {
+    // Whether the key is in the plan.
+    fn is_planned(self) -> bool
+        ensures { λ r. ⌜ r ≡ isIn self ⌝ }
+    {
+        self.channel < MOST_CHANNELS && is_note(self.note)
+    }
+
+    // Whether the key is in the plan on a channel or one before it.
+    fn is_up_to(self, channel: u8) -> bool
+        ensures { λ r. ⌜ r ≡ (leb (self .channel) channel && isIn self) ⌝ }
+    {
+        self.channel <= channel && self.is_planned()
+    }
+}
+
+// The number of a note's group.
+fn group_of(by: GroupBy, note: i32) -> i32
+    requires { ⌜ isNote note ≡ true ⌝ }
+    ensures { λ r. ⌜ r ≡ group by note ⌝ }
+{
+    match by {
+        GroupBy::Note => note,
+        GroupBy::NoteLetter => match letter(note) {
+            LetterAnswer::Letter(number) => number as i32,
+            // Every note has a letter.
+            LetterAnswer::Refused(_) => 0,
+        },
+        GroupBy::Channel => 0,
+    }
+}
+
+// Whether a key may stand behind the last one of its group on that one's channel.
+fn joins(before: f64, detuning: f64) -> bool
+    ensures { λ r. ⌜ r ≡ joins before detuning ⌝ }
+{
+    Ratio::from_float(detuning).deviation_from(Ratio::from_float(before)).is_negligible()
+}
+
+// How many channels a group uses with one key more, where it used so many and its last detuning is `before`.
+fn channels_with(used: u16, before: f64, detuning: f64) -> u16
+    requires { ⌜ used < 65535 ⌝ }
+    ensures { λ r. ⌜ r ≡ channelsWith used before detuning ⌝ }
+{
+    if used == 0 {
+        return 1;
+    }
+    if joins(before, detuning) {
+        return used;
+    }
+    used + 1
+}
+
+// The keys on their channels, by key, and how many channels that takes.
+struct Plan {
+    records: [KeyRecord; 256],
+    count: u16,
+}
+
+// One pass over the keys in order. Each group's last detuning and the channels that it uses so far tell a key's channel.
+fn place_keys(waiting: Waiting, by: GroupBy) -> Plan
+    requires { ⌜ (waiting .count ≤ 256) × Accepted (linesOf waiting) × (rising (linesOf waiting) ≡ linesOf waiting) ⌝ }
+    ensures { λ r. ⌜ Seats by (linesOf waiting) r ⌝ }
+{
+    let order = waiting.order;
+    let notes = waiting.notes;
+    let detunings = waiting.detunings;
+    let n = waiting.count;
+    let mut records = [KeyRecord {
+        note: 0,
+        channel: NO_CHANNEL,
+        detuning: 1.0,
+    }; 256];
+    let mut latest = [1.0; GROUPS];
+    let mut used = [0u16; GROUPS];
+    let mut count: u16 = 0;
+    let mut i: usize = 0;
+    while i < n {
+        let key = order[i] as usize;
+        let note = notes[key];
+        let detuning = detunings[key];
+        let at = slot(group_of(by, note));
+        let channels = channels_with(used[at], latest[at], detuning);
+        used[at] = channels;
+        latest[at] = detuning;
+        let channel = (channels - 1) as u8;
+        records[key] = KeyRecord {
+            note: note,
+            channel: channel,
+            detuning: detuning,
+        };
+        if count < channels {
+            count = channels;
+        }
+        i += 1;
+    }
+    Plan {
+        records: records,
+        count: count,
+    }
+}
+
+// A group's place in a table of all groups.
+fn slot(group: i32) -> usize
+    requires { ⌜ isNote group ≡ true ⌝ }
+    ensures { λ r. ⌜ r ≡ slotOf group ⌝ }
+{
+    (group - LOWEST_NOTE) as usize
+}
+
+// The larger of a detuning and another one, if there is one.
+fn larger(detuning: f64, other: DetuningAnswer) -> DetuningAnswer
+    ensures { λ r. ⌜ detuningAnswer r ≡ larger detuning (detuningAnswer other) ⌝ }
+{
+    match other {
+        DetuningAnswer::NoEntry => DetuningAnswer::Detuning(detuning),
+        DetuningAnswer::Detuning(d) => {
+            if Ratio::from_float(detuning).le(Ratio::from_float(d)) {
+                other
+            } else {
+                DetuningAnswer::Detuning(detuning)
+            }
+        }
+    }
+}
+
+// The largest detuning of a group's keys up to a channel. The keys of a group come to their channels by rising detuning, so it is the one that came last.
+fn highest(records: [KeyRecord; 256], by: GroupBy, channel: u8, group: i32) -> DetuningAnswer
+    ensures { λ r. ⌜ detuningAnswer r ≡ highest by channel group records ⌝ }
+{
+    let mut best = DetuningAnswer::NoEntry;
+    let mut i: usize = KEYS;
+    while 0 < i {
+        i -= 1;
+        let record = records[i];
+        if record.is_up_to(channel) {
+            if group_of(by, record.note) == group {
+                best = larger(record.detuning, best);
+            }
+        }
+    }
+    best
+}
+
+// The least group, not below `from`, of a key up to a channel; the number above all groups if there is none.
+fn least_group(records: [KeyRecord; 256], by: GroupBy, channel: u8, from: i32) -> i32
+    ensures { λ r. ⌜ Least by channel from records r ⌝ }
+{
+    let mut least = HIGHEST_NOTE + 1;
+    let mut i: usize = 0;
+    while i < KEYS {
+        let record = records[i];
+        if record.is_up_to(channel) {
+            let group = group_of(by, record.note);
+            if from <= group && group < least {
+                least = group;
+            }
+        }
+        i += 1;
+    }
+    least
+}
