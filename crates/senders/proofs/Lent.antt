@@ -1,0 +1,140 @@
+-- Laws of `Put`, bytes put into a lent buffer one behind the other, and of `Steps`: the three ways a call ends. Assumes nothing.
+use mathlib.Core.Path.{_≡_, refl, sym, ap, _∙_}
+use mathlib.Core.List.{List, [], _∷_, _++_, append-assoc, append-nil}
+use Prim.Native.Nat.{ℕ, suc, _+_, _≤_, _<_}
+use native.Mathlib.Nat.{add-assoc, zero-add, add-zero}
+use native.Mathlib.Numerals.{add-one}
+use native.Mathlib.Omega.{arith}
+use lib.Dec.{leb}
+use lib.ListN.{length, take, drop, getD, set, length-append, take-append-drop}
+use lib.Seq.{sets-eq, length-take-le, take-at, drop-at, drop-drop}
+use borrow.Author.Tests.{lt-leb, le-leb}
+use mathlib.Core.Bool.{Bool, true, false, cond}
+use Rattle.arithmetic.specs.Outcome.{Outcome, value, refused}
+use Rattle.arithmetic.specs.Refusal.{bufferTooShort}
+use Rattle.senders.specs.Lent.{Effect, sends, fitted, told, Moved, left, written, Steps, Put}
+
+-- ---- bytes put into a buffer
+
+-- a record of three bytes stored in a row
+pub stores :
+    (l : List ℕ) (at : ℕ) (bs : List ℕ) → length bs ≡ 3 → at + 3 ≤ length l
+    → set (set (set l at (getD bs 0 0)) (at + 1) (getD bs 1 0)) (at + 2) (getD bs 2 0) ≡ take at l ++ bs ++ drop (at + length bs) l
+stores l at (a ∷ b ∷ c ∷ []) e h =
+    let f : at + 2 ≡ suc (suc at) = omega arith in
+    rw (add-one, f) (sets-eq (a ∷ b ∷ c ∷ []) l at h)
+stores l at [] e h = absurd (let z : ⊥ = omega arith in z)
+stores l at (a ∷ []) e h = absurd (let z : ⊥ = omega arith in z)
+stores l at (a ∷ b ∷ []) e h = absurd (let z : ⊥ = omega arith in z)
+stores l at (a ∷ b ∷ c ∷ d ∷ bs) e h = absurd (let z : ⊥ = omega arith in z)
+
+-- nothing is put
+pub put-none : (at : ℕ) (l : List ℕ) → Put at [] at l l
+put-none at l = record { next-is = sym (add-zero at); new-is = sym (simp (add-zero, append-nil, take-append-drop)) }
+
+abbrev placed : ℕ → List ℕ → List ℕ → List ℕ
+placed at bs old = take at old ++ bs ++ drop (at + length bs) old
+
+placed-then : (at : ℕ) (xs ys l : List ℕ) → at ≤ length l → placed (at + length xs) ys (placed at xs l) ≡ placed at (xs ++ ys) l
+placed-then at xs ys l h =
+    let end : ℕ = at + length xs in
+    let front : List ℕ = take at l ++ xs in
+    let long : length front ≡ end = length-append (take at l) xs ∙ ap (λ (k : ℕ). k + length xs) (length-take-le at l h) in
+    let sum : end + length ys ≡ at + length (xs ++ ys) = simp (length-append, add-assoc) in
+    let rest : drop (end + length ys) (front ++ drop end l) ≡ drop (at + length (xs ++ ys)) l =
+    sym (drop-drop (length ys) end (front ++ drop end l))
+    ∙ ap (λ (k : List ℕ). drop (length ys) k) (drop-at front (drop end l) end long)
+    ∙ drop-drop (length ys) end l
+    ∙ ap (λ (k : ℕ). drop k l) sum in
+    ap (λ (k : List ℕ). k ++ ys ++ drop (end + length ys) (front ++ drop end l)) (take-at front (drop end l) end long)
+    ∙ ap (λ (k : List ℕ). front ++ ys ++ k) rest
+    ∙ ap (λ (k : List ℕ). k ++ drop (at + length (xs ++ ys)) l) (append-assoc (take at l) xs ys)
+
+-- bytes behind bytes
+pub put-then :
+    {at r s : ℕ} {xs ys l m n : List ℕ} → Put at xs r l m → Put r ys s m n → at ≤ length l → Put at (xs ++ ys) s l n
+put-then {at} {r} {s} {xs} {ys} {l} {m} {n} p q h =
+    record {
+      next-is = q .next-is ∙ ap (λ (x : ℕ). x + length ys) (p .next-is) ∙ simp (length-append, add-assoc);
+      new-is =
+          q .new-is
+          ∙ ap (λ (x : ℕ). placed x ys m) (p .next-is)
+          ∙ ap (λ (x : List ℕ). placed (at + length xs) ys x) (p .new-is)
+          ∙ placed-then at xs ys l h;
+    }
+
+-- ---- the three ways a call ends
+
+module _ {R S T : Type 0} {view : T → S} {rule : Outcome (Effect R S)} {s : T} {old : List ℕ} where
+  -- refused by a test of its rule
+  pub ends-refused : {n : ℕ} → rule ≡ refused n → Steps view rule s old (refused n) s old
+  ends-refused e = record { told-is = simp e; moved-is = rw e refl; left-is = simp e }
+
+  -- refused for want of room
+  pub ends-short : {f : Effect R S} → rule ≡ value f → length old < length (f .bytes) → Steps view rule s old (refused bufferTooShort) s old
+  ends-short {f} e h =
+      let t : leb (length (f .bytes)) (length old) ≡ false = lt-leb (length (f .bytes)) (length old) h in
+      record { told-is = simp (e, t); moved-is = rw (e, t) refl; left-is = simp (e, t) }
+
+  -- sent: the bytes were put at the buffer's start
+  pub ends-sent :
+      {f : Effect R S} {back : T} {r : ℕ} {new : List ℕ} → rule ≡ value f → Put 0 (f .bytes) r old new → length (f .bytes) ≤ length old
+      → view back ≡ f .next → Steps view rule s old (value (f .says)) back new
+  ends-sent {f} e p h m =
+      let t : leb (length (f .bytes)) (length old) ≡ true = le-leb (length (f .bytes)) (length old) h in
+      record { told-is = simp (e, t); moved-is = rw (e, t) m; left-is = rw (e, t) (p .new-is ∙ simp zero-add) }
+
+-- sent, by a call that answers how many bytes it sent
+pub ends-counted :
+    {S T : Type 0} {view : T → S} {rule : Outcome (Effect ℕ S)} {s back : T} {next : S} {bs old new : List ℕ} {r : ℕ} → rule ≡ sends bs next
+    → Put 0 bs r old new → length bs ≤ length old → view back ≡ next → Steps view rule s old (value r) back new
+ends-counted {view = view} {rule = rule} {s = s} {back = back} {next = next} {bs = bs} {old = old} {new = new} {r = r} e p h m =
+    let q : length bs ≡ r = sym (p .next-is ∙ zero-add (length bs)) in
+    let f : Effect ℕ _ = record { says = length bs; bytes = bs; next = next } in
+    rw q at (ends-sent {view = view} {s = s} {old = old} {f = f} {back = back} {r = r} {new = new} e p h m)
+
+-- ---- what a call that was accepted did
+
+pub record Accepted {R S : Type 0} (rule : Outcome (Effect R S)) (old : List ℕ) (answer : R) (next : S) (new : List ℕ) : Type 0 where
+  pub effect : Effect R S
+  pub rule-is : rule ≡ value effect
+  pub answer-is : answer ≡ effect .says
+  pub next-is : next ≡ effect .next
+  pub new-is : new ≡ written (effect .bytes) old
+
+-- what fits is what the rule has
+unfitted : {R S : Type 0} (room : ℕ) (rule : Outcome (Effect R S)) {e : Effect R S} → fitted room rule ≡ value e → rule ≡ value e
+unfitted room (value f) {e} h = by (leb (length (f .bytes)) room) h
+  where
+    by : (t : Bool) → cond t (value f) (refused bufferTooShort) ≡ value e → value f ≡ value e
+    by true h = h
+    by false h = let z : _≡_ {A = ℕ} 0 1 = cc in absurd (omega arith)
+unfitted room (refused n) h = h
+
+accepted-by :
+    {R S T : Type 0} (view : T → S) {rule : Outcome (Effect R S)} (s back : T) {old new : List ℕ} {answer : R} (f : Outcome (Effect R S))
+    → f ≡ fitted (length old) rule → value answer ≡ told f → Moved view f s back → new ≡ left f old → Accepted rule old answer (view back) new
+accepted-by view {rule = rule} s back {old = old} (value e) i t m l =
+    record { effect = e; rule-is = unfitted (length old) rule (sym i); answer-is = (cc); next-is = m; new-is = l }
+accepted-by view s back (refused n) i t m l = let z : _≡_ {A = ℕ} 0 1 = cc in absurd (omega arith)
+
+pub accepted :
+    {R S T : Type 0} {view : T → S} {rule : Outcome (Effect R S)} {s back : T} {old new : List ℕ} {answer : R}
+    → Steps view rule s old (value answer) back new → Accepted rule old answer (view back) new
+accepted {view = view} {rule = rule} {s = s} {back = back} {old = old} p =
+    accepted-by view s back (fitted (length old) rule) refl (p .told-is) (p .moved-is) (p .left-is)
+
+-- what a call that counts its bytes says it sent stands at the buffer's start
+pub starts-with :
+    {S T : Type 0} {view : T → S} {rule : Outcome (Effect ℕ S)} {s back : T} {next : S} {bs old new : List ℕ} {n : ℕ} → rule ≡ sends bs next
+    → Steps view rule s old (value n) back new → take n new ≡ bs
+starts-with {next = next} {bs = bs} {old = old} {new = new} {n = n} e p =
+    by (leb (length bs) (length old)) (rw e at (p .told-is)) (rw e at (p .left-is))
+  where
+    by :
+        (t : Bool) → value n ≡ told (cond t (sends bs next) (refused bufferTooShort)) → new ≡ left (cond t (sends bs next) (refused bufferTooShort)) old
+        → take n new ≡ bs
+    by true h l =
+        let k : n ≡ length bs = cc in
+        ap (λ (x : List ℕ). take n x) l ∙ take-at bs (drop (length bs) old) n (sym k)
+    by false h l = let z : _≡_ {A = ℕ} 0 1 = cc in absurd (omega arith)
