@@ -29,3 +29,7 @@ pub mod Lines
 pub mod Slots
 pub mod Models
 pub mod Pass
+pub mod Unique
+pub mod Carried
+pub mod Held
+pub mod Planned

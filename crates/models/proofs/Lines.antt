@@ -77,14 +77,14 @@ module _ (o : Outcome (List Line)) (w : Waiting) (rest : List (Outcome Line)) wh
         left = t .left ∙ rw new;
       }
 
-pub ended : (o : Outcome (List Line)) (w : Waiting) → Turn o w [] → (waits w ≡ inOrder o) × Fine o
+pub ended : (o : Outcome (List Line)) (w : Waiting) → Turn o w [] → (waits w ≡ inOrder o) × (Fine o × (w .count ≤ 256))
 unfolding lineByLine waits
-ended o w t = rw (t .left, eq-eqb (w .refusal) 0 (t .holds .fine)) (ap value (t .holds .ordered), t .ok)
+ended o w t = rw (t .left, eq-eqb (w .refusal) 0 (t .holds .fine)) (ap value (t .holds .ordered), (t .ok, omega (arith, t .holds .counted, accepted-few (t .lines) (t .ok))))
 
 -- a refusal
-pub ended-early : (o : Outcome (List Line)) (w : Waiting) (n : ℕ) → o ≡ refused n → w .refusal ≡ n → eqb n 0 ≡ false → (waits w ≡ inOrder o) × Fine o
+pub ended-early : (o : Outcome (List Line)) (w : Waiting) (n : ℕ) → o ≡ refused n → w .refusal ≡ n → w .count ≡ 0 → eqb n 0 ≡ false → (waits w ≡ inOrder o) × (Fine o × (w .count ≤ 256))
 unfolding waits
-ended-early o w n e r z = rw (e, r, z) (refl, tt)
+ended-early o w n e r k z = rw (e, r, z) (refl, (tt, omega arith))
 
 -- ---- the line at i
 module _ (ks : List ℕ) (ns : List ℤ) (ds : List Float) (i : ℕ) where

@@ -3,15 +3,20 @@ use mathlib.Core.Path.{_≡_, refl}
 use mathlib.Core.Bool.{Bool, true, false, not, _&&_, cond}
 use mathlib.Core.List.{List, [], _∷_}
 use mathlib.Core.Option.{none}
-use Prim.Native.Nat.{ℕ, zero, suc, _<_}
+use Prim.Native.Nat.{ℕ, zero, suc, _<_, _≤_}
+use borrow.Author.Tests.{eq-eqb, ne-eqb, le-leb, lt-leb}
 use lib.Dec.{T, leb}
 use lib.IntN.{ℤ}
 use lib.Ieee.Fits.{and-l, and-r}
-use lib.ListN.{getD}
+use lib.ListN.{length, getD}
+use Rattle.arithmetic.specs.Outcome.{value, refused}
+use Rattle.models.specs.declared.waiting.Waiting.{Waiting}
 use Rattle.models.specs.declared.aot.GroupBy.{GroupBy}
 use Rattle.models.specs.declared.aot.KeyRecord.{KeyRecord}
-use Rattle.models.specs.Line.{group, same}
-use Rattle.models.specs.AotModel.{Model, nobody, isIn, keyIn, counts, highest}
+use Rattle.models.specs.Line.{Line, group, same}
+use Rattle.models.specs.Walk.{count}
+use Rattle.models.specs.Inside.{linesOf, waits}
+use Rattle.models.specs.AotModel.{Model, tuned, untuned, empty, holding, planned, nobody, isIn, keyIn, counts, highest}
 use Rattle.models.proofs.ListLaws.{T→false, outcome, passed, failed}
 
 pub same-model : (m n : Model) → m .channels ≡ n .channels → m .groupBy ≡ n .groupBy → m .tuned ≡ n .tuned → m .numChannels ≡ n .numChannels
@@ -47,3 +52,21 @@ pub no-detunings : (by : GroupBy) (c : ℕ) (g : ℤ) (rs : List KeyRecord) → 
 unfolding highest
 no-detunings by c g [] h = refl
 no-detunings by c g (r ∷ rs) h = rw (out-counts by c g r (T→false (isIn r) (and-l (not (isIn r)) (allOut rs) h)), no-detunings by c g rs (and-r (not (isIn r)) (allOut rs) h))
+
+-- ---- planning, by its cases
+pub waits-refused : (w : Waiting) → (w .refusal ≡ 0 → ⊥) → waits w ≡ refused (w .refusal)
+unfolding waits
+waits-refused w h = rw (ne-eqb (w .refusal) 0 h)
+
+pub waits-lines : (w : Waiting) → w .refusal ≡ 0 → waits w ≡ value (linesOf w)
+unfolding waits
+waits-lines w h = rw (eq-eqb (w .refusal) 0 h)
+
+module _ (m : Model) (lines : List Line) where
+  pub planned-untuned : length (m .channels) < count (m .groupBy) lines → planned m (value lines) ≡ (empty (m .channels) (m .groupBy), untuned (count (m .groupBy) lines))
+  unfolding planned
+  planned-untuned h = rw (lt-leb (count (m .groupBy) lines) (length (m .channels)) h)
+
+  pub planned-tuned : count (m .groupBy) lines ≤ length (m .channels) → planned m (value lines) ≡ (holding m lines, tuned (count (m .groupBy) lines))
+  unfolding planned
+  planned-tuned h = rw (le-leb (count (m .groupBy) lines) (length (m .channels)) h)

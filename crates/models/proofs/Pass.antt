@@ -1,14 +1,14 @@
 -- The pass at a key: which lines are done, what the tables of groups and the records of keys then hold, and that the end is the walk's. Assumes nothing.
 use mathlib.Core.Path.{_≡_, refl, sym, ap, _∙_, subst}
 use mathlib.Core.Bool.{Bool, true, false, cond}
-use mathlib.Core.List.{List, [], _∷_}
+use mathlib.Core.List.{List, [], _∷_, map}
 use mathlib.Core.Option.{Option, none, some}
 use Prim.Native.Nat.{ℕ, zero, suc, _+_, _-_, _<_, _≤_, max}
 use native.Mathlib.Omega.{arith}
 use lib.Dec.{T, eqb, eqb→eq, eqb-refl}
 use lib.IntN.{ℤ}
 use lib.Ieee.{Float, nan}
-use lib.ListN.{length, getD, set, length-set}
+use lib.ListN.{length, getD, drop, set, length-set}
 use lib.Seq.{getD-set-same, getD-set-other}
 use Rattle.arithmetic.specs.Note.{isNote}
 use Rattle.models.specs.declared.aot.GroupBy.{GroupBy}
@@ -78,8 +78,9 @@ mark-below by g (x ∷ done) u f h = elim (outcome (ofGroup by g x)) [
 abbrev pub recordOf : Line → ℕ → KeyRecord
 recordOf l c = record { note = l .note; channel = c; detuning = l .detuning }
 
-pub record Pass (by : GroupBy) (all : List Line) (records : List KeyRecord) (latest : List Float) (used : List ℕ) (n : ℕ) (rest : List Line) : Type 0 where
+pub record Pass (by : GroupBy) (all : List Line) (records : List KeyRecord) (latest : List Float) (used : List ℕ) (n i : ℕ) (rest : List Line) : Type 0 where
   pub done : List Line
+  pub reached : length done ≡ i
   pub whole : all ≡ onto done rest
   pub tables : (g : ℤ) → isNote g ≡ true → Agrees (mark by g done) (getD used (slotOf g) 0) (getD latest (slotOf g) nan)
   pub ahead : Each (λ (l : Line). find by (l .key) [] all ≡ find by (l .key) done rest) rest
@@ -92,19 +93,19 @@ pub record Pass (by : GroupBy) (all : List Line) (records : List KeyRecord) (lat
   pub latest-long : length latest ≡ 801
   pub used-long : length used ≡ 801
 
-module _ (by : GroupBy) (all : List Line) (records : List KeyRecord) (latest : List Float) (used : List ℕ) (n : ℕ) (x : Line) (rest : List Line) where
+module _ (by : GroupBy) (all : List Line) (records : List KeyRecord) (latest : List Float) (used : List ℕ) (n i : ℕ) (x : Line) (rest : List Line) where
   abbrev at : ℕ
   at = slotOf (group by (x .note))
 
-  module _ (p : Pass by all records latest used n (x ∷ rest)) (note : isNote (x .note) ≡ true) where
+  module _ (p : Pass by all records latest used n i (x ∷ rest)) (note : isNote (x .note) ≡ true) where
     -- the channels that the group uses with x
     pub next-is : channelsWith (getD used at 0) (getD latest at nan) (x .detuning) ≡ suc (numberOfNext by (p .done) x)
     next-is = channels-are (mark by (group by (x .note)) (p .done)) (getD used at 0) (getD latest at nan) (x .detuning) (p .tables (group by (x .note)) (group-note by (x .note) note))
 
-    pub used-few : getD used at 0 ≤ length (p .done)
-    used-few = mark-below by (group by (x .note)) (p .done) (getD used at 0) (getD latest at nan) (p .tables (group by (x .note)) (group-note by (x .note) note))
+    pub used-few : getD used at 0 ≤ i
+    used-few = subst (λ (j : ℕ). getD used at 0 ≤ j) (p .reached) (mark-below by (group by (x .note)) (p .done) (getD used at 0) (getD latest at nan) (p .tables (group by (x .note)) (group-note by (x .note) note)))
 
-    pub next-few : numberOfNext by (p .done) x ≤ length (p .done)
+    pub next-few : numberOfNext by (p .done) x ≤ i
     next-few = omega (arith, next-is, used-few, grows (getD used at 0) (getD latest at nan) (x .detuning))
 
     abbrev c : ℕ
@@ -147,10 +148,11 @@ module _ (by : GroupBy) (all : List Line) (records : List KeyRecord) (latest : L
     )
 
     -- one key more
-    pub pass-next : x .key < 256 → (m : ℕ) → m ≡ max n (suc c)
-        → Pass by all (set records (x .key) (recordOf x c)) (set latest at (x .detuning)) (set used at (suc c)) m rest
-    pass-next byte m counts = record {
+    pass-one : x .key < 256 → (m : ℕ) → m ≡ max n (suc c)
+        → Pass by all (set records (x .key) (recordOf x c)) (set latest at (x .detuning)) (set used at (suc c)) m (i + 1) rest
+    pass-one byte m counts = record {
       done = x ∷ p .done;
+      reached = omega (arith, p .reached);
       whole = p .whole;
       tables = tables-next;
       ahead = ahead-next rest (p .apart .0) (p .ahead .1);
@@ -163,6 +165,11 @@ module _ (by : GroupBy) (all : List Line) (records : List KeyRecord) (latest : L
       latest-long = simp length-set (p .latest-long);
       used-long = simp length-set (p .used-long);
     }
+
+    -- the same of the code's numbers
+    pub pass-next : x .key < 256 → (m : ℕ) → m ≡ max n (suc c) → (z : ℤ) (r ch slot : ℕ) → z ≡ x .note → r ≡ suc c → ch ≡ c → slot ≡ at
+        → Pass by all (set records (x .key) (record { note = z; channel = ch; detuning = x .detuning })) (set latest slot (x .detuning)) (set used slot r) m (i + 1) rest
+    pass-next byte m counts z r ch slot a b d e = rw (a, b, d, e) (pass-one byte m counts)
 
 -- ---- the end
 
@@ -182,8 +189,8 @@ module _ (by : GroupBy) (all : List Line) (ok : Accepted all) (ordered : rising 
     channels-seated records l (m .1) (h .1) (k .1),
   )
 
-  pub pass-ends : (plan : Plan) (latest : List Float) (used : List ℕ) → Pass by all (plan .records) latest used (plan .count) [] → Seats by all plan
-  pass-ends plan latest used p =
+  pub pass-ends : (plan : Plan) (latest : List Float) (used : List ℕ) (i : ℕ) → Pass by all (plan .records) latest used (plan .count) i [] → Seats by all plan
+  pass-ends plan latest used i p =
       let placed = rw (← p .whole) at (Each-onto (λ (l : Line). getD (plan .records) (l .key) nobody ≡ recordOf l (find by (l .key) [] all)) (p .done) [] (p .placed) tt) in
       let counted = subst (λ (w : List Line). top (numbers by [] w) ≡ count by all) ordered (one-pass-count by all ok) in
       record {
@@ -198,9 +205,10 @@ module _ (by : GroupBy) (all : List Line) (ok : Accepted all) (ordered : rising 
   -- ---- the beginning
 
   pub pass-begins : (records : List KeyRecord) (latest : List Float) (used : List ℕ) → ((k : ℕ) → isIn (getD records k nobody) ≡ false) → ((k : ℕ) → getD used k 0 ≡ 0)
-      → length records ≡ 256 → length latest ≡ 801 → length used ≡ 801 → Pass by all records latest used 0 all
+      → length records ≡ 256 → length latest ≡ 801 → length used ≡ 801 → Pass by all records latest used 0 0 all
   pass-begins records latest used out none-used a b c = record {
     done = [];
+    reached = refl;
     whole = refl;
     tables = λ g h. none-used (slotOf g);
     ahead = Each-all (λ (l : Line). find by (l .key) [] all ≡ find by (l .key) [] all) (λ l. refl) all;
@@ -213,3 +221,9 @@ module _ (by : GroupBy) (all : List Line) (ok : Accepted all) (ordered : rising 
     latest-long = b;
     used-long = c;
   }
+
+-- ---- the lines from an index on
+pub each-drop : (P : Line → Type 0) (f : ℕ → Line) (l : List ℕ) (i : ℕ) → Each P (map f l) → Each P (map f (drop i l))
+each-drop P f l zero h = h
+each-drop P f [] (suc i) h = tt
+each-drop P f (k ∷ l) (suc i) h = each-drop P f l i (h .1)

@@ -62,7 +62,7 @@ module _ (kind : GroupBy) where
   Pairwise-here taken w a =
       rw (here-is kind taken w a) at (Pairwise-keep Other (λ (l : Line). member (l .key) (keys (here kind taken w))) w a)
 
-  left-absent : (taken w : List Line) → Pairwise Other w → Each (λ (l : Line). not (member (l .key) (keys (here kind taken w))) ≡ true) (later kind taken w)
+  pub left-absent : (taken w : List Line) → Pairwise Other w → Each (λ (l : Line). not (member (l .key) (keys (here kind taken w))) ≡ true) (later kind taken w)
   left-absent taken w a =
       rw (later-is kind taken w a) at (kept (λ (l : Line). not (member (l .key) (keys (here kind taken w)))) w)
 

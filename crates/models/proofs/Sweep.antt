@@ -23,13 +23,13 @@ use Rattle.models.specs.PlanLists.{keys}
 use Rattle.models.proofs.Rising.{UpTo, Sorted, Other, absent}
 
 -- ---- groups
-same-eq : (a b : ℤ) → T (same a b) → a ≡ b
+pub same-eq : (a b : ℤ) → T (same a b) → a ≡ b
 same-eq (pos a) (pos b) t = ap pos (eqb→eq a b t)
 same-eq (pos a) (negsuc b) t = absurd t
 same-eq (negsuc a) (pos b) t = absurd t
 same-eq (negsuc a) (negsuc b) t = ap negsuc (eqb→eq a b t)
 
-same-refl : (a : ℤ) → T (same a a)
+pub same-refl : (a : ℤ) → T (same a a)
 same-refl (pos a) = eqb-refl a
 same-refl (negsuc a) = eqb-refl a
 
@@ -148,7 +148,7 @@ module _ (kind : GroupBy) where
 
   -- ---- what is left of a group
   module _ (g : ℤ) where
-    later-other : (taken : List Line) (x : Line) (w : List Line) → ofGroup kind g x ≡ false
+    pub later-other : (taken : List Line) (x : Line) (w : List Line) → ofGroup kind g x ≡ false
         → keep (ofGroup kind g) (later kind taken (x ∷ w)) ≡ keep (ofGroup kind g) (later kind (next kind taken x) w)
     later-other taken x w e = elim (outcome (takes kind taken x)) [
       | passed u ↦ rw (later-yes taken x w u)

@@ -95,7 +95,7 @@ module _ (ns : List ℤ) (ds : List Float) (k : ℕ) (n : ℤ) (d : Float) where
       let ne : (y ≡ k → ⊥) = λ e. not-false (h .0) (subst (λ (j : ℕ). T (eqb y j)) e (eqb-refl y)) in
       rw (getD-set-other ns k y n (pos 0) ne, getD-set-other ds k y d nan ne, others-kept xs (h .1))
 
-others-of : (k : ℕ) (lines : List Line) → member k (keys lines) ≡ false → Each (λ (l : Line). eqb (l .key) k ≡ false) lines
+pub others-of : (k : ℕ) (lines : List Line) → member k (keys lines) ≡ false → Each (λ (l : Line). eqb (l .key) k ≡ false) lines
 others-of k [] h = tt
 others-of k (x ∷ lines) h = elim (outcome (eqb (x .key) k)) [
   | passed e ↦ absurd (not-false h (or-left (eqb (x .key) k) (member k (keys lines)) (true→T e)))

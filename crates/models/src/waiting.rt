@@ -39,7 +39,7 @@ pub struct Waiting {
 // The lists of keys, notes and detunings. Refuses 12, then line by line 4, 3, 5.
 pub(crate) fn note_lists(keys: &[u8], notes: &[i32], detunings: &[f64]) -> Waiting
     ensures { λ r. ⌜ waits r ≡ inOrder (noteLists (now (keys .entry)) (now (notes .entry)) (now (detunings .entry))) ⌝ }
-    ensures { λ r. ⌜ Fine (noteLists (now (keys .entry)) (now (notes .entry)) (now (detunings .entry))) ⌝ }
+    ensures { λ r. ⌜ Fine (noteLists (now (keys .entry)) (now (notes .entry)) (now (detunings .entry))) × (r .count ≤ 256) ⌝ }
 {
     let n = keys.len();
     if notes.len() != n {
@@ -73,7 +73,7 @@ pub(crate) fn note_lists(keys: &[u8], notes: &[i32], detunings: &[f64]) -> Waiti
 // The lists of keys and pitches in Hz. Refuses 12, then line by line 1, 5.
 pub(crate) fn pitch_lists(keys: &[u8], pitches: &[f64]) -> Waiting
     ensures { λ r. ⌜ waits r ≡ inOrder (pitchLists (now (keys .entry)) (now (pitches .entry))) ⌝ }
-    ensures { λ r. ⌜ Fine (pitchLists (now (keys .entry)) (now (pitches .entry))) ⌝ }
+    ensures { λ r. ⌜ Fine (pitchLists (now (keys .entry)) (now (pitches .entry))) × (r .count ≤ 256) ⌝ }
 {
     let n = keys.len();
     if pitches.len() != n {
@@ -111,7 +111,7 @@ fn is_planned(detuning: f64) -> bool
 impl Waiting {
     // No key.
     fn none(refusal: u8) -> Waiting
-        ensures { λ r. ⌜ (r .refusal ≡ refusal) × (refusal ≡ 0 → Holds r []) ⌝ }
+        ensures { λ r. ⌜ (r .refusal ≡ refusal) × (r .count ≡ 0) × (refusal ≡ 0 → Holds r []) ⌝ }
     {
         Waiting {
             refusal: refusal,

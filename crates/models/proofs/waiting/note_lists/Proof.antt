@@ -37,19 +37,19 @@ none-requires : tie.Need-none-requires Inv-loop μ-loop
 none-requires c κs = search needs
 
 returns : tie.Need-returns Inv-loop μ-loop
-returns c = ended-early _ _ 12 (note-lists-unequal _ _ _ (λ p q. c .before .if1 .taken p)) (c .none .ensures .0) refl
+returns c = ended-early _ _ 12 (note-lists-unequal _ _ _ (λ p q. c .before .if1 .taken p)) (c .none .ensures .0) (c .none .ensures .1) refl
 
 none-requires-2 : tie.Need-none-requires-2 Inv-loop μ-loop
 none-requires-2 c κs = search needs
 
 returns-2 : tie.Need-returns-2 Inv-loop μ-loop
-returns-2 c = ended-early _ _ 12 (note-lists-unequal _ _ _ (λ p q. c .before .if2 .taken q)) (c .none2 .ensures .0) refl
+returns-2 c = ended-early _ _ 12 (note-lists-unequal _ _ _ (λ p q. c .before .if2 .taken q)) (c .none2 .ensures .0) (c .none2 .ensures .1) refl
 
 none-requires-3 : tie.Need-none-requires-3 Inv-loop μ-loop
 none-requires-3 c κs = search needs
 
 loop-holds : tie.Need-loop-holds Inv-loop μ-loop
-loop-holds c = (omega arith, begins _ _ (c .none3 .ensures .1 refl))
+loop-holds c = (omega arith, begins _ _ (c .none3 .ensures .2 refl))
 
 shared-slice-read-key : tie.Need-shared-slice-read-key Inv-loop μ-loop
 shared-slice-read-key c = omega arith
@@ -119,7 +119,7 @@ noted c e = let t = c .before .before .before .before in a-note (getD (ns t) (i 
 returns-3 : tie.Need-returns-3 Inv-loop μ-loop
 returns-3 c =
     let t = c .before .before .before .before .before .before in
-    ended-early _ _ 4 (stop t 4 (no-note-line (getD (ks t) (i t) 0) (getD (ns t) (i t) (pos 0)) (getD (ds t) (i t) nan) (no-noted (c .before .before) (c .before .if3 .taken)))) (c .none4 .ensures .0) refl
+    ended-early _ _ 4 (stop t 4 (no-note-line (getD (ks t) (i t) 0) (getD (ns t) (i t) (pos 0)) (getD (ds t) (i t) nan) (no-noted (c .before .before) (c .before .if3 .taken)))) (c .none4 .ensures .0) (c .none4 .ensures .1) refl
 
 is-planned-requires : tie.Need-is-planned-requires Inv-loop μ-loop
 is-planned-requires c κs = search needs
@@ -134,7 +134,7 @@ returns-4 c =
     (stop t 3
     (no-detuning-line (getD (ks t) (i t) 0) (getD (ns t) (i t) (pos 0)) (getD (ds t) (i t) nan) (noted (c .before .before .before .before) (c .before .before .before .if3 .left))
     (sym (c .before .before .is-planned .ensures) ∙ not-true _ (c .before .if4 .taken))))
-    (c .none5 .ensures .0) refl
+    (c .none5 .ensures .0) (c .none5 .ensures .1) refl
 
 cast-at : tie.Need-cast-at Inv-loop μ-loop
 cast-at c = record { fits = omega (arith, byte (c .before .before .before .before .before .before .before)) }
@@ -171,7 +171,7 @@ module _ (c : tie.Else4 Inv-loop μ-loop) where
 returns-5 : tie.Need-returns-5 Inv-loop μ-loop
 returns-5 c =
     let e = c .before .before .before in
-    ended-early _ _ 5 (whole (t e) ∙ twice (o (t e)) (w (t e)) (rest (t e)) (line e) (at-line e) (c .before .if5 .taken)) (c .none6 .ensures .0) refl
+    ended-early _ _ 5 (whole (t e) ∙ twice (o (t e)) (w (t e)) (rest (t e)) (line e) (at-line e) (c .before .if5 .taken)) (c .none6 .ensures .0) (c .none6 .ensures .1) refl
 
 with-requires : tie.Need-with-requires Inv-loop μ-loop
 with-requires c κs =

@@ -36,13 +36,13 @@ none-requires : tie.Need-none-requires Inv-loop μ-loop
 none-requires c κs = search needs
 
 returns : tie.Need-returns Inv-loop μ-loop
-returns c = ended-early _ _ 12 (pitch-lists-unequal _ _ (c .before .if1 .taken)) (c .none .ensures .0) refl
+returns c = ended-early _ _ 12 (pitch-lists-unequal _ _ (c .before .if1 .taken)) (c .none .ensures .0) (c .none .ensures .1) refl
 
 none-requires-2 : tie.Need-none-requires-2 Inv-loop μ-loop
 none-requires-2 c κs = search needs
 
 loop-holds : tie.Need-loop-holds Inv-loop μ-loop
-loop-holds c = (omega arith, begins _ _ (c .none2 .ensures .1 refl))
+loop-holds c = (omega arith, begins _ _ (c .none2 .ensures .2 refl))
 
 shared-slice-read-key : tie.Need-shared-slice-read-key Inv-loop μ-loop
 shared-slice-read-key c = omega arith
@@ -106,7 +106,7 @@ returns-2 c =
     let n = c .before .before .number .given .0 .0 in
     let e : refused n ≡ nearestRule (getD (hzs t) (i t) nan) = sym (ap approximation (c .before .before .number .given .1)) ∙ answered (c .before .before .before .before) in
     ended-early _ _ n (whole t ∙ turned-down (o t) (w t) (rest t) n (turn t (refused n) (no-pitch-line (getD (ks t) (i t) 0) (getD (hzs t) (i t) nan) n e)))
-    (c .none3 .ensures .0) (rw (nearest-refused (getD (hzs t) (i t) nan) n e))
+    (c .none3 .ensures .0) (c .none3 .ensures .1) (rw (nearest-refused (getD (hzs t) (i t) nan) n e))
 
 enum-known-note : tie.Need-enum-known-note Inv-loop μ-loop
 enum-known-note c = search needs
@@ -140,7 +140,7 @@ none-requires-4 c κs = search needs
 returns-3 : tie.Need-returns-3 Inv-loop μ-loop
 returns-3 c =
     let e = c .before .before .before in
-    ended-early _ _ 5 (whole (t e) ∙ twice (o (t e)) (w (t e)) (rest (t e)) (line e) (at-line e) (c .before .if2 .taken)) (c .none4 .ensures .0) refl
+    ended-early _ _ 5 (whole (t e) ∙ twice (o (t e)) (w (t e)) (rest (t e)) (line e) (at-line e) (c .before .if2 .taken)) (c .none4 .ensures .0) (c .none4 .ensures .1) refl
 
 with-requires : tie.Need-with-requires Inv-loop μ-loop
 with-requires c κs =

@@ -1,27 +1,26 @@
+-- `models::aot::AotTuningModel::open` meets its contract: the list's answer, and an empty model over its entries. Assumes nothing.
+use mathlib.Core.Path.{_≡_, ap, _∙_}
+use mathlib.Core.List.{List}
+use Prim.Native.Nat.{ℕ}
+use Rattle.models.specs.AotModel.{openRule, empty, accepted}
 use borrow.Author.Needs.{needs}
 use Rattle.models.proofs.aot.AotTuningModel.open.Statement.{statement}
 use Rattle.models.proofs.aot.AotTuningModel.open.Tie as tie
-use Rattle.models.proofs.aot.AotTuningModel.open.Reads as reads
-use Rattle.models.proofs.aot.AotTuningModel.open.Lts as lts
-use Rattle.models.proofs.aot.AotTuningModel.empty.Reads as empty-reads
-use Rattle.models.proofs.aot.listed_channels.Reads as listed-channels-reads
-use Rattle.models.proofs.channels.ChannelList.of.Reads as of-reads
 
--- src/aot.rt:108:13
 of-requires : tie.Need-of-requires
 of-requires c κs = search needs
 
--- src/aot.rt:109:13
 listed-channels-requires : tie.Need-listed-channels-requires
 listed-channels-requires c κs = search needs
 
--- src/aot.rt:111:20
 empty-requires : tie.Need-empty-requires
 empty-requires c κs = search needs
 
--- src/aot.rt:105:5
 returns : tie.Need-returns
-returns c = ?
+unfolding openRule
+returns c =
+    let o = c .before .before .of .ensures in
+    λ i. ((c .empty .ensures ∙ ap (λ (cs : List ℕ). empty cs (c .before .before .before .before .args .group-by)) (c .before .listed-channels .ensures ∙ ap accepted o)) i, o i)
 
 pub open-spec : {M : Type 1} → statement M
 open-spec = tie.close (tie.spec of-requires listed-channels-requires empty-requires returns)

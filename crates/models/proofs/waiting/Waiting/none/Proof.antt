@@ -21,7 +21,7 @@ none-seen (suc n) (suc k) = none-seen n k
 
 returns : tie.Need-returns
 unfolding linesOf rising falses
-returns c = (refl, λ e. record { fine = e; ordered = refl; counted = refl; marked = none-seen 256 })
+returns c = (refl, refl, λ e. record { fine = e; ordered = refl; counted = refl; marked = none-seen 256 })
 
 pub none-spec : {M : Type 1} → statement M
 none-spec = tie.close (tie.spec returns)
