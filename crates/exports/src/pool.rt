@@ -1,5 +1,15 @@
 // A pool, played from lists of events.
 
+ghost use mathlib.Core.Path.{_≡_};
+ghost use lib.IntN.{pos};
+ghost use lib.ListN.{length};
+ghost use Rattle.models.specs.Pool.{openRule, found};
+ghost use Rattle.models.specs.View.{view, place, press, repitched, stoppedNote};
+ghost use Rattle.models.specs.ChannelList.{channelsAnswer};
+ghost use Rattle.exports.specs.Lent.{filled};
+ghost use Rattle.exports.specs.Events.{
+    groupOf, modeOf, noPlace, noteOr, pressAnswer, placeAnswer, repitchAnswer, listRefusal, happens, Events, answerTo, playedOf,
+};
 use crate::lent::byte_at;
 use crate::lent::float_at;
 use crate::lent::put_byte;
@@ -15,15 +25,16 @@ use models::jit::RepitchKeyResult;
 use models::jit::StoppedNote;
 use models::keys::AccessKeyResult;
 
-// The kinds of answer: 1 to 13 are the refusals.
-const FOUND: u8 = 0;
+// The kind of an answer with a place; 1 to 13 are refusals.
+const PLACED: u8 = 0;
 
+// Rejected, or not found.
 const NOTHING: u8 = 20;
 
-// Stands for the note that a press did not stop.
+// Stands where there is no note.
 const NO_NOTE: i32 = 1000;
 
-// The kinds of event. Any other is a lookup.
+// The kinds of event; any other is a lookup.
 const PRESS: u8 = 0;
 
 const RELEASE: u8 = 1;
@@ -43,14 +54,14 @@ struct Played {
     answer: Answer,
 }
 
-// Opens a pool on a channel list and plays the events in order, each with its kind, key and pitch, and writes the answer of each. Answers the refusal
-// of the channel list, or 0; on a refused list the pool has no channels.
+// Opens a pool on a channel list, for letters or for whole channels, in mode 0 Block, 1 Stop or 2 Ignore; plays the events in order, and writes the
+// answer of each. Answers the refusal of the channel list, 0 where there is none.
 #[no_mangle]
 pub extern "C" fn tune_pool(
     channels: &[u8],
     letters: bool,
     mode: u8,
-    events: &[u8],
+    kinds: &[u8],
     keys: &[u8],
     pitches: &[f64],
     answer_kinds: &mut [u8],
@@ -58,14 +69,27 @@ pub extern "C" fn tune_pool(
     answer_notes: &mut [i32],
     answer_stopped: &mut [i32],
     answer_detunings: &mut [f64],
-) -> u8 {
-    let opened = JitTuningModel::open(channels, group(letters), pooling_mode(mode));
-    let answer = opened.answer;
+) -> u8
+    ensures { λ r. ⌜ r ≡ listRefusal (openRule (now (channels .entry)) (groupOf letters) (modeOf mode) .0) ⌝ }
+    ensures {
+        λ r.
+        let heard = answerTo (openRule (now (channels .entry)) (groupOf letters) (modeOf mode) .1)
+            (record { kinds = now (kinds .entry); keys = now (keys .entry); pitches = now (pitches .entry) }) in
+        let n = length (now (kinds .entry)) in
+        ⌜ (now («answer_kinds» .exit) ≡ filled (λ i. heard i .kind) n (now («answer_kinds» .entry)))
+          × (now («answer_channels» .exit) ≡ filled (λ i. heard i .channel) n (now («answer_channels» .entry)))
+          × (now («answer_notes» .exit) ≡ filled (λ i. heard i .note) n (now («answer_notes» .entry)))
+          × (now («answer_stopped» .exit) ≡ filled (λ i. heard i .stopped) n (now («answer_stopped» .entry)))
+          × (now («answer_detunings» .exit) ≡ filled (λ i. heard i .detuning) n (now («answer_detunings» .entry))) ⌝
+    }
+{
+    let opened = JitTuningModel::open(channels, group_of(letters), mode_of(mode));
+    let listed = opened.answer;
     let mut model = opened.model;
-    let n = events.len();
+    let n = kinds.len();
     let mut i: usize = 0;
     while i < n {
-        let played = play(model, byte_at(events, i), byte_at(keys, i), float_at(pitches, i));
+        let played = play(model, byte_at(kinds, i), byte_at(keys, i), float_at(pitches, i));
         let answer = played.answer;
         put_byte(answer_kinds, i, answer.kind);
         put_byte(answer_channels, i, answer.channel);
@@ -76,63 +100,77 @@ pub extern "C" fn tune_pool(
         model = next;
         i += 1;
     }
-    refusal(answer)
+    list_refusal(listed)
 }
 
-fn refusal(answer: ChannelsAnswer) -> u8 {
+fn list_refusal(answer: ChannelsAnswer) -> u8
+    ensures { λ r. ⌜ r ≡ listRefusal (channelsAnswer answer) ⌝ }
+{
     match answer {
         ChannelsAnswer::Listed(_) => 0,
         ChannelsAnswer::Refused(number) => number,
     }
 }
 
-fn group(letters: bool) -> PoolGroupBy {
+fn group_of(letters: bool) -> PoolGroupBy
+    ensures { λ r. ⌜ r ≡ groupOf letters ⌝ }
+{
     if letters {
         return PoolGroupBy::NoteLetter;
     }
     PoolGroupBy::Channel
 }
 
-fn pooling_mode(mode: u8) -> PoolingMode {
-    match mode {
-        0 => PoolingMode::Block,
-        1 => PoolingMode::Stop,
-        _ => PoolingMode::Ignore,
+fn mode_of(mode: u8) -> PoolingMode
+    ensures { λ r. ⌜ r ≡ modeOf mode ⌝ }
+{
+    if mode == 0 {
+        return PoolingMode::Block;
     }
+    if mode == 1 {
+        return PoolingMode::Stop;
+    }
+    PoolingMode::Ignore
 }
 
-fn play(model: JitTuningModel, event: u8, key: u8, hz: f64) -> Played {
-    if event == PRESS {
+fn play(model: JitTuningModel, kind: u8, key: u8, hz: f64) -> Played
+    ensures { λ r. ⌜ playedOf r ≡ happens kind (view model) key hz ⌝ }
+{
+    if kind == PRESS {
         let registered = model.register_key(key, Pitch::from_hz(hz));
         let result = registered.result;
         let next = registered.model;
         return Played {
             model: next,
-            answer: pressed(result),
+            answer: press_answer(result),
         };
     }
-    if event == RELEASE {
+    if kind == RELEASE {
         let deregistered = model.deregister_key(key);
         let result = deregistered.result;
         let next = deregistered.model;
         return Played {
             model: next,
-            answer: accessed(result),
+            answer: place_answer(result),
         };
     }
-    if event == REPITCH {
+    if kind == REPITCH {
+        let result = model.repitch_key(key, Pitch::from_hz(hz));
         return Played {
             model,
-            answer: repitched(model.repitch_key(key, Pitch::from_hz(hz))),
+            answer: repitch_answer(result),
         };
     }
+    let result = model.access_key(key);
     Played {
         model,
-        answer: accessed(model.access_key(key)),
+        answer: place_answer(result),
     }
 }
 
-fn pressed(result: RegisterKeyResult) -> Answer {
+fn press_answer(result: RegisterKeyResult) -> Answer
+    ensures { λ r. ⌜ r ≡ pressAnswer (press result) ⌝ }
+{
     match result {
         RegisterKeyResult::Accepted {
             channel,
@@ -140,59 +178,67 @@ fn pressed(result: RegisterKeyResult) -> Answer {
             started_note,
             detuning,
         } => Answer {
-            kind: FOUND,
+            kind: PLACED,
             channel,
             note: started_note,
-            stopped: stopped(stopped_note),
+            stopped: note_or(stopped_note),
             detuning,
         },
-        RegisterKeyResult::Rejected => none(NOTHING),
-        RegisterKeyResult::Refused(number) => none(number),
+        RegisterKeyResult::Rejected => no_place(NOTHING),
+        RegisterKeyResult::Refused(number) => no_place(number),
     }
 }
 
-fn stopped(note: StoppedNote) -> i32 {
-    match note {
+fn note_or(stopped: StoppedNote) -> i32
+    ensures { λ r. ⌜ r ≡ noteOr (stoppedNote stopped) ⌝ }
+{
+    match stopped {
         StoppedNote::Note(note) => note,
         StoppedNote::Nothing => NO_NOTE,
     }
 }
 
-fn accessed(result: AccessKeyResult) -> Answer {
+fn place_answer(result: AccessKeyResult) -> Answer
+    ensures { λ r. ⌜ r ≡ placeAnswer (place result) ⌝ }
+{
     match result {
         AccessKeyResult::Found {
             channel,
             found_note,
         } => Answer {
-            kind: FOUND,
+            kind: PLACED,
             channel,
             note: found_note,
             stopped: NO_NOTE,
             detuning: 0.0,
         },
-        AccessKeyResult::NotFound => none(NOTHING),
+        AccessKeyResult::NotFound => no_place(NOTHING),
     }
 }
 
-fn repitched(result: RepitchKeyResult) -> Answer {
+fn repitch_answer(result: RepitchKeyResult) -> Answer
+    ensures { λ r. ⌜ r ≡ repitchAnswer (repitched result) ⌝ }
+{
     match result {
         RepitchKeyResult::Found {
             channel,
             found_note,
             detuning,
         } => Answer {
-            kind: FOUND,
+            kind: PLACED,
             channel,
             note: found_note,
             stopped: NO_NOTE,
             detuning,
         },
-        RepitchKeyResult::NotFound => none(NOTHING),
-        RepitchKeyResult::Refused(number) => none(number),
+        RepitchKeyResult::NotFound => no_place(NOTHING),
+        RepitchKeyResult::Refused(number) => no_place(number),
     }
 }
 
-fn none(kind: u8) -> Answer {
+fn no_place(kind: u8) -> Answer
+    ensures { λ r. ⌜ r ≡ noPlace kind ⌝ }
+{
     Answer {
         kind,
         channel: 0,
