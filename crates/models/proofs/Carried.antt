@@ -18,9 +18,9 @@ use Rattle.models.specs.Line.{Line, ofGroup, joins, rising}
 use Rattle.models.specs.PlanLists.{keys}
 use Rattle.models.specs.Walk.{latest, accepts, takes, next, here, later, channels, walk, count, replaced, entryFrom, entry}
 use Rattle.models.specs.Inside.{Accepted}
-use Rattle.models.proofs.ListLaws.{outcome, passed, failed, T→true, true→T, T→false, Each-map, Each-keep, Pairwise, keep-no, keep-yes, keep-same, keep-swap, own-image}
+use Rattle.models.proofs.ListLaws.{outcome, passed, failed, T→true, true→T, T→false, Each-map, Each-keep, Pairwise, keep-no, keep-same, keep-swap, own-image}
 use Rattle.models.proofs.Rising.{UpTo, Sorted, Other}
-use Rattle.models.proofs.Sweep.{numberOf, beyond, takes-is, latest-other, latest-taken, latest-left, here-yes, here-no, here-is, later-yes, later-no, all-left, later-other, fewer, Pairwise-later, Each-later}
+use Rattle.models.proofs.Sweep.{numberOf, beyond, takes-is, latest-other, latest-taken, latest-left, here-yes, here-no, here-is, all-left, later-other, fewer, Pairwise-later}
 use Rattle.models.proofs.Plan.{channel, sorted, different, enough}
 use Rattle.models.proofs.Seats.{left-absent}
 

@@ -1,19 +1,17 @@
 -- Demand 3: nobody who places the keys by hand does better than the plan. One statement for every model, both kinds of list and every kind of group.
 -- Assumes nothing.
-use mathlib.Core.Path.{_≡_, refl, sym, ap, subst}
-use mathlib.Core.Bool.{Bool, true, false, not, cond}
+use mathlib.Core.Path.{_≡_, refl, sym}
+use mathlib.Core.Bool.{Bool, true, false, cond}
 use mathlib.Core.List.{List}
 use Prim.Native.Nat.{ℕ}
 use native.Mathlib.Nat.{not-le-of-lt}
 use lib.Dec.{T, leb, leb→le, nleb→lt, not-T}
 use lib.ListN.{length}
 use Rattle.arithmetic.specs.Outcome.{Outcome, value}
-use Rattle.models.specs.declared.aot.GroupBy.{GroupBy}
 use Rattle.models.specs.Line.{Line}
 use Rattle.models.specs.Walk.{count, seat}
 use Rattle.models.specs.Placing.{Demand3}
-use Rattle.models.specs.AotModel.{Model, Answer, tuned, untuned, holding, empty, planned, Smallest}
-use Rattle.models.proofs.ListLaws.{true→T, false→T}
+use Rattle.models.specs.AotModel.{Model, tuned, untuned, holding, empty, planned, Smallest}
 use Rattle.models.specs.Inside.{Accepted}
 use Rattle.models.proofs.Plan.{channel, walk-best, more-than-present}
 use Rattle.models.proofs.Seats.{seated-lines}

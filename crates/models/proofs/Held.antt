@@ -4,7 +4,7 @@ use mathlib.Core.Path.{_≡_, refl, sym, ap, _∙_, subst}
 use mathlib.Core.Bool.{Bool, true, false, _&&_, cond}
 use mathlib.Core.List.{List, [], _∷_}
 use mathlib.Core.Option.{Option, none, some}
-use Prim.Native.Nat.{ℕ, zero, suc, _<_, _≤_}
+use Prim.Native.Nat.{ℕ, _<_, _≤_}
 use native.Mathlib.Nat.{le-of-eq}
 use native.Mathlib.Omega.{arith}
 use borrow.Author.Tests.{lt-ltb, ltb-true, ltb-false}
@@ -24,20 +24,20 @@ use Rattle.models.specs.PlanLists.{keys}
 use Rattle.models.specs.Walk.{count, seat, entry}
 use Rattle.models.specs.AotModel.{nobody, isIn, keyIn, larger, counts, highest}
 use Rattle.models.specs.Inside.{Accepted, Seats}
-use Rattle.models.proofs.ListLaws.{outcome, passed, failed, T→true, true→T, not-false, or-cases, Each-map, Each-keep, Pairwise, Pairwise-keep, own-image}
-use mathlib.Core.Logic.{_⊎_, inl, inr}
+use Rattle.models.proofs.ListLaws.{outcome, passed, failed, T→true, true→T, not-false, or-cases, Each-map, Each-keep, Pairwise, Pairwise-keep}
+use mathlib.Core.Logic.{inl, inr}
 use Rattle.models.proofs.Joins.{le-total}
 use Rattle.models.proofs.Rising.{UpTo, Each-rising, rising-Each}
 use Rattle.models.proofs.Plan.{channel, sorted, below-count}
 use Rattle.models.proofs.Seats.{kept, seated-lines, unseated}
 use Rattle.models.proofs.Waits.{others-of}
-use Rattle.models.proofs.Records.{each-at, at-each, at-any}
+use Rattle.models.proofs.Records.{each-at, at-each}
 use Rattle.models.proofs.Models.{out-counts}
 use Rattle.models.proofs.Unique.{le-antisym}
 use Rattle.models.proofs.Carried.{lastOf, heard, entry-is, no-entry, largest}
 
 -- ---- lists
-zip : {A : Type 0} {P Q R : A → Type 0} → ((x : A) → P x → Q x → R x) → (l : List A) → Each P l → Each Q l → Each R l
+pub zip : {A : Type 0} {P Q R : A → Type 0} → ((x : A) → P x → Q x → R x) → (l : List A) → Each P l → Each Q l → Each R l
 zip f [] h k = tt
 zip f (x ∷ l) h k = (f x (h .0) (k .0), zip f l (h .1) (k .1))
 
@@ -45,7 +45,7 @@ zip3 : {A : Type 0} {P Q R S : A → Type 0} → ((x : A) → P x → Q x → R 
 zip3 f [] h k m = tt
 zip3 f (x ∷ l) h k m = (f x (h .0) (k .0) (m .0), zip3 f l (h .1) (k .1) (m .1))
 
-at-key : (P : Line → Type 0) (k : ℕ) (l : List Line) → Each P l → T (member k (keys l)) → (x : Line) × (x .key ≡ k) × P x
+pub at-key : (P : Line → Type 0) (k : ℕ) (l : List Line) → Each P l → T (member k (keys l)) → (x : Line) × (x .key ≡ k) × P x
 at-key P k [] h m = absurd m
 at-key P k (x ∷ l) h m = elim (or-cases (eqb (x .key) k) (member k (keys l)) m) [
   | inl e ↦ (x, eqb→eq (x .key) k e, h .0)
@@ -53,7 +53,7 @@ at-key P k (x ∷ l) h m = elim (or-cases (eqb (x .key) k) (member k (keys l)) m
 ]
 
 -- what holds of those that are kept holds of each that passes the test
-of-kept : {A : Type 0} (P : A → Type 0) (f : A → Bool) (l : List A) → Each P (keep f l) → Each (λ (x : A). f x ≡ true → P x) l
+pub of-kept : {A : Type 0} (P : A → Type 0) (f : A → Bool) (l : List A) → Each P (keep f l) → Each (λ (x : A). f x ≡ true → P x) l
 of-kept P f [] h = tt
 of-kept P f (x ∷ l) h = elim (outcome (f x)) [
   | passed e ↦ let k : Each P (x ∷ keep f l) = rw e at h in (λ u. k .0, of-kept P f l (k .1))

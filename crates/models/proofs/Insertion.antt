@@ -1,17 +1,14 @@
 -- A key put in at its place: the lines in order with one line more, where the list's lines are put in one after the other. Assumes nothing.
-use mathlib.Core.Path.{_≡_, refl, sym, ap, _∙_}
+use mathlib.Core.Path.{_≡_, sym}
 use mathlib.Core.Bool.{Bool, true, false, cond}
-use mathlib.Core.List.{List, [], _∷_, _++_, map}
-use Prim.Native.Nat.{ℕ, zero, suc, _+_, _-_, _<_, _≤_}
+use mathlib.Core.List.{List, [], _∷_, _++_, append-assoc}
+use Prim.Native.Nat.{ℕ, suc, _+_, _-_, _<_, _≤_}
 use native.Mathlib.Nat.{zero-add}
 use native.Mathlib.Numerals.{add-one}
 use native.Mathlib.Omega.{arith}
-use lib.Dec.{T}
-use lib.IntN.{ℤ}
-use lib.Ieee.{Float, nan, lt, le}
+use lib.Ieee.{Float, nan, lt}
 use lib.ListN.{length, getD, take, drop, set, length-take}
 use lib.Seq.{take-take, take-suc-set, take-set-lt, drop-set-lt}
-use mathlib.Core.List.{append-assoc}
 use Rattle.models.specs.Inside.{before, putIn}
 use Rattle.models.proofs.Arrays.{rest-cons, rest-nil}
 

@@ -31,5 +31,9 @@ pub mod Models
 pub mod Pass
 pub mod Unique
 pub mod Carried
+pub mod NextEntry
 pub mod Held
 pub mod Planned
+pub mod PlanRefusals
+pub mod PlanEntries
+pub mod PlanExamples

@@ -1,6 +1,6 @@
 -- The check of a plan's lists, line by line, at the line where a loop stands. Assumes nothing.
 use mathlib.Core.Path.{_≡_, refl, sym, ap, _∙_}
-use mathlib.Core.Bool.{Bool, true, false, not, _&&_, cond}
+use mathlib.Core.Bool.{true, false, _&&_}
 use mathlib.Core.List.{List, [], _∷_, _++_}
 use Prim.Native.Nat.{ℕ, _+_, _<_, _≤_}
 use native.Mathlib.Numerals.{add-one}
@@ -8,7 +8,7 @@ use native.Mathlib.Omega.{arith}
 use borrow.Author.Tests.{eq-eqb, ne-eqb}
 use lib.Dec.{T, eqb}
 use lib.IntN.{ℤ, pos, negsuc}
-use lib.Ieee.{Float, nan, fin, binary64, fits, le, div}
+use lib.Ieee.{Float, nan, fin, binary64, fits, le}
 use lib.Ieee.Fits.{and-l, and-r, div-fits}
 use lib.Ieee.Positive.{positive}
 use lib.ListN.{length, getD, drop, drop-of-length-le, length-append}
@@ -20,11 +20,11 @@ use Rattle.arithmetic.specs.Nearest.{nearestRule, nearestNote}
 use Rattle.arithmetic.proofs.Bounds.{detuning-is, planned-is}
 use Rattle.arithmetic.proofs.Nearest.{nearest-is-note, nearest-detuning}
 use Rattle.models.specs.declared.waiting.Waiting.{Waiting}
-use Rattle.models.specs.Lists.{Each, member}
-use Rattle.models.specs.Line.{Line, rising}
-use Rattle.models.specs.PlanLists.{isPlanned, noteLine, pitchLine, noteLines, pitchLines, keys, lineByLine, noteLists, pitchLists, withKey}
-use Rattle.models.specs.Inside.{Accepted, Fine, Holds, inOrder, linesOf, waits}
-use Rattle.models.proofs.ListLaws.{true→T, T→true, outcome, passed, failed}
+use Rattle.models.specs.Lists.{member}
+use Rattle.models.specs.Line.{Line}
+use Rattle.models.specs.PlanLists.{isPlanned, noteLine, pitchLine, noteLines, pitchLines, keys, lineByLine, noteLists, pitchLists}
+use Rattle.models.specs.Inside.{Accepted, Fine, Holds, inOrder, waits}
+use Rattle.models.proofs.ListLaws.{true→T, outcome, passed, failed}
 use Rattle.models.proofs.Waits.{accepted-snoc, accepted-few, accepted-nil}
 
 -- ---- a turn of a check: the lines so far wait and were accepted, and the lines that are left decide

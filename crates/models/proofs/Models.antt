@@ -1,6 +1,6 @@
 -- When two models are the same, and which one has no keys. Assumes nothing.
 use mathlib.Core.Path.{_≡_, refl}
-use mathlib.Core.Bool.{Bool, true, false, not, _&&_, cond}
+use mathlib.Core.Bool.{Bool, true, false, not, _&&_}
 use mathlib.Core.List.{List, [], _∷_}
 use mathlib.Core.Option.{none}
 use Prim.Native.Nat.{ℕ, zero, suc, _<_, _≤_}
@@ -17,7 +17,7 @@ use Rattle.models.specs.Line.{Line, group, same}
 use Rattle.models.specs.Walk.{count}
 use Rattle.models.specs.Inside.{linesOf, waits}
 use Rattle.models.specs.AotModel.{Model, tuned, untuned, empty, holding, planned, nobody, isIn, keyIn, counts, highest}
-use Rattle.models.proofs.ListLaws.{T→false, outcome, passed, failed}
+use Rattle.models.proofs.ListLaws.{T→false}
 
 pub same-model : (m n : Model) → m .channels ≡ n .channels → m .groupBy ≡ n .groupBy → m .tuned ≡ n .tuned → m .numChannels ≡ n .numChannels
     → ((k : ℕ) → m .keys k ≡ n .keys k) → ((c : ℕ) (g : ℤ) → m .detunings c g ≡ n .detunings c g) → m ≡ n

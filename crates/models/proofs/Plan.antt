@@ -8,17 +8,16 @@ use Prim.Native.Nat.{ℕ, zero, suc, _≤_, _<_, zero-le, suc-le-suc}
 use native.Mathlib.Nat.{le-refl, le-trans, lt-of-not-le, not-le-of-lt}
 use native.Mathlib.Omega.{arith}
 use lib.IntN.{ℤ}
-use lib.Dec.{T, eqb, eqb-refl, leb, leb→le, nleb→lt, not-T}
+use lib.Dec.{T, eqb, eqb-refl}
 use lib.ListN.{length, getD}
 use Rattle.models.specs.Lists.{Each, keep, member, once}
 use Rattle.models.specs.declared.aot.GroupBy.{GroupBy}
-use Rattle.models.specs.Line.{Line, group, ofGroup, joins, rising}
+use Rattle.models.specs.Line.{Line, ofGroup, joins, rising}
 use Rattle.models.specs.Walk.{walk, count, channels}
 use Rattle.models.specs.Inside.{Accepted}
 use Rattle.models.specs.Placing.{Placing, together, Steps, InOrder, uses, Best, NoneFits}
 use Rattle.models.proofs.ListLaws.{outcome, passed, failed, T→true, true→T, not-false, Each-map, Each-keep, Each-image, own-image, map-same, within, once-within, once-new, once-cons, once-exact, Pairwise, Pairwise-keep, keep-yes, keep-no, keep-same, keep-keep, keep-swap}
 use Rattle.models.proofs.Joins.{joins-mono}
-use Rattle.models.specs.PlanLists.{keys}
 use Rattle.models.proofs.Rising.{UpTo, Sorted, Other, Each-rising, rising-Each, length-rising, rising-keep, rising-sorted, rising-apart, distinct-apart}
 use Rattle.models.proofs.Sweep.{numberOf, runs, fullest, channels-steps, channels-full, channels-are, channels-below}
 

@@ -1,6 +1,6 @@
 -- To plan the lines in order is to plan the list, so what the code plans is what the rule says, and meets demand 3. Assumes nothing.
 use mathlib.Core.Path.{_≡_, refl, sym, ap, _∙_, subst}
-use mathlib.Core.Bool.{Bool, true, false, cond}
+use mathlib.Core.Bool.{true, cond}
 use mathlib.Core.List.{List, [], _∷_}
 use Prim.Native.Nat.{ℕ, _<_}
 use lib.Dec.{T, leb}
@@ -15,12 +15,12 @@ use Rattle.models.specs.declared.waiting.Waiting.{Waiting}
 use Rattle.models.specs.Lists.{Distinct}
 use Rattle.models.specs.Line.{Line, rising}
 use Rattle.models.specs.PlanLists.{keys}
-use Rattle.models.specs.Walk.{walk, count, seat, seatFrom, entry, entryFrom, channels}
+use Rattle.models.specs.Walk.{walk, count, seat, seatFrom, entry, channels}
 use Rattle.models.specs.Inside.{Accepted, Fine, Ready, inOrder, waits}
 use Rattle.models.specs.AotModel.{Model, Answer, tuned, untuned, empty, holding, planned, Smallest}
 use Rattle.models.proofs.ListLaws.{Pairwise, false→T}
 use Rattle.models.proofs.Rising.{Other, Each-rising, length-rising, rising-sorted, rising-of-sorted, absent}
-use Rattle.models.proofs.Plan.{sorted, different}
+use Rattle.models.proofs.Plan.{different}
 use Rattle.models.proofs.Models.{same-model}
 use Rattle.models.proofs.Demand3.{demand-3}
 

@@ -1,9 +1,10 @@
 -- Records by key: what the scans over them find. Assumes nothing.
 use mathlib.Core.Path.{_≡_, refl, sym, ap, _∙_}
-use mathlib.Core.Bool.{Bool, true, false, cond, _&&_}
+use mathlib.Core.Bool.{Bool, true, false, _&&_}
 use mathlib.Core.List.{List, [], _∷_, map}
-use mathlib.Core.Option.{Option, none, some}
-use Prim.Native.Nat.{ℕ, zero, suc, _-_, _<_, _≤_}
+use mathlib.Core.Option.{none, some}
+use native.Mathlib.Numerals.{add-one}
+use Prim.Native.Nat.{ℕ, zero, suc, _+_, _-_, _<_, _≤_}
 use native.Mathlib.Omega.{arith}
 use lib.IntN.{ℤ}
 use lib.Dec.{leb, ltb}
@@ -16,6 +17,7 @@ use Rattle.models.specs.Lists.{Each}
 use Rattle.models.specs.declared.aot.GroupBy.{GroupBy}
 use Rattle.models.specs.Line.{group, same}
 use Rattle.models.specs.AotModel.{nobody, isIn, keyIn, counts, highest, larger}
+use Rattle.models.specs.Inside.{lower, leastFrom}
 use Rattle.models.proofs.ListLaws.{outcome, passed, failed, T→true, true→T}
 use Rattle.models.proofs.Sweep.{same-eq, same-refl}
 
@@ -97,3 +99,13 @@ module _ (by : GroupBy) (c : ℕ) (g : ℤ) (r : KeyRecord) where
 pub in-note : (t : Bool) (r : KeyRecord) → (t && isIn r) ≡ true → isNote (r .note) ≡ true
 unfolding isIn
 in-note t r e = T→true (isNote (r .note)) (and-r (ltb (r .channel) 16) (isNote (r .note)) (and-r t (ltb (r .channel) 16 && isNote (r .note)) (true→T e)))
+
+-- ---- the least group, from an index on
+module _ (by : GroupBy) (c : ℕ) (from least : ℤ) (rs : List KeyRecord) (i : ℕ) where
+  pub least-next : (d : KeyRecord) → i < length rs → leastFrom by c from least (drop i rs) ≡ leastFrom by c from (lower by c from least (getD rs i d)) (drop (i + 1) rs)
+  unfolding leastFrom
+  least-next d h = rw (add-one, drop-cons rs i d h)
+
+  pub least-end : length rs ≤ i → leastFrom by c from least (drop i rs) ≡ least
+  unfolding leastFrom
+  least-end h = rw (drop-of-length-le rs {i = i} h)

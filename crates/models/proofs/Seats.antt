@@ -1,19 +1,18 @@
 -- Where the walk seats a key: a key of the list on its channel, with its note, and no other key anywhere. Assumes nothing.
-use mathlib.Core.Path.{_≡_, refl, sym, ap, _∙_}
-use mathlib.Core.Bool.{Bool, true, false, not, cond}
+use mathlib.Core.Path.{_≡_, refl, ap, _∙_}
+use mathlib.Core.Bool.{Bool, true, false, not}
 use mathlib.Core.List.{List, [], _∷_}
-use mathlib.Core.Option.{Option, none, some}
+use mathlib.Core.Option.{none, some}
 use Prim.Native.Nat.{ℕ, zero, suc, _+_, _≤_}
 use native.Mathlib.Nat.{add-zero, zero-add}
 use native.Mathlib.Omega.{arith}
-use lib.IntN.{ℤ}
 use lib.Dec.{T, eqb, eqb-refl}
 use lib.ListN.{length}
 use Rattle.models.specs.declared.aot.GroupBy.{GroupBy}
 use Rattle.models.specs.Lists.{Each, keep, member}
 use Rattle.models.specs.Line.{Line, rising}
 use Rattle.models.specs.PlanLists.{keys}
-use Rattle.models.specs.Walk.{here, later, channels, walk, noteOf, seated, seatFrom, seat}
+use Rattle.models.specs.Walk.{here, later, channels, walk, noteOf, seatFrom, seat}
 use Rattle.models.specs.Placing.{Found}
 use Rattle.models.proofs.ListLaws.{outcome, passed, failed, T→true, T→false, true→T, not-false, or-left, Each-map, Pairwise, Pairwise-keep, own-image}
 use Rattle.models.proofs.Rising.{Other, Each-rising, rising-Each}

@@ -1,7 +1,7 @@
 -- Two f64s above zero of which neither is larger are the same: each is written with an odd significand. Assumes nothing.
 use mathlib.Core.Path.{_≡_, refl, sym, ap, _∙_}
-use mathlib.Core.Bool.{Bool, true, false, _&&_}
-use Prim.Native.Nat.{ℕ, zero, suc, _+_, _*_, _%_, _^_, _≤_}
+use mathlib.Core.Bool.{true, false, _&&_}
+use Prim.Native.Nat.{ℕ, zero, suc, _+_, _*_, _%_, _^_}
 use lib.Pow.{pow-add}
 use native.Mathlib.Nat.{le-antisymm, mul-one, mul-assoc, mul-left-comm, pow-succ'}
 use native.Mathlib.Omega.{arith}

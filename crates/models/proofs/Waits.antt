@@ -1,24 +1,23 @@
 -- The keys that wait, with one line more: they hold the list's lines in order, and a list that meets no refusal has at most 256. Assumes nothing.
 use mathlib.Core.Path.{_≡_, refl, sym, ap, _∙_, subst}
-use mathlib.Core.Bool.{Bool, true, false, not, _||_, cond, or-false}
-use mathlib.Core.List.{List, [], _∷_, _++_, map, map-append}
-use Prim.Native.Nat.{ℕ, zero, suc, _+_, _<_, _≤_}
-use native.Mathlib.Numerals.{add-one}
+use mathlib.Core.Bool.{Bool, true, false, not, _||_, or-false}
+use mathlib.Core.List.{List, [], _∷_, _++_, map}
+use Prim.Native.Nat.{ℕ, _+_, _<_, _≤_}
 use native.Mathlib.Omega.{arith}
 use lib.Dec.{T, eqb, eqb→eq, eqb-refl}
 use lib.IntN.{ℤ, pos}
-use lib.Ieee.{Float, nan, binary64, fits, lt, le}
+use lib.Ieee.{Float, nan, binary64, fits, le}
 use lib.Ieee.Positive.{positive}
-use lib.ListN.{length, getD, take, drop, set, length-append, length-map}
+use lib.ListN.{length, getD, take, set, length-map}
 use lib.Seq.{getD-set-same, getD-set-other}
 use Rattle.arithmetic.specs.Note.{isNote}
 use Rattle.models.specs.Lists.{Each, member, Distinct}
 use Rattle.models.specs.Line.{Line, rising}
 use Rattle.models.specs.PlanLists.{keys}
 use Rattle.models.specs.Inside.{Accepted, lineAt, before, putIn}
-use Rattle.models.proofs.ListLaws.{outcome, passed, failed, T→true, true→T, T→false, false→T, not-false, or-left, Each-map, Each-image, at-member, pigeonhole, below, below-length, below-member}
+use Rattle.models.proofs.ListLaws.{outcome, passed, failed, true→T, T→false, false→T, not-false, or-left, Each-image, at-member, pigeonhole, below, below-length, below-member}
 use Rattle.models.proofs.Joins.{lt-not-le}
-use Rattle.models.proofs.Rising.{append, Each-rising, rising-Each, rising-snoc}
+use Rattle.models.proofs.Rising.{append, Each-rising, rising-snoc}
 
 abbrev pub Positive : Line → Type 0
 Positive l = T (positive (l .detuning))

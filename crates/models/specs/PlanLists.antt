@@ -14,6 +14,10 @@ use Rattle.arithmetic.specs.Nearest.{nearestRule}
 use Rattle.models.specs.Lists.{member}
 use Rattle.models.specs.Line.{Line}
 
+-- "A key is a number 0 to 255": how many there are.
+abbrev pub keyCount : ℕ
+keyCount = 256
+
 -- "0.5 to 2": no comparison with a NaN holds. (`fin false m e` is the f64 m * 2 ^ e.)
 unfoldable pub isPlanned : Float → Bool
 isPlanned d = le (fin false 1 (negsuc 0)) d && le d (fin false 1 (pos 1))

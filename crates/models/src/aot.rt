@@ -5,15 +5,31 @@ ghost use mathlib.Core.Bool.{true, _&&_};
 ghost use mathlib.Core.List.{List};
 ghost use Prim.Native.Nat.{_<_, _≤_};
 ghost use lib.Dec.{leb};
+ghost use lib.IntN.{pos};
 ghost use Rattle.arithmetic.specs.Note.{isNote};
 ghost use Rattle.models.specs.ChannelList.{channelsAnswer, entries};
 ghost use Rattle.models.specs.Line.{Line, group, joins, rising};
-ghost use Rattle.models.specs.PlanLists.{noteLists, pitchLists};
+ghost use Rattle.models.specs.PlanLists.{keyCount, noteLists, pitchLists};
 ghost use Rattle.models.specs.AotModel.{
-    Smallest, accepted, accessAnswer, detuningAnswer, empty, highest, isIn, larger, modelOf, nextAnswer, nextRule, openRule, openedOf, planned, setTuning, setTuningOfPitches,
-    tuningOf,
+  Smallest,
+  accepted,
+  accessAnswer,
+  detuningAnswer,
+  empty,
+  highest,
+  isIn,
+  larger,
+  modelOf,
+  nextAnswer,
+  nextRule,
+  openRule,
+  openedOf,
+  planned,
+  setTuning,
+  setTuningOfPitches,
+  tuningOf,
 };
-ghost use Rattle.models.specs.Inside.{Accepted, Least, Ready, Seats, channelsWith, linesOf, slotOf, waits};
+ghost use Rattle.models.specs.Inside.{Accepted, Ready, Seats, channelsWith, leastFrom, linesOf, lower, slotOf, waits};
 use crate::channels::ChannelList;
 use crate::channels::ChannelsAnswer;
 use crate::waiting::KEYS;
@@ -81,7 +97,7 @@ pub struct KeyRecord {
 // A model of tunings that are planned.
 pub struct AotTuningModel {
     // By key.
-    records: [KeyRecord; 256],
+    records: [KeyRecord; KEYS],
     channels: ChannelList,
     group_by: GroupBy,
     num_channels: u8,
@@ -123,7 +139,7 @@ impl AotTuningModel {
                 note: 0,
                 channel: NO_CHANNEL,
                 detuning: 1.0,
-            }; 256],
+            }; KEYS],
             channels: channels,
             group_by: group_by,
             num_channels: num_channels,
@@ -215,7 +231,7 @@ impl AotTuningModel {
 
     // The model with the plan of the keys that wait, if there are channels enough.
     fn with_plan(self, waiting: Waiting) -> SetTuning
-        requires { ⌜ (waiting .count ≤ 256) × Ready (waits waiting) ⌝ }
+        requires { ⌜ (waiting .count ≤ keyCount) × Ready (waits waiting) ⌝ }
         ensures { λ r. ⌜ tuningOf r ≡ planned (modelOf self) (waits waiting) ⌝ }
     {
         let refusal = waiting.refusal;
@@ -296,7 +312,9 @@ fn group_of(by: GroupBy, note: i32) -> i32
 fn joins(before: f64, detuning: f64) -> bool
     ensures { λ r. ⌜ r ≡ joins before detuning ⌝ }
 {
-    Ratio::from_float(detuning).deviation_from(Ratio::from_float(before)).is_negligible()
+    Ratio::from_float(detuning)
+        .deviation_from(Ratio::from_float(before))
+        .is_negligible()
 }
 
 // How many channels a group uses with one key more, where it used so many and its last detuning is `before`.
@@ -315,13 +333,13 @@ fn channels_with(used: u16, before: f64, detuning: f64) -> u16
 
 // The keys on their channels, by key, and how many channels that takes.
 struct Plan {
-    records: [KeyRecord; 256],
+    records: [KeyRecord; KEYS],
     count: u16,
 }
 
 // One pass over the keys in order. Each group's last detuning and the channels that it uses so far tell a key's channel.
 fn place_keys(waiting: Waiting, by: GroupBy) -> Plan
-    requires { ⌜ (waiting .count ≤ 256) × Accepted (linesOf waiting) × (rising (linesOf waiting) ≡ linesOf waiting) ⌝ }
+    requires { ⌜ (waiting .count ≤ keyCount) × Accepted (linesOf waiting) × (rising (linesOf waiting) ≡ linesOf waiting) ⌝ }
     ensures { λ r. ⌜ Seats by (linesOf waiting) r ⌝ }
 {
     let order = waiting.order;
@@ -332,7 +350,7 @@ fn place_keys(waiting: Waiting, by: GroupBy) -> Plan
         note: 0,
         channel: NO_CHANNEL,
         detuning: 1.0,
-    }; 256];
+    }; KEYS];
     let mut latest = [1.0; GROUPS];
     let mut used = [0u16; GROUPS];
     let mut count: u16 = 0;
@@ -387,7 +405,7 @@ fn larger(detuning: f64, other: DetuningAnswer) -> DetuningAnswer
 }
 
 // The largest detuning of a group's keys up to a channel. The keys of a group come to their channels by rising detuning, so it is the one that came last.
-fn highest(records: [KeyRecord; 256], by: GroupBy, channel: u8, group: i32) -> DetuningAnswer
+fn highest(records: [KeyRecord; KEYS], by: GroupBy, channel: u8, group: i32) -> DetuningAnswer
     ensures { λ r. ⌜ detuningAnswer r ≡ highest by channel group records ⌝ }
 {
     let mut best = DetuningAnswer::NoEntry;
@@ -405,20 +423,32 @@ fn highest(records: [KeyRecord; 256], by: GroupBy, channel: u8, group: i32) -> D
 }
 
 // The least group, not below `from`, of a key up to a channel; the number above all groups if there is none.
-fn least_group(records: [KeyRecord; 256], by: GroupBy, channel: u8, from: i32) -> i32
-    ensures { λ r. ⌜ Least by channel from records r ⌝ }
+fn least_group(records: [KeyRecord; KEYS], by: GroupBy, channel: u8, from: i32) -> i32
+    ensures { λ r. ⌜ r ≡ leastFrom by channel from (pos 501) records ⌝ }
 {
     let mut least = HIGHEST_NOTE + 1;
     let mut i: usize = 0;
     while i < KEYS {
         let record = records[i];
-        if record.is_up_to(channel) {
-            let group = group_of(by, record.note);
-            if from <= group && group < least {
-                least = group;
-            }
-        }
+        least = lower(record, by, channel, from, least);
         i += 1;
     }
     least
+}
+
+// The record's group where it is up to a channel, not below `from` and lower than the least so far.
+fn lower(record: KeyRecord, by: GroupBy, channel: u8, from: i32, least: i32) -> i32
+    ensures { λ r. ⌜ r ≡ lower by channel from least «record» ⌝ }
+{
+    if !record.is_up_to(channel) {
+        return least;
+    }
+    let group = group_of(by, record.note);
+    if group < from {
+        return least;
+    }
+    if least <= group {
+        return least;
+    }
+    group
 }

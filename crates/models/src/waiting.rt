@@ -9,7 +9,7 @@ ghost use lib.ListN.{take};
 ghost use lib.Ieee.Positive.{positive};
 ghost use Rattle.models.specs.Lists.{member};
 ghost use Rattle.models.specs.Line.{Line};
-ghost use Rattle.models.specs.PlanLists.{isPlanned, keys, noteLists, pitchLists};
+ghost use Rattle.models.specs.PlanLists.{isPlanned, keyCount, keys, noteLists, pitchLists};
 ghost use Rattle.models.specs.Inside.{Accepted, Fine, Holds, before, inOrder, putIn, waits};
 use arithmetic::note::is_note;
 use arithmetic::pitch::Pitch;
@@ -28,18 +28,18 @@ pub struct Waiting {
     // 0, or the number of a refusal; nothing waits then.
     pub refusal: u8,
     // The keys by rising detuning, equal ones in list order: the first `count`.
-    pub order: [u8; 256],
+    pub order: [u8; KEYS],
     pub count: usize,
     // By key.
-    pub seen: [bool; 256],
-    pub notes: [i32; 256],
-    pub detunings: [f64; 256],
+    pub seen: [bool; KEYS],
+    pub notes: [i32; KEYS],
+    pub detunings: [f64; KEYS],
 }
 
 // The lists of keys, notes and detunings. Refuses 12, then line by line 4, 3, 5.
 pub(crate) fn note_lists(keys: &[u8], notes: &[i32], detunings: &[f64]) -> Waiting
     ensures { λ r. ⌜ waits r ≡ inOrder (noteLists (now (keys .entry)) (now (notes .entry)) (now (detunings .entry))) ⌝ }
-    ensures { λ r. ⌜ Fine (noteLists (now (keys .entry)) (now (notes .entry)) (now (detunings .entry))) × (r .count ≤ 256) ⌝ }
+    ensures { λ r. ⌜ Fine (noteLists (now (keys .entry)) (now (notes .entry)) (now (detunings .entry))) × (r .count ≤ keyCount) ⌝ }
 {
     let n = keys.len();
     if notes.len() != n {
@@ -73,7 +73,7 @@ pub(crate) fn note_lists(keys: &[u8], notes: &[i32], detunings: &[f64]) -> Waiti
 // The lists of keys and pitches in Hz. Refuses 12, then line by line 1, 5.
 pub(crate) fn pitch_lists(keys: &[u8], pitches: &[f64]) -> Waiting
     ensures { λ r. ⌜ waits r ≡ inOrder (pitchLists (now (keys .entry)) (now (pitches .entry))) ⌝ }
-    ensures { λ r. ⌜ Fine (pitchLists (now (keys .entry)) (now (pitches .entry))) × (r .count ≤ 256) ⌝ }
+    ensures { λ r. ⌜ Fine (pitchLists (now (keys .entry)) (now (pitches .entry))) × (r .count ≤ keyCount) ⌝ }
 {
     let n = keys.len();
     if pitches.len() != n {
@@ -115,22 +115,20 @@ impl Waiting {
     {
         Waiting {
             refusal: refusal,
-            order: [0; 256],
+            order: [0; KEYS],
             count: 0,
-            seen: [false; 256],
-            notes: [0; 256],
-            detunings: [1.0; 256],
+            seen: [false; KEYS],
+            notes: [0; KEYS],
+            detunings: [1.0; KEYS],
         }
     }
 
     // One key more.
     fn with(self, key: u8, note: i32, detuning: f64) -> Waiting
-        requires { ⌜ self .count < 256 ⌝ }
-        ensures {
-            λ r.
+        requires { ⌜ self .count < keyCount ⌝ }
+        ensures { λ r.
             ⌜ ((lines : List Line) → Holds self lines → Accepted lines → member key (keys lines) ≡ false → T (positive detuning)
-                → Holds r (lines ++ (record { key = key; note = note; detuning = detuning } ∷ []))) ⌝
-        }
+            → Holds r (lines ++ (record { key = key; note = note; detuning = detuning } ∷ []))) ⌝ }
     {
         let mut seen = self.seen;
         let mut notes = self.notes;
@@ -154,8 +152,8 @@ impl Waiting {
 }
 
 // How many of the first `n` keys come before a detuning: those up to the first with a higher one.
-fn place(order: [u8; 256], n: usize, detuning: f64, detunings: &[f64; 256]) -> usize
-    requires { ⌜ n ≤ 256 ⌝ }
+fn place(order: [u8; KEYS], n: usize, detuning: f64, detunings: &[f64; KEYS]) -> usize
+    requires { ⌜ n ≤ keyCount ⌝ }
     ensures { λ r. ⌜ r ≡ before (now (detunings .entry)) detuning (take n order) ⌝ }
 {
     let mut at: usize = 0;
@@ -171,8 +169,8 @@ fn place(order: [u8; 256], n: usize, detuning: f64, detunings: &[f64; 256]) -> u
 }
 
 // The first `n` keys, and one more at its place.
-fn insert(order: [u8; 256], n: usize, key: u8, detunings: &[f64; 256]) -> [u8; 256]
-    requires { ⌜ n < 256 ⌝ }
+fn insert(order: [u8; KEYS], n: usize, key: u8, detunings: &[f64; KEYS]) -> [u8; KEYS]
+    requires { ⌜ n < keyCount ⌝ }
     ensures { λ r. ⌜ take (n + 1) r ≡ putIn (now (detunings .entry)) key (take n order) ⌝ }
 {
     let own = key as usize;

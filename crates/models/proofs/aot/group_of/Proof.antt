@@ -3,17 +3,13 @@ use Prim.Native.Nat.{ℕ}
 use mathlib.Core.Bool.{true}
 use native.Mathlib.Omega.{arith}
 use lib.IntN.{ℤ, pos}
-use mir.Facts.{toZ-pos}
-use Rattle.arithmetic.specs.Outcome.{Outcome, value, refused}
+use mir.Facts.{toZ-pos, toZ-ofZ}
+use Rattle.arithmetic.specs.Outcome.{value, refused}
 use Rattle.arithmetic.specs.Answers.{letterAnswer}
-use Rattle.arithmetic.specs.Note.{isNote, letterOf}
+use Rattle.arithmetic.specs.Note.{isNote, letterOf, letterRule}
 use Rattle.arithmetic.proofs.Notes.{letter-below}
-
 use mathlib.Core.Path.{_≡_, sym, ap, _∙_}
-use mir.Facts.{toZ-ofZ}
 use mir.Syntax.{w32}
-use mir.Val.{SFits}
-use Rattle.arithmetic.specs.Note.{letterRule}
 use Rattle.models.specs.Line.{group}
 use borrow.Author.Needs.{needs}
 use Rattle.models.proofs.aot.group_of.Statement.{statement}

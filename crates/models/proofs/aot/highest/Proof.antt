@@ -1,5 +1,5 @@
 -- `models::aot::highest` meets its contract. The loop's invariant: what was found is the largest of the records from `i` on. Assumes nothing.
-use mathlib.Core.Path.{_≡_, refl, sym, ap, _∙_}
+use mathlib.Core.Path.{_≡_, sym, ap, _∙_}
 use mathlib.Core.Bool.{Bool, true, false, _&&_}
 use mathlib.Core.List.{List}
 use Prim.Native.Nat.{ℕ, _≤_, _-_}
@@ -19,7 +19,7 @@ use Rattle.models.specs.Line.{group}
 use Rattle.models.specs.AotModel.{counts, detuningAnswer, highest, isIn, larger}
 use Rattle.arithmetic.specs.Note.{isNote}
 use Rattle.models.proofs.Slots.{group-note}
-use Rattle.models.proofs.Records.{long-field, highest-none, highest-yes, highest-no, counts-not, counts-own, counts-other, in-note}
+use Rattle.models.proofs.Records.{highest-none, highest-yes, highest-no, counts-not, counts-own, counts-other, in-note}
 use Rattle.models.proofs.aot.highest.Statement.{statement}
 use Rattle.models.proofs.aot.highest.Tie as tie
 
@@ -94,12 +94,11 @@ loop-less c = omega arith
 loop-again : tie.Need-loop-again Inv-loop μ-loop
 loop-again c =
     let u = c .before .before .before .before .before .before .before in
-    let same : group (by u) (r u .note) ≡ g u = sym (grouped (c .before .before)) ∙ sym (toZ-ofZ (group-fits (c .before .before))) ∙ ap (toZ w32) (c .before .if2 .taken) in
-    (
+    let same : group (by u) (r u .note) ≡ g u = sym (grouped (c .before .before)) ∙ sym (toZ-ofZ (group-fits (c .before .before))) ∙ ap (toZ w32) (c .before .if2 .taken) in (
       omega arith,
       c .larger .ensures ∙ ap (larger (r u .detuning)) (u .before .loop .inv .1)
-      ∙ highest-yes (by u) (u .before .before .args .channel) (g u) (rs u) (i u) (record { note = pos 0; channel = 0; detuning = nan }) (u .loop-test .taken) (omega (arith, long (u .before .before)))
-      (counts-own (by u) (u .before .before .args .channel) (g u) (r u) (up-to (c .before .before .before .before)) same),
+          ∙ highest-yes (by u) (u .before .before .args .channel) (g u) (rs u) (i u) (record { note = pos 0; channel = 0; detuning = nan }) (u .loop-test .taken) (omega (arith, long (u .before .before)))
+          (counts-own (by u) (u .before .before .args .channel) (g u) (r u) (up-to (c .before .before .before .before)) same),
     )
 
 loop-less-2 : tie.Need-loop-less-2 Inv-loop μ-loop
@@ -107,11 +106,10 @@ loop-less-2 c = omega arith
 
 loop-again-2 : tie.Need-loop-again-2 Inv-loop μ-loop
 loop-again-2 c =
-    let u = c .before .before .before .before .before .before in
-    (
+    let u = c .before .before .before .before .before .before in (
       omega arith,
       passed-by u
-      (counts-other (by u) (u .before .before .args .channel) (g u) (r u) (λ e. c .if2 .left (ap (ofZ w32) (grouped (c .before) ∙ e ∙ toZ-ofZ (u .before .before .fits .group))))),
+          (counts-other (by u) (u .before .before .args .channel) (g u) (r u) (λ e. c .if2 .left (ap (ofZ w32) (grouped (c .before) ∙ e ∙ toZ-ofZ (u .before .before .fits .group))))),
     )
 
 loop-less-3 : tie.Need-loop-less-3 Inv-loop μ-loop

@@ -1,6 +1,5 @@
 -- `models::aot::listed_channels` meets its contract, by the answer's cases. Assumes nothing.
 
-use mathlib.Core.Path.{_≡_, sym, ap, _∙_}
 use Rattle.models.specs.ChannelList.{channelsAnswer}
 use borrow.Author.Needs.{needs}
 use Rattle.models.proofs.aot.listed_channels.Statement.{statement}

@@ -1,16 +1,16 @@
 -- `models::aot::place_keys` meets its contract. The loop's invariant is the pass at a key. Assumes nothing.
-use mathlib.Core.Path.{_≡_, refl, sym, ap, _∙_, subst}
+use mathlib.Core.Path.{_≡_, refl, ap, _∙_, subst}
 use mathlib.Core.Logic.{⊎-elim}
-use mathlib.Core.Bool.{true, false}
+use mathlib.Core.Bool.{true}
 use mathlib.Core.List.{List, [], _∷_, map}
 use Prim.Native.Nat.{ℕ, zero, suc, _+_, _-_, _<_, _≤_, max}
 use native.Mathlib.Omega.{arith}
-use lib.IntN.{ℤ, pos}
+use lib.IntN.{pos}
 use lib.Dec.{T}
-use lib.Ieee.{Float, nan, ofBits, binary64}
+use lib.Ieee.{nan, ofBits, binary64}
 use lib.ListN.{length, getD, take, drop}
 use mir.Syntax.{w8, w32}
-use mir.Val.{Fits, SFits, toZ, ofZ}
+use mir.Val.{Fits, toZ, ofZ}
 use mir.Facts.{toZ-ofZ}
 use borrow.Author.Needs.{needs}
 use Rattle.arithmetic.specs.Note.{isNote}
@@ -25,7 +25,7 @@ use Rattle.models.proofs.Arrays.{rest-cons, rest-nil}
 use Rattle.models.proofs.Models.{allOut, out-at}
 use Rattle.models.proofs.OnePass.{numberOfNext}
 use Rattle.models.proofs.Slots.{group-note, slot-below}
-use Rattle.models.proofs.Pass.{Pass, recordOf, pass-begins, pass-next, pass-ends, next-is, next-few, used-few, each-drop}
+use Rattle.models.proofs.Pass.{Pass, pass-begins, pass-next, pass-ends, next-is, next-few, used-few, each-drop}
 use Rattle.models.proofs.aot.place_keys.Statement.{statement}
 use Rattle.models.proofs.aot.place_keys.Tie as tie
 
@@ -227,11 +227,10 @@ loop-again c =
     let u = t (e d) in
     let l = u .before .loop in
     let one : d .channels-with .result - 1 ≡ number d = omega (arith, channels d) in
-    let grown : c .if1 .count ≡ max (l .count) (suc (number d)) = ⊎-elim (λ w. omega (arith, channels d)) (λ w. omega (arith, channels d)) (c .if1 .came) in
-    (
+    let grown : c .if1 .count ≡ max (l .count) (suc (number d)) = ⊎-elim (λ w. omega (arith, channels d)) (λ w. omega (arith, channels d)) (c .if1 .came) in (
       omega arith,
       pass-next (by u) (all u) (l .records) (l .latest) (l .used) (l .count) (i u) (x u) (rest u) (pass u) (a-note u) (small u) (c .if1 .count) grown
-      (toZ w32 (ofZ w32 (x u .note))) (d .channels-with .result) (d .channels-with .result - 1) (e d .slot .result) (read u) (channels d) one (slot-at (e d)),
+          (toZ w32 (ofZ w32 (x u .note))) (d .channels-with .result) (d .channels-with .result - 1) (e d .slot .result) (read u) (channels d) one (slot-at (e d)),
     )
 
 returns : tie.Need-returns Inv-loop μ-loop

@@ -1,5 +1,5 @@
 -- `models::waiting::insert` meets its contract. The loop's invariant: with `carry` put in at `at`, the keys are those that the key, put in at its place, would make. Assumes nothing.
-use mathlib.Core.Path.{_≡_, refl, sym, ap, _∙_}
+use mathlib.Core.Path.{_≡_, refl, _∙_}
 use mathlib.Core.List.{_∷_, _++_}
 use Prim.Native.Nat.{_≤_, _-_}
 use native.Mathlib.Omega.{arith}

@@ -1,16 +1,15 @@
 -- `models::waiting::note_lists` meets its contract. The loop's invariant: the lines so far wait, and the lines that are left decide. Assumes nothing.
-use mathlib.Core.Path.{_≡_, refl, sym, ap, _∙_}
+use mathlib.Core.Path.{_≡_, refl, sym, _∙_, subst}
 use mathlib.Core.List.{List, [], _∷_, _++_}
 use Prim.Native.Nat.{ℕ, _≤_, _<_, _+_, _-_}
 use native.Mathlib.Omega.{arith}
-use mathlib.Core.Path.{subst}
 use mathlib.Core.Bool.{true, false, not}
 use lib.Dec.{T}
 use lib.IntN.{ℤ, pos}
 use lib.Ieee.{Float, nan, binary64, fits}
 use lib.Ieee.Positive.{positive}
 use mir.Facts.{toZ-ofZ}
-use borrow.Author.Needs.{sfits-of}
+use borrow.Author.Needs.{sfits-of, needs}
 use borrow.Author.Tests.{not-true, not-false}
 use Rattle.arithmetic.specs.Outcome.{Outcome, value, refused}
 use Rattle.arithmetic.specs.Note.{isNote}
@@ -19,8 +18,7 @@ use Rattle.models.specs.declared.waiting.Waiting.{Waiting}
 use Rattle.models.specs.Lists.{member}
 use Rattle.models.specs.Line.{Line}
 use Rattle.models.specs.Inside.{Accepted, Holds}
-use borrow.Author.Needs.{needs}
-use lib.ListN.{length, getD, drop}
+use lib.ListN.{getD, drop}
 use Rattle.models.specs.PlanLists.{isPlanned, keys, noteLine, noteLines, lineByLine, noteLists}
 use Rattle.models.proofs.Lines.{Turn, Sound, begins, turned-down, twice, room, onward, ended, ended-early, note-line-at, note-lines-end, no-note-line, no-detuning-line, a-note-line, planned-positive, note-lists-equal, note-lists-unequal}
 use Rattle.models.proofs.waiting.note_lists.Statement.{statement}

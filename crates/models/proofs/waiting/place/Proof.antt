@@ -1,16 +1,14 @@
 -- `models::waiting::place` meets its contract. The loop's invariant: what stands before the place is as many as were passed and those still to pass. Assumes nothing.
 
 use lib.Ieee.{Float, nan, lt}
-use lib.ListN.{length, getD}
-use Prim.Native.Nat.{ℕ, _<_}
+use lib.ListN.{length, getD, take, drop}
+use Prim.Native.Nat.{ℕ, _<_, _≤_, _+_, _-_}
 use mir.Syntax.{w8}
 use mir.Val.{Fits}
 use Rattle.models.proofs.Insertion.{place-begins, place-here, place-next, place-ends}
-use mathlib.Core.Path.{_≡_, refl, sym, ap, _∙_}
-use Prim.Native.Nat.{_≤_, _+_, _-_}
+use mathlib.Core.Path.{_≡_, sym, ap, _∙_}
 use native.Mathlib.Omega.{arith}
 use borrow.Author.Needs.{needs}
-use lib.ListN.{take, drop}
 use Rattle.models.specs.Inside.{before}
 use Rattle.models.proofs.waiting.place.Statement.{statement}
 use Rattle.models.proofs.waiting.place.Tie as tie
@@ -35,7 +33,6 @@ byte c i = let f : Fits w8 (getD (c .args .t1) i 0) = search needs in omega arit
 
 long : (c : tie.Start Inv-loop μ-loop) → length (c .args .t1) ≡ 256
 long c = search needs
-
 
 mul-other : tie.Need-mul-other Inv-loop μ-loop
 mul-other c = omega (arith, byte (c .before .before) (c .before .loop .at))

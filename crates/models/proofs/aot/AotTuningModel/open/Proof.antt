@@ -1,5 +1,5 @@
 -- `models::aot::AotTuningModel::open` meets its contract: the list's answer, and an empty model over its entries. Assumes nothing.
-use mathlib.Core.Path.{_≡_, ap, _∙_}
+use mathlib.Core.Path.{ap, _∙_}
 use mathlib.Core.List.{List}
 use Prim.Native.Nat.{ℕ}
 use Rattle.models.specs.AotModel.{openRule, empty, accepted}

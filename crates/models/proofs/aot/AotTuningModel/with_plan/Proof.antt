@@ -1,15 +1,12 @@
 -- `models::aot::AotTuningModel::with_plan` meets its contract, by the refusal, or by the count and the channels present. Assumes nothing.
 use mathlib.Core.Path.{_≡_, refl, sym, ap, _∙_, subst}
-use mathlib.Core.List.{List}
-use Prim.Native.Nat.{ℕ, _≤_, _<_}
+use Prim.Native.Nat.{_≤_, _<_}
 use mathlib.Core.Bool.{true}
 use native.Mathlib.Omega.{arith}
 use lib.ListN.{length}
-use Rattle.arithmetic.specs.Outcome.{Outcome, value}
-use Rattle.models.specs.ChannelList.{entries}
-use Rattle.models.specs.Line.{Line, rising}
-use Rattle.models.specs.Inside.{Accepted, Ready, linesOf, waits}
-use Rattle.models.specs.AotModel.{Model, modelOf, planned, detuningIn, tuned, untuned, holding, empty}
+use Rattle.models.specs.Line.{rising}
+use Rattle.models.specs.Inside.{Accepted, Ready, linesOf}
+use Rattle.models.specs.AotModel.{modelOf, planned, detuningIn, tuned, untuned, holding, empty}
 use Rattle.models.specs.Walk.{count}
 use Rattle.models.proofs.ChannelLists.{entries-few}
 use Rattle.models.proofs.Models.{same-model, waits-refused, waits-lines, planned-tuned, planned-untuned}
@@ -25,7 +22,6 @@ returns c = rw (waits-refused (c .before .args .waiting) (c .if1 .taken))
 -- the lines that wait, where nothing was refused
 ready : (c : tie.After-channels) → let w = c .before .before .args .waiting in Accepted (linesOf w) × (rising (linesOf w) ≡ linesOf w)
 ready c = let w = c .before .before .args .waiting in subst Ready (waits-lines w (c .before .if1 .left)) (c .before .before .pre .1)
-
 
 place-keys-requires : tie.Need-place-keys-requires
 place-keys-requires c κs = (c .before .before .pre .0, ready c .0, ready c .1)
@@ -64,8 +60,11 @@ returns-3 c =
     let fit : count (m .groupBy) lines ≤ length (m .channels) = omega (arith, c .before .if2 .left, c .before .before .len .ensures, s .count-is) in
     let few : p .count ≤ 16 = omega (arith, fit, s .count-is, entries-few (a .self .channels)) in
     let ok = ready (c .before .before .before .before) .0 in
-    (λ i. (same-model (modelOf (record { records = p .records; channels = a .self .channels; «group_by» = a .self .«group_by»; «num_channels» = p .count; tuned = true })) (holding m lines)
-    refl refl refl (s .count-is) (found (m .groupBy) lines ok p s few) (detuning-entry (m .groupBy) lines ok p s few) i, tuned (s .count-is i)))
+    (λ i. (
+      same-model (modelOf (record { records = p .records; channels = a .self .channels; «group_by» = a .self .«group_by»; «num_channels» = p .count; tuned = true })) (holding m lines)
+          refl refl refl (s .count-is) (found (m .groupBy) lines ok p s few) (detuning-entry (m .groupBy) lines ok p s few) i,
+      tuned (s .count-is i),
+    ))
     ∙ sym (planned-tuned m lines fit)
     ∙ ap (planned m) (sym (waits-lines (a .waiting) (c .before .before .before .before .before .if1 .left)))
 

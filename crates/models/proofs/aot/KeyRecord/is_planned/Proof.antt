@@ -1,5 +1,5 @@
 -- `models::aot::KeyRecord::is_planned` meets its contract, by its two tests. Assumes nothing.
-use mathlib.Core.Path.{_≡_, ap, _∙_}
+use mathlib.Core.Path.{ap, _∙_}
 use mir.Facts.{toZ-ofZ}
 use mir.Syntax.{w32}
 use mir.Val.{SFits}

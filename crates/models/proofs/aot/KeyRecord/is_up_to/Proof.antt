@@ -1,5 +1,4 @@
 -- `models::aot::KeyRecord::is_up_to` meets its contract, by its two tests. Assumes nothing.
-use mathlib.Core.Path.{_≡_, ap, _∙_}
 use borrow.Author.Tests.{le-leb, lt-leb}
 use borrow.Author.Needs.{needs}
 use Rattle.models.proofs.aot.KeyRecord.is_up_to.Statement.{statement}
