@@ -8,7 +8,7 @@ use crate::inputs::Chance;
 use crate::inputs::REFERENCES;
 use crate::inputs::step;
 use crate::inputs::temperaments;
-use crate::ours;
+use crate::ours::Nearest;
 use crate::report::Kind;
 use crate::report::Row;
 use crate::report::progress;
@@ -29,11 +29,11 @@ pub const NEAR: f64 = 2e-6;
 pub const GAP: f64 = 1e-12;
 
 fn compare(row: &mut Row, pitches: &[f64]) {
-    let mut notes = vec![0; pitches.len()];
-    let mut detunings = vec![0.0; pitches.len()];
-    ours::nearest_notes(pitches, &mut notes, &mut detunings);
-    for ((&hz, note), detuning) in pitches.iter().zip(notes).zip(detunings) {
+    let mut ours = Nearest::room(pitches.len());
+    ours.find(pitches);
+    for (i, &hz) in pitches.iter().enumerate() {
         row.cases += 1;
+        let (note, detuning) = (ours.notes[i], ours.detunings[i]);
         let (rust_note, rust_detuning) = found(hz);
         if from_boundary(hz) <= NEAR {
             row.meets("pitches within 2 millionths of a semitone of a boundary");
@@ -41,10 +41,10 @@ fn compare(row: &mut Row, pitches: &[f64]) {
         let semitone = f64::from(rust_note - note) / 12.0;
         let gap = (detuning / semitone.exp2() / rust_detuning - 1.0).abs();
         let told = || format!("{hz:?} Hz: note {note}, detuning {detuning:?}; the Rust: {rust_note}, {rust_detuning:?}");
-        if note == rust_note && gap < GAP {
+        if ours.refusals[i] == 0 && note == rust_note && gap < GAP {
             continue;
         }
-        if (note - rust_note).abs() == 1 && from_boundary(hz) <= NEAR && gap < GAP {
+        if ours.refusals[i] == 0 && (note - rust_note).abs() == 1 && from_boundary(hz) <= NEAR && gap < GAP {
             row.differs(Kind::NoteAtBoundary, format!("{hz:?}").len(), told);
         } else {
             row.differs(Kind::Unexpected, 0, told);
@@ -60,16 +60,12 @@ fn refused(row: &mut Row) {
         0.0, -0.0, -440.0, f64::NAN, f64::INFINITY, f64::NEG_INFINITY, f64::MIN_POSITIVE, 5e-324, f64::MAX,
         step(low, -1), step(high, 1),
     ];
-    let mut notes = [0; 11];
-    let mut detunings = [9.0; 11];
-    ours::nearest_notes(&outside, &mut notes, &mut detunings);
-    for (hz, note) in outside.iter().zip(notes) {
+    let mut ours = Nearest::room(outside.len());
+    ours.find(&outside);
+    for (hz, refusal) in outside.iter().zip(ours.refusals) {
         row.cases += 1;
-        if note == ours::REFUSED + 1 {
-            row.differs(Kind::Refusal, 0, || format!("{hz:?} Hz: refusal 1"));
-        } else {
-            row.differs(Kind::Unexpected, 0, || format!("{hz:?} Hz: {note}, not refusal 1"));
-        }
+        let kind = if refusal == 1 { Kind::Refusal } else { Kind::Unexpected };
+        row.differs(kind, 0, || format!("{hz:?} Hz: refusal {refusal}"));
     }
 }
 

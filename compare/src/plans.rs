@@ -20,6 +20,17 @@ use crate::report::Kind;
 use crate::report::Row;
 use crate::report::progress;
 
+/// All keys.
+pub const ALL: [u8; 256] = {
+    let mut all = [0; 256];
+    let mut i = 0;
+    while i < 256 {
+        all[i] = i as u8;
+        i += 1;
+    }
+    all
+};
+
 pub const GROUPS: [(u8, GroupBy, &str); 3] = [(0, GroupBy::Note, "note"), (1, GroupBy::NoteLetter, "letter"), (2, GroupBy::Channel, "channel")];
 
 /// The pitch of every key.
@@ -145,14 +156,24 @@ fn compare(fed: &mut Row, by_pitch: &mut Row, keys: &[u8], pitches: &[f64], pres
         fed.cases += 1;
         let mut at = [99; 256];
         let mut sounds = [9999; 256];
-        let answer = ours::plan(&list, group, keys, &notes, &detunings, &mut at, &mut sounds);
+        let answer = ours::plan(&list, group, keys, &notes, &detunings, &ALL, &mut at, &mut sounds);
         let mut same = answer == expected(&rust) && same_places(&rust, &at, &sounds);
         if rust.tuned {
-            for (channel, entries) in rust.entries.iter().enumerate() {
-                same &= ours::entries(&list, group, keys, &notes, &detunings, channel as u8) == *entries;
-                fed.meets("channels' detunings");
+            // Each entry is asked for from behind the one before it; behind the last there is none, and none on the channel behind the last.
+            let mut asked = vec![(rust.count as u8, i32::MIN)];
+            let mut entries = vec![None];
+            for (channel, listed) in rust.entries.iter().enumerate() {
+                let mut from = -300;
+                for &(of, detuning) in listed {
+                    asked.push((channel as u8, from));
+                    entries.push(Some((of, detuning)));
+                    fed.meets("detunings of a group on a channel");
+                    from = of + 1;
+                }
+                asked.push((channel as u8, from));
+                entries.push(None);
             }
-            same &= ours::entries(&list, group, keys, &notes, &detunings, rust.count as u8).is_empty();
+            same &= ours::entries(&list, group, keys, &notes, &detunings, &asked) == entries;
         } else {
             fed.meets("untuned");
         }
@@ -169,7 +190,7 @@ fn compare(fed: &mut Row, by_pitch: &mut Row, keys: &[u8], pitches: &[f64], pres
         }
 
         by_pitch.cases += 1;
-        let answer = ours::plan_of_pitches(&list, group, keys, pitches, &mut at, &mut sounds);
+        let answer = ours::plan_of_pitches(&list, group, keys, pitches, &ALL, &mut at, &mut sounds);
         if answer == expected(&rust) && same_places(&rust, &at, &sounds) {
             continue;
         }
@@ -279,9 +300,9 @@ fn damaged(row: &mut Row, chance: &mut Chance) {
         let mut sounds = [9999; 256];
         for by_pitch in [false, true] {
             let (answer, judged) = if by_pitch {
-                (ours::plan_of_pitches(&[0, 1, 2], group, &keys, &pitches, &mut at, &mut sounds), judge_pitches(&keys, &pitches))
+                (ours::plan_of_pitches(&[0, 1, 2], group, &keys, &pitches, &ALL, &mut at, &mut sounds), judge_pitches(&keys, &pitches))
             } else {
-                (ours::plan(&[0, 1, 2], group, &keys, &notes, &detunings, &mut at, &mut sounds), judge_notes(&keys, &notes, &detunings))
+                (ours::plan(&[0, 1, 2], group, &keys, &notes, &detunings, &ALL, &mut at, &mut sounds), judge_notes(&keys, &notes, &detunings))
             };
             row.cases += 1;
             let wrong = match (answer, judged) {
@@ -342,7 +363,7 @@ fn walked(row: &mut Row, chance: &mut Chance) {
         let list: Vec<u8> = (0..16).collect();
         let mut at = [99; 256];
         let mut sounds = [9999; 256];
-        let answer = ours::plan(&list, group, &keys, &notes, &detunings, &mut at, &mut sounds);
+        let answer = ours::plan(&list, group, &keys, &notes, &detunings, &ALL, &mut at, &mut sounds);
         let (count, places) = walk(&keys, &notes, &detunings, group);
         row.cases += 1;
         let same = if count <= 16 {

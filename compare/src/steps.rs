@@ -11,7 +11,7 @@ use tune::tuner::TunableSynth;
 
 use crate::inputs::Chance;
 use crate::inputs::step;
-use crate::ours;
+use crate::ours::Values;
 use crate::report::Kind;
 use crate::report::Row;
 use crate::report::progress;
@@ -40,12 +40,17 @@ pub fn bend(detuning: f64) -> i32 {
 }
 
 fn compare(row: &mut Row, is_bend: bool, detunings: &[f64]) {
-    let mut values = vec![0; detunings.len()];
-    ours::values(is_bend, detunings, &mut values);
-    for (&detuning, value) in detunings.iter().zip(values) {
+    let mut ours = Values::room(detunings.len());
+    ours.find(detunings);
+    for (i, &detuning) in detunings.iter().enumerate() {
         row.cases += 1;
-        let rust = if is_bend { bend(detuning) } else { fine(detuning) };
+        let value: i32 = if is_bend { ours.bends[i].into() } else { ours.fines[i].into() };
+        let rust: i32 = if is_bend { bend(detuning) } else { fine(detuning) };
         let told = || format!("{detuning:?}: {value}; the Rust: {rust}");
+        if ours.refusals[i] != 0 {
+            row.differs(Kind::Unexpected, 0, || format!("{detuning:?}: refused"));
+            continue;
+        }
         if value == rust {
             continue;
         }
@@ -103,15 +108,12 @@ pub fn run(chance: &mut Chance, rows: &mut Vec<Row>) {
 
     let mut row = Row::new("values: detunings that have no logarithm");
     let bad = [0.0, -0.0, -1.0, f64::NAN, f64::INFINITY, f64::NEG_INFINITY, -5e-324];
-    for is_bend in [false, true] {
-        let mut values = [0; 7];
-        ours::values(is_bend, &bad, &mut values);
-        for (detuning, value) in bad.iter().zip(values) {
-            row.cases += 1;
-            let rust = if is_bend { bend(*detuning) } else { fine(*detuning) };
-            let told = || format!("{detuning:?}: {value}; the Rust sends {rust}");
-            row.differs(if value == ours::REFUSED + 2 { Kind::Refusal } else { Kind::Unexpected }, 0, told);
-        }
+    let mut ours = Values::room(bad.len());
+    ours.find(&bad);
+    for (&detuning, refusal) in bad.iter().zip(ours.refusals) {
+        row.cases += 1;
+        let kind = if refusal == 2 { Kind::Refusal } else { Kind::Unexpected };
+        row.differs(kind, 0, || format!("{detuning:?}: refusal {refusal}; the Rust sends {} and {}", fine(detuning), bend(detuning)));
     }
     rows.push(row);
 }

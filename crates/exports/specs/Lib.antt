@@ -2,3 +2,4 @@
 pub mod Lent
 pub mod Numbers
 pub mod Events
+pub mod Plans
