@@ -37,13 +37,9 @@ pub extern "C" fn tune_nearest_notes(
     notes: &mut [i32],
     detunings: &mut [f64],
 )
-    ensures {
-        λ _. ⌜ now (refusals .exit) ≡ filled (λ i. nearestAt (now (pitches .entry)) i .refusal) (length (now (pitches .entry))) (now (refusals .entry)) ⌝
-    }
+    ensures { λ _. ⌜ now (refusals .exit) ≡ filled (λ i. nearestAt (now (pitches .entry)) i .refusal) (length (now (pitches .entry))) (now (refusals .entry)) ⌝ }
     ensures { λ _. ⌜ now (notes .exit) ≡ filled (λ i. nearestAt (now (pitches .entry)) i .note) (length (now (pitches .entry))) (now (notes .entry)) ⌝ }
-    ensures {
-        λ _. ⌜ now (detunings .exit) ≡ filled (λ i. nearestAt (now (pitches .entry)) i .detuning) (length (now (pitches .entry))) (now (detunings .entry)) ⌝
-    }
+    ensures { λ _. ⌜ now (detunings .exit) ≡ filled (λ i. nearestAt (now (pitches .entry)) i .detuning) (length (now (pitches .entry))) (now (detunings .entry)) ⌝ }
 {
     let n = pitches.len();
     let mut i: usize = 0;
@@ -64,15 +60,9 @@ pub extern "C" fn tune_values(
     fines: &mut [u16],
     bends: &mut [i16],
 )
-    ensures {
-        λ _. ⌜ now (refusals .exit) ≡ filled (λ i. refusalOf (tuningAt FineTuning (now (detunings .entry)) i)) (length (now (detunings .entry))) (now (refusals .entry)) ⌝
-    }
-    ensures {
-        λ _. ⌜ now (fines .exit) ≡ filled (λ i. fineOf (tuningAt FineTuning (now (detunings .entry)) i)) (length (now (detunings .entry))) (now (fines .entry)) ⌝
-    }
-    ensures {
-        λ _. ⌜ now (bends .exit) ≡ filled (λ i. bendOf (tuningAt Bend (now (detunings .entry)) i)) (length (now (detunings .entry))) (now (bends .entry)) ⌝
-    }
+    ensures { λ _. ⌜ now (refusals .exit) ≡ filled (λ i. refusalOf (tuningAt FineTuning (now (detunings .entry)) i)) (length (now (detunings .entry))) (now (refusals .entry)) ⌝ }
+    ensures { λ _. ⌜ now (fines .exit) ≡ filled (λ i. fineOf (tuningAt FineTuning (now (detunings .entry)) i)) (length (now (detunings .entry))) (now (fines .entry)) ⌝ }
+    ensures { λ _. ⌜ now (bends .exit) ≡ filled (λ i. bendOf (tuningAt Bend (now (detunings .entry)) i)) (length (now (detunings .entry))) (now (bends .entry)) ⌝ }
 {
     let n = detunings.len();
     let mut i: usize = 0;

@@ -55,16 +55,14 @@ pub extern "C" fn tune_plan(
     seat_channels: &mut [u8],
     seat_notes: &mut [i32],
 ) -> u16
-    ensures {
-        λ r.
+    ensures { λ r.
         let opened = openRule (now (channels .entry)) (groupOf «group_by») in
         let plan = setTuning (opened .0) (now (keys .entry)) (now (notes .entry)) (now (detunings .entry)) in
         let n = length (now (asked .entry)) in
         ⌜ (r ≡ countOf (plan .1))
-          × (now (kind .exit) ≡ set (now (kind .entry)) 0 (kindOf (opened .1) (plan .1)))
-          × (now («seat_channels» .exit) ≡ filled (λ i. seatAt (plan .0) (now (asked .entry)) i .channel) n (now («seat_channels» .entry)))
-          × (now («seat_notes» .exit) ≡ filled (λ i. seatAt (plan .0) (now (asked .entry)) i .note) n (now («seat_notes» .entry))) ⌝
-    }
+        × (now (kind .exit) ≡ set (now (kind .entry)) 0 (kindOf (opened .1) (plan .1)))
+        × (now («seat_channels» .exit) ≡ filled (λ i. seatAt (plan .0) (now (asked .entry)) i .channel) n (now («seat_channels» .entry)))
+        × (now («seat_notes» .exit) ≡ filled (λ i. seatAt (plan .0) (now (asked .entry)) i .note) n (now («seat_notes» .entry))) ⌝ }
 {
     let opened = AotTuningModel::open(channels, group_of(group_by));
     let listed = opened.answer;
@@ -89,16 +87,14 @@ pub extern "C" fn tune_plan_of_pitches(
     seat_channels: &mut [u8],
     seat_notes: &mut [i32],
 ) -> u16
-    ensures {
-        λ r.
+    ensures { λ r.
         let opened = openRule (now (channels .entry)) (groupOf «group_by») in
         let plan = setTuningOfPitches (opened .0) (now (keys .entry)) (now (pitches .entry)) in
         let n = length (now (asked .entry)) in
         ⌜ (r ≡ countOf (plan .1))
-          × (now (kind .exit) ≡ set (now (kind .entry)) 0 (kindOf (opened .1) (plan .1)))
-          × (now («seat_channels» .exit) ≡ filled (λ i. seatAt (plan .0) (now (asked .entry)) i .channel) n (now («seat_channels» .entry)))
-          × (now («seat_notes» .exit) ≡ filled (λ i. seatAt (plan .0) (now (asked .entry)) i .note) n (now («seat_notes» .entry))) ⌝
-    }
+        × (now (kind .exit) ≡ set (now (kind .entry)) 0 (kindOf (opened .1) (plan .1)))
+        × (now («seat_channels» .exit) ≡ filled (λ i. seatAt (plan .0) (now (asked .entry)) i .channel) n (now («seat_channels» .entry)))
+        × (now («seat_notes» .exit) ≡ filled (λ i. seatAt (plan .0) (now (asked .entry)) i .note) n (now («seat_notes» .entry))) ⌝ }
 {
     let opened = AotTuningModel::open(channels, group_of(group_by));
     let listed = opened.answer;
@@ -126,35 +122,33 @@ pub extern "C" fn tune_entries(
     entry_groups: &mut [i32],
     entry_detunings: &mut [f64],
 )
-    ensures {
-        λ r.
+    ensures { λ r.
         let plan = setTuning (openRule (now (channels .entry)) (groupOf «group_by») .0) (now (keys .entry)) (now (notes .entry)) (now (detunings .entry)) in
         let entry = entryFrom (plan .0) (now («asked_channels» .entry)) (now («asked_groups» .entry)) in
         let n = length (now («asked_channels» .entry)) in
         ⌜ (now («entry_kinds» .exit) ≡ filled (λ i. entry i .kind) n (now («entry_kinds» .entry)))
-          × (now («entry_groups» .exit) ≡ filled (λ i. entry i .group) n (now («entry_groups» .entry)))
-          × (now («entry_detunings» .exit) ≡ filled (λ i. entry i .detuning) n (now («entry_detunings» .entry))) ⌝
-    }
+        × (now («entry_groups» .exit) ≡ filled (λ i. entry i .group) n (now («entry_groups» .entry)))
+        × (now («entry_detunings» .exit) ≡ filled (λ i. entry i .detuning) n (now («entry_detunings» .entry))) ⌝ }
 {
     let opened = AotTuningModel::open(channels, group_of(group_by));
     let model = opened.model;
     let planned = model.set_tuning(keys, notes, detunings);
     let next = planned.model;
-    list_entries(next, asked_channels, asked_groups, entry_kinds, entry_groups, entry_detunings);
+    list_entries(
+        next,
+        asked_channels,
+        asked_groups,
+        entry_kinds,
+        entry_groups,
+        entry_detunings,
+    );
 }
 
-fn look_up(
-    model: AotTuningModel,
-    asked: &[u8],
-    seat_channels: &mut [u8],
-    seat_notes: &mut [i32],
-)
-    ensures {
-        λ r.
+fn look_up(model: AotTuningModel, asked: &[u8], seat_channels: &mut [u8], seat_notes: &mut [i32])
+    ensures { λ r.
         let n = length (now (asked .entry)) in
         ⌜ (now («seat_channels» .exit) ≡ filled (λ i. seatAt (modelOf model) (now (asked .entry)) i .channel) n (now («seat_channels» .entry)))
-          × (now («seat_notes» .exit) ≡ filled (λ i. seatAt (modelOf model) (now (asked .entry)) i .note) n (now («seat_notes» .entry))) ⌝
-    }
+        × (now («seat_notes» .exit) ≡ filled (λ i. seatAt (modelOf model) (now (asked .entry)) i .note) n (now («seat_notes» .entry))) ⌝ }
 {
     let n = asked.len();
     let mut i: usize = 0;
@@ -174,19 +168,20 @@ fn list_entries(
     entry_groups: &mut [i32],
     entry_detunings: &mut [f64],
 )
-    ensures {
-        λ r.
+    ensures { λ r.
         let entry = entryFrom (modelOf model) (now («asked_channels» .entry)) (now («asked_groups» .entry)) in
         let n = length (now («asked_channels» .entry)) in
         ⌜ (now («entry_kinds» .exit) ≡ filled (λ i. entry i .kind) n (now («entry_kinds» .entry)))
-          × (now («entry_groups» .exit) ≡ filled (λ i. entry i .group) n (now («entry_groups» .entry)))
-          × (now («entry_detunings» .exit) ≡ filled (λ i. entry i .detuning) n (now («entry_detunings» .entry))) ⌝
-    }
+        × (now («entry_groups» .exit) ≡ filled (λ i. entry i .group) n (now («entry_groups» .entry)))
+        × (now («entry_detunings» .exit) ≡ filled (λ i. entry i .detuning) n (now («entry_detunings» .entry))) ⌝ }
 {
     let n = asked_channels.len();
     let mut i: usize = 0;
     while i < n {
-        let entry = entry_of(model.next_detuning(byte_at(asked_channels, i), number_at(asked_groups, i)));
+        let entry = entry_of(model.next_detuning(
+            byte_at(asked_channels, i),
+            number_at(asked_groups, i),
+        ));
         put_byte(entry_kinds, i, entry.kind);
         put_number(entry_groups, i, entry.group);
         put_float(entry_detunings, i, entry.detuning);

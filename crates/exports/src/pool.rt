@@ -8,7 +8,18 @@ ghost use Rattle.models.specs.View.{view, place, press, repitched, stoppedNote}
 ghost use Rattle.models.specs.ChannelList.{channelsAnswer};
 ghost use Rattle.exports.specs.Lent.{filled};
 ghost use Rattle.exports.specs.Events.{
-    groupOf, modeOf, noPlace, noteOr, pressAnswer, placeAnswer, repitchAnswer, listRefusal, happens, Events, answerTo, playedOf,
+  groupOf,
+  modeOf,
+  noPlace,
+  noteOr,
+  pressAnswer,
+  placeAnswer,
+  repitchAnswer,
+  listRefusal,
+  happens,
+  Events,
+  answerTo,
+  playedOf,
 };
 use crate::lent::byte_at;
 use crate::lent::float_at;
@@ -71,17 +82,15 @@ pub extern "C" fn tune_pool(
     answer_detunings: &mut [f64],
 ) -> u8
     ensures { λ r. ⌜ r ≡ listRefusal (openRule (now (channels .entry)) (groupOf letters) (modeOf mode) .0) ⌝ }
-    ensures {
-        λ r.
+    ensures { λ r.
         let heard = answerTo (openRule (now (channels .entry)) (groupOf letters) (modeOf mode) .1)
-            (record { kinds = now (kinds .entry); keys = now (keys .entry); pitches = now (pitches .entry) }) in
+        (record { kinds = now (kinds .entry); keys = now (keys .entry); pitches = now (pitches .entry) }) in
         let n = length (now (kinds .entry)) in
         ⌜ (now («answer_kinds» .exit) ≡ filled (λ i. heard i .kind) n (now («answer_kinds» .entry)))
-          × (now («answer_channels» .exit) ≡ filled (λ i. heard i .channel) n (now («answer_channels» .entry)))
-          × (now («answer_notes» .exit) ≡ filled (λ i. heard i .note) n (now («answer_notes» .entry)))
-          × (now («answer_stopped» .exit) ≡ filled (λ i. heard i .stopped) n (now («answer_stopped» .entry)))
-          × (now («answer_detunings» .exit) ≡ filled (λ i. heard i .detuning) n (now («answer_detunings» .entry))) ⌝
-    }
+        × (now («answer_channels» .exit) ≡ filled (λ i. heard i .channel) n (now («answer_channels» .entry)))
+        × (now («answer_notes» .exit) ≡ filled (λ i. heard i .note) n (now («answer_notes» .entry)))
+        × (now («answer_stopped» .exit) ≡ filled (λ i. heard i .stopped) n (now («answer_stopped» .entry)))
+        × (now («answer_detunings» .exit) ≡ filled (λ i. heard i .detuning) n (now («answer_detunings» .entry))) ⌝ }
 {
     let opened = JitTuningModel::open(channels, group_of(letters), mode_of(mode));
     let listed = opened.answer;
@@ -89,7 +98,12 @@ pub extern "C" fn tune_pool(
     let n = kinds.len();
     let mut i: usize = 0;
     while i < n {
-        let played = play(model, byte_at(kinds, i), byte_at(keys, i), float_at(pitches, i));
+        let played = play(
+            model,
+            byte_at(kinds, i),
+            byte_at(keys, i),
+            float_at(pitches, i),
+        );
         let answer = played.answer;
         put_byte(answer_kinds, i, answer.kind);
         put_byte(answer_channels, i, answer.channel);

@@ -23,13 +23,13 @@ enum-known-number c = search needs
 
 returns : tie.Need-returns
 unfolding foundNote
-returns c = 
+returns c =
     let told = sym (ap approximation (c .before .note .given .1)) ∙ c .before .before .before .find-by-pitch .ensures ∙ ap nearestRule (c .before .before .before .before .from-hz .ensures) in
     rw (sym told, toZ-ofZ {w = w32} {z = c .before .note .given .0 .0} (record { sfits = c .known-told .given .0 .1 }))
 
 returns-2 : tie.Need-returns-2
 unfolding foundNote
-returns-2 c = 
+returns-2 c =
     let told = sym (ap approximation (c .before .number .given .1)) ∙ c .before .before .before .find-by-pitch .ensures ∙ ap nearestRule (c .before .before .before .before .from-hz .ensures) in
     rw (sym told)
 

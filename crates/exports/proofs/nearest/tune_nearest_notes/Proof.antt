@@ -50,7 +50,7 @@ loop-less : tie.Need-loop-less Inv-loop μ-loop
 loop-less c = omega arith
 
 loop-again : tie.Need-loop-again Inv-loop μ-loop
-loop-again c = 
+loop-again c =
     let start = c .before .before .before .before .before .before .before .before .before .before .before .before .before .before .before .before .before .before .before in
     let pitches = start .args .pitches .now in
     let i = c .before .before .before .before .before .before .before .before .before .before .before .before .before .before .before .loop .i in
@@ -73,7 +73,7 @@ same-length-3 : tie.Need-same-length-3 Inv-loop μ-loop
 same-length-3 c = ap length (c .before .loop .inv .3) ∙ length-filled _ _ _
 
 returns : tie.Need-returns Inv-loop μ-loop
-returns c = 
+returns c =
     let start = c .before .before .before .before .before .args in
     let pitches = start .pitches .now in
     let l = c .before .loop in

@@ -20,7 +20,7 @@ press-answer-requires c κs = search needs
 
 returns : tie.Need-returns
 unfolding happens playedOf told
-returns c = 
+returns c =
     let s = c .before .before .before .before .before .args in
     let e = c .before .before .register-key .ensures ∙ ap (λ (hz : Float). replied (view (s .model)) (registerRule (view (s .model)) (s .key) hz)) (c .before .before .before .from-hz .ensures) in
     rw (eq-eqb _ _ (c .before .before .before .before .if1 .taken), c .press-answer .ensures) (ap (λ r. (pressAnswer (r .0), r .1)) e)
@@ -33,7 +33,7 @@ place-answer-requires c κs = search needs
 
 returns-2 : tie.Need-returns-2
 unfolding happens playedOf
-returns-2 c = 
+returns-2 c =
     let e = c .before .before .deregister-key .ensures in
     rw (ne-eqb _ _ (c .before .before .before .before .if1 .left), eq-eqb _ _ (c .before .before .before .if2 .taken), c .place-answer .ensures, e .0, e .1)
 
@@ -48,7 +48,7 @@ repitch-answer-requires c κs = search needs
 
 returns-3 : tie.Need-returns-3
 unfolding happens playedOf
-returns-3 c = 
+returns-3 c =
     rw (ne-eqb _ _ (c .before .before .before .before .before .if1 .left), ne-eqb _ _ (c .before .before .before .before .if2 .left), eq-eqb _ _ (c .before .before .before .if3 .taken), c .repitch-answer .ensures, c .before .repitch-key .ensures, c .before .before .from-hz2 .ensures)
 
 access-key-requires : tie.Need-access-key-requires
@@ -59,7 +59,7 @@ place-answer-requires-2 c κs = search needs
 
 returns-4 : tie.Need-returns-4
 unfolding happens playedOf
-returns-4 c = 
+returns-4 c =
     rw (ne-eqb _ _ (c .before .before .before .before .if1 .left), ne-eqb _ _ (c .before .before .before .if2 .left), ne-eqb _ _ (c .before .before .if3 .left), c .place-answer2 .ensures, c .before .access-key .ensures)
 
 pub play-spec : {M : Type 1} → statement M

@@ -27,7 +27,7 @@ no-place-requires-2 c κs = search needs
 
 returns : tie.Need-returns
 unfolding pressAnswer press
-returns c = 
+returns c =
     let note = toZ-ofZ {w = w32} {z = c .before .before .result .given .0 .1 .1 .0} (record { sfits = c .before .known-told .given .1 .1 .0 .1 }) in
     rw (c .before .before .result .given .1, note, toZ-ofZ {w = w32} {z = c .note-or .result} (record { sfits = c .note-or .ok }), c .note-or .ensures)
 

@@ -92,7 +92,7 @@ played c = c .before .before .before .before .before .before .before .before .be
     ∙ rw (c .before .before .before .before .before .before .before .before .before .before .before .before .before .before .before .before .before .before .before .before .before .before .before .before .before .byte-at .ensures, c .before .before .before .before .before .before .before .before .before .before .before .before .before .before .before .before .before .before .before .before .before .before .before .before .byte-at2 .ensures, c .before .before .before .before .before .before .before .before .before .before .before .before .before .before .before .before .before .before .before .before .before .before .before .float-at .ensures, c .before .before .before .before .before .before .before .before .before .before .before .before .before .before .before .before .before .before .before .before .before .before .before .before .before .before .before .loop .inv .1)
 
 loop-again : tie.Need-loop-again Inv-loop μ-loop
-loop-again c = 
+loop-again c =
     let start = c .before .before .before .before .before .before .before .before .before .before .before .before .before .before .before .before .before .before .before .before .before .before .before .before .before .before .before .before .before .before .before .before .before .before .before .before .before .before .before in
     let es : Events = record { kinds = start .args .kinds .now; keys = start .args .keys .now; pitches = start .args .pitches .now } in
     let s = view (c .before .before .before .before .before .before .before .before .before .before .before .before .before .before .before .before .before .before .before .before .before .before .before .before .before .before .before .before .before .«open» .result .model) in
@@ -128,15 +128,15 @@ same-length-5 c = ap length (c .before .before .loop .inv .6) ∙ length-filled 
 
 returns : tie.Need-returns Inv-loop μ-loop
 unfolding opened
-returns c = 
+returns c =
     let start = c .before .before .before .before .before .before .before .before .before .before .before .before .before .before .args in
     let cs = start .channels .now in
     let es : Events = record { kinds = start .kinds .now; keys = start .keys .now; pitches = start .pitches .now } in
     let l = c .before .before .loop in
     let all : l .i ≡ length (es .kinds) = omega (arith, c .before .loop-test .left, l .inv .0) in
     let fresh = c .before .before .before .before .«open» .ensures
-        ∙ ap (λ (g : PoolGroupBy). openRule cs g (c .before .before .before .before .before .mode-of .result)) (c .before .before .before .before .before .before .group-of .ensures)
-        ∙ ap (openRule cs (groupOf (start .letters))) (c .before .before .before .before .before .mode-of .ensures) in
+    ∙ ap (λ (g : PoolGroupBy). openRule cs g (c .before .before .before .before .before .mode-of .result)) (c .before .before .before .before .before .before .group-of .ensures)
+    ∙ ap (openRule cs (groupOf (start .letters))) (c .before .before .before .before .before .mode-of .ensures) in
     let s = view (c .before .before .before .before .«open» .result .model) in
     let state = ap (λ r. r .1) fresh in (
       c .list-refusal .ensures ∙ ap (λ r. listRefusal (r .0)) fresh,
