@@ -1,6 +1,6 @@
 //! Runs the port and the Rust that it replaces on the same inputs, and says where they differ.
 //!
-//! `compare all SEED`, `compare speed DIR`, `compare lists DIR`; `compare/run` builds and runs it.
+//! `compare/run` builds and runs it.
 
 mod inputs;
 mod nearest;
@@ -8,6 +8,7 @@ mod ours;
 mod plans;
 mod pools;
 mod report;
+mod speed;
 mod steps;
 
 use inputs::Chance;
@@ -36,8 +37,11 @@ fn main() {
             }
             println!("compare: ok");
         }
+        // One run of each side, for a profiler: `compare once plan|pool|nearest port|rust`.
+        Some("once") => speed::once(word(1).unwrap_or(""), word(2) == Some("port")),
+        Some("speed") => speed::run(word(1).unwrap_or("target/speed").as_ref()),
         _ => {
-            eprintln!("usage: compare all [SEED]");
+            eprintln!("usage: compare all [SEED] | speed [FOLDER] | lists FOLDER | once plan|pool|nearest port|rust");
             std::process::exit(2);
         }
     }

@@ -8,6 +8,7 @@ use std::hint::black_box;
 use std::path::Path;
 use std::time::Instant;
 
+use tune::mts;
 use tune::pitch::Pitch;
 use tune::pitch::Ratio;
 use tune::tuner::AotTuningModel;
@@ -175,6 +176,50 @@ fn plot(title: &str, sizes: &[usize], lines: &[(&str, &str, Vec<f64>)]) -> Strin
     svg + "</svg>\n"
 }
 
+/// One side alone, a thousand times, for a profiler.
+pub fn once(what: &str, port: bool) {
+    let mut chance = Chance(20261103);
+    let (keys, pitches) = keys_and_pitches(256, 31);
+    let list: Vec<u8> = (0..16).collect();
+    let mapping = plans::mapping(&keys, &pitches);
+    let mut found = Nearest::room(256);
+    let mut events = Events::default();
+    for i in 0..1000usize {
+        if i >= 16 {
+            events.push(ours::RELEASE, ((i - 16) % 256) as u8, 0.0);
+        }
+        events.push(ours::PRESS, (i % 256) as u8, chance.pitch());
+    }
+    events.ready();
+    match (what, port) {
+        ("plan", true) => (0..1000).for_each(|_| {
+            black_box(ours::plan_of_pitches(&list, 0, &keys, &pitches, &[], &mut [], &mut []));
+        }),
+        ("plan", false) => (0..1000).for_each(|_| {
+            black_box(AotTuningModel::apply_tuning(GROUPS[0].1, &mapping, keys.iter().copied()));
+        }),
+        ("nearest", true) => (0..1000).for_each(|_| found.find(black_box(&pitches))),
+        ("nearest", false) => (0..1000).for_each(|_| {
+            for &hz in black_box(&pitches) {
+                black_box(nearest::found(hz));
+            }
+        }),
+        ("pool", true) => (0..100).for_each(|_| {
+            black_box(events.play(&list, false, 1));
+        }),
+        _ => (0..100).for_each(|_| {
+            let mut model = JitTuningModel::new(16, pools::rust_group(false), pools::rust_mode(1));
+            for i in 0..events.kinds.len() {
+                if events.kinds[i] == ours::PRESS {
+                    black_box(model.register_key(events.keys[i], Pitch::from_hz(events.pitches[i])));
+                } else {
+                    black_box(model.deregister_key(events.keys[i]));
+                }
+            }
+        }),
+    }
+}
+
 pub fn run(folder: &Path) {
     let mut chance = Chance(20261103);
     let mut table = Table { text: String::from("| what | port | Rust | the Rust's time over the port's |\n|---|---|---|---|\n"), slower: Vec::new() };
@@ -193,14 +238,14 @@ pub fn run(folder: &Path) {
     ));
     let detunings: Vec<f64> = (0..4096).map(|_| ((chance.unit() - 0.5) / 12.0).exp2()).collect();
     let mut values = Values::room(detunings.len());
-    table.line("fine value and bend (two logarithms)", measure(
+    table.line("fine value and bend (the Rust: fine tuning and a second `log2`)", measure(
         detunings.len(),
         || values.find(black_box(&detunings)),
         || {
             for &detuning in black_box(&detunings) {
-                // The same two numbers, without the messages around them.
-                black_box((((Ratio::from_float(detuning).as_semitones() + 1.0) * 8192.0) as u16).min(16383));
-                black_box(((Ratio::from_float(detuning).as_semitones() / 2.0 * 8192.0) as i16).clamp(-8192, 8192));
+                let ratio = Ratio::from_float(detuning);
+                black_box(mts::channel_fine_tuning(0, ratio));
+                black_box(ratio.as_semitones());
             }
         },
     ));
