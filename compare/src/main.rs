@@ -3,6 +3,7 @@
 //! `compare/run` builds and runs it.
 
 mod inputs;
+mod lists;
 mod nearest;
 mod ours;
 mod plans;
@@ -39,6 +40,7 @@ fn main() {
         }
         // One run of each side, for a profiler: `compare once plan|pool|nearest port|rust`.
         Some("once") => speed::once(word(1).unwrap_or(""), word(2) == Some("port")),
+        Some("lists") => lists::write(word(1).unwrap_or("crates/replay_rust").as_ref()),
         Some("speed") => speed::run(word(1).unwrap_or("target/speed").as_ref()),
         _ => {
             eprintln!("usage: compare all [SEED] | speed [FOLDER] | lists FOLDER | once plan|pool|nearest port|rust");
