@@ -1,6 +1,6 @@
 //! A sample of the Rust's answers, as a list that a program of the repository replays with no Rust at hand: its standard input, and what it must write.
 //!
-//! Pitches are whole millihertz and detunings whole millionths. Where the two differ by document 01's rules (a note beside a boundary, one step), the
+//! Pitches are whole millihertz, of at most 32 bits, and detunings whole millionths. Where the two differ by document 01's rules (a note beside a boundary, one step), the
 //! case is left out, and how many were is said.
 
 use std::fmt::Write as _;
@@ -101,7 +101,7 @@ pub fn write(folder: &Path) {
     let mut chance = Chance(20261103);
     let mut list = List::default();
     for _ in 0..400 {
-        let pitch = if chance.below(2) == 0 { chance.pitch() } else { chance.any_pitch().clamp(0.001, 900_000_000.0) };
+        let pitch = if chance.below(2) == 0 { chance.pitch() } else { chance.any_pitch().clamp(0.001, 4_000_000.0) };
         if let Some((millihertz, hz)) = sure(&mut list, pitch) {
             list.push(&format!("1 {millihertz}"), &format!("note {}", nearest::found(hz).0));
         }

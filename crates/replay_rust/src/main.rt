@@ -29,7 +29,7 @@ use show::word;
 const CHANNELS: [u8; 16] = [0, 1, 2, 3, 4, 5, 6, 7, 8, 9, 10, 11, 12, 13, 14, 15];
 
 // A number of the input, and the place behind it.
-struct Read {
+struct Taken {
     value: u64,
     at: usize,
 }
@@ -70,7 +70,7 @@ fn replay_one(text: &[u8], at: usize) -> usize {
 }
 
 // The next number: its digits, behind what is no digit.
-fn read(text: &[u8], from: usize) -> Read {
+fn read(text: &[u8], from: usize) -> Taken {
     let n = text.len();
     let mut at = from;
     let mut value: u64 = 0;
@@ -82,12 +82,12 @@ fn read(text: &[u8], from: usize) -> Read {
             begun = true;
         } else {
             if begun {
-                return Read { value, at };
+                return Taken { value, at };
             }
         }
         at += 1;
     }
-    Read { value, at }
+    Taken { value, at }
 }
 
 fn is_digit(byte: u8) -> bool {
@@ -101,8 +101,14 @@ fn with_digit(value: u64, byte: u8) -> u64 {
     value % 1000000000000 * 10 + (byte - 48) as u64
 }
 
+// The list has no number of more than 32 bits.
+fn float(value: u64) -> f64 {
+    let low = (value % 4294967296) as u32;
+    low as f64
+}
+
 fn hertz(millihertz: u64) -> f64 {
-    millihertz as f64 / 1000.0
+    float(millihertz) / 1000.0
 }
 
 fn low_byte(value: u64) -> u8 {
@@ -123,7 +129,7 @@ fn nearest(text: &[u8], at: usize) -> usize {
 // A detuning in millionths: its fine value and its bend.
 fn values(text: &[u8], at: usize) -> usize {
     let detuning = read(text, at);
-    let ratio = detuning.value as f64 / 1000000.0;
+    let ratio = float(detuning.value) / 1000000.0;
     word(b"values");
     value(tuning_of(TuningKind::FineTuning, ratio));
     value(tuning_of(TuningKind::Bend, ratio));
@@ -134,10 +140,14 @@ fn value(answer: TuningAnswer) {
     match answer {
         TuningAnswer::Value(tuning) => match tuning {
             Tuning::Fine(n) => number(n as u64),
-            Tuning::Bend(n) => signed(n as i32),
+            Tuning::Bend(n) => bend(n),
         },
         TuningAnswer::Refused(n) => refusal(n),
     }
+}
+
+fn bend(n: i16) {
+    signed(n as i32);
 }
 
 // The kind of group, the count of channels, the count of keys, and each key with its pitch in millihertz: the answer, and each key's channel and note.
