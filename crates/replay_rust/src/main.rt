@@ -10,6 +10,7 @@ use libc::STDIN_FILENO;
 use models::aot::Access;
 use models::aot::AotTuningModel;
 use models::aot::GroupBy;
+use models::aot::SetTuning;
 use models::aot::Tuning as Plan;
 use models::jit::JitTuningModel;
 use models::jit::PoolGroupBy;
@@ -37,7 +38,11 @@ struct Taken {
 fn main() {
     let mut buffer = io::large_buffer();
     let n = io::read_full(STDIN_FILENO, &mut buffer);
-    if n <= 65536 {
+    replay_first(&buffer, n);
+}
+
+fn replay_first(buffer: &[u8], n: usize) {
+    if n <= buffer.len() {
         replay(&buffer[..n]);
     }
 }
@@ -111,6 +116,17 @@ fn hertz(millihertz: u64) -> f64 {
     float(millihertz) / 1000.0
 }
 
+// The number, or 0 where it is larger than the most.
+fn cut(value: u64, most: usize) -> usize
+    ensures { λ r. ⌜ r ≤ most ⌝ }
+{
+    let small = value as usize;
+    if small <= most {
+        return small;
+    }
+    0
+}
+
 fn low_byte(value: u64) -> u8 {
     (value % 256) as u8
 }
@@ -155,15 +171,32 @@ fn plan(text: &[u8], at: usize) -> usize {
     let group = read(text, at);
     let present = read(text, group.at);
     let lines = read(text, present.at);
-    let channels = (present.value % 17) as usize;
-    let n = (lines.value % 257) as usize;
+    let n = cut(lines.value, 256);
     let mut keys = [0u8; 256];
     let mut pitches = [0.0; 256];
     let end = lines_of(text, lines.at, n, &mut keys, &mut pitches);
-    let opened = AotTuningModel::open(&CHANNELS[..channels], group_by(group.value));
-    let model = opened.model;
-    let planned = model.set_tuning_of_pitches(&keys[..n], &pitches[..n]);
+    let model = opened_plan(&CHANNELS, present.value, group_by(group.value));
+    let planned = planned(model, &keys, &pitches, lines.value);
     let answer = planned.answer;
+    told(answer);
+    let next = planned.model;
+    seats(next, &keys, lines.value);
+    end
+}
+
+fn opened_plan(channels: &[u8], present: u64, group_by: GroupBy) -> AotTuningModel {
+    let n = cut(present, channels.len());
+    let opened = AotTuningModel::open(&channels[..n], group_by);
+    opened.model
+}
+
+fn planned(model: AotTuningModel, keys: &[u8], pitches: &[f64], lines: u64) -> SetTuning {
+    let n = cut(lines, keys.len());
+    let m = cut(lines, pitches.len());
+    model.set_tuning_of_pitches(&keys[..n], &pitches[..m])
+}
+
+fn told(answer: Plan) {
     match answer {
         Plan::Tuned(count) => {
             word(b"tuned");
@@ -175,9 +208,6 @@ fn plan(text: &[u8], at: usize) -> usize {
         }
         Plan::Refused(n) => refusal(n),
     }
-    let next = planned.model;
-    seats(next, &keys[..n]);
-    end
 }
 
 fn group_by(number: u64) -> GroupBy {
@@ -190,30 +220,34 @@ fn group_by(number: u64) -> GroupBy {
     GroupBy::Channel
 }
 
-fn lines_of(
-    text: &[u8],
-    from: usize,
-    n: usize,
-    keys: &mut [u8; 256],
-    pitches: &mut [f64; 256],
-) -> usize
-    requires { ⌜ n ≤ 256 ⌝ }
-{
+fn lines_of(text: &[u8], from: usize, n: usize, keys: &mut [u8], pitches: &mut [f64]) -> usize {
     let mut at = from;
     let mut i: usize = 0;
     while i < n {
         let key = read(text, at);
         let pitch = read(text, key.at);
         at = pitch.at;
-        keys[i] = low_byte(key.value);
-        pitches[i] = hertz(pitch.value);
+        put_key(keys, i, low_byte(key.value));
+        put_pitch(pitches, i, hertz(pitch.value));
         i += 1;
     }
     at
 }
 
-fn seats(model: AotTuningModel, keys: &[u8]) {
-    let n = keys.len();
+fn put_key(keys: &mut [u8], i: usize, key: u8) {
+    if i < keys.len() {
+        keys[i] = key;
+    }
+}
+
+fn put_pitch(pitches: &mut [f64], i: usize, pitch: f64) {
+    if i < pitches.len() {
+        pitches[i] = pitch;
+    }
+}
+
+fn seats(model: AotTuningModel, keys: &[u8], lines: u64) {
+    let n = cut(lines, keys.len());
     let mut i: usize = 0;
     while i < n {
         seat(model.access_key(keys[i]));
@@ -240,14 +274,25 @@ fn pool(text: &[u8], at: usize) -> usize {
     let mode = read(text, letters.at);
     let present = read(text, mode.at);
     let events = read(text, present.at);
-    let channels = (present.value % 17) as usize;
-    let opened = JitTuningModel::open(
-        &CHANNELS[..channels],
+    let model = opened_pool(
+        &CHANNELS,
+        present.value,
         pool_group(letters.value),
         pooling_mode(mode.value),
     );
     word(b"pool");
-    play(opened.model, text, events.at, events.value)
+    play(model, text, events.at, events.value)
+}
+
+fn opened_pool(
+    channels: &[u8],
+    present: u64,
+    group_by: PoolGroupBy,
+    pooling_mode: PoolingMode,
+) -> JitTuningModel {
+    let n = cut(present, channels.len());
+    let opened = JitTuningModel::open(&channels[..n], group_by, pooling_mode);
+    opened.model
 }
 
 fn pool_group(letters: u64) -> PoolGroupBy {

@@ -6,10 +6,13 @@ use Rattle.replay_rust.proofs.seats.Statement.{statement}
 use Rattle.replay_rust.proofs.seats.Tie as tie
 
 abbrev Inv-loop : tie.InvT-loop
-Inv-loop model keys n i₀ i = Unit {0}
+Inv-loop model keys lines n i₀ i = Unit {0}
 
 abbrev μ-loop : tie.MeasureT-loop
-μ-loop model keys n i₀ i = n - i
+μ-loop model keys lines n i₀ i = n - i
+
+cut-requires : tie.Need-cut-requires Inv-loop μ-loop
+cut-requires c κs = search needs
 
 loop-holds : tie.Need-loop-holds Inv-loop μ-loop
 loop-holds c = tt
@@ -41,6 +44,7 @@ seats-spec =
     (tie.spec
     Inv-loop
     μ-loop
+    cut-requires
     loop-holds
     shared-slice-read-access-key
     access-key-requires
