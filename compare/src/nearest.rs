@@ -45,6 +45,7 @@ fn compare(row: &mut Row, pitches: &[f64]) {
             continue;
         }
         if ours.refusals[i] == 0 && (note - rust_note).abs() == 1 && from_boundary(hz) <= NEAR && gap < GAP {
+            row.meets(if note < rust_note { "of these the lower note" } else { "of these the higher note" });
             row.differs(Kind::NoteAtBoundary, format!("{hz:?}").len(), told);
         } else {
             row.differs(Kind::Unexpected, 0, told);
