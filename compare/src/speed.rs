@@ -20,6 +20,7 @@ use crate::nearest;
 use crate::ours;
 use crate::ours::Events;
 use crate::ours::Nearest;
+use crate::ours::Tuning;
 use crate::ours::Values;
 use crate::plans;
 use crate::plans::GROUPS;
@@ -250,12 +251,18 @@ pub fn run(folder: &Path) {
         },
     ));
 
-    for (steps, name) in [(12, "12 equal, 1 channel"), (19, "19 equal"), (31, "31 equal")] {
+    for steps in [12, 22, 31] {
         for n in [12, 61, 128, 256] {
             for (group, (_, _, kind)) in GROUPS.iter().enumerate() {
-                progress(&format!("speed: plans of {n} keys, {name}, {kind} groups"));
+                progress(&format!("speed: plans of {n} keys, {steps} equal, {kind} groups"));
                 let (keys, pitches) = keys_and_pitches(n, steps);
-                table.line(&format!("plan of {n} keys, {kind} groups, {name}"), plan(&keys, &pitches, group));
+                let list: Vec<u8> = (0..16).collect();
+                let needs = match ours::plan_of_pitches(&list, group as u8, &keys, &pitches, &[], &mut [], &mut []) {
+                    Tuning::Tuned(count) => format!("{count} channels"),
+                    Tuning::Untuned(count) => format!("{count} channels, so untuned"),
+                    Tuning::Refused(number) => format!("refused {number}"),
+                };
+                table.line(&format!("plan of {n} keys, {kind} groups, {steps} equal ({needs})"), plan(&keys, &pitches, group));
             }
         }
     }
