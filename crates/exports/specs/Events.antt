@@ -7,7 +7,7 @@ use lib.Dec.{eqb}
 use lib.IntN.{ℤ, pos}
 use lib.Ieee.{Float}
 use Rattle.arithmetic.specs.Outcome.{Outcome, value, refused}
-use Rattle.models.specs.Pool.{Place, State, Press, accepted, rejected, found, released, registerRule, repitchRule, replied, openRule}
+use Rattle.models.specs.Pool.{Place, State, Press, accepted, rejected, found, released, registerRule, repitchRule, replied}
 use Rattle.models.specs.View.{view}
 use Rattle.models.specs.declared.jit.PoolGroupBy.{PoolGroupBy}
 use Rattle.models.specs.declared.jit.PoolGroupBy.the-variants.{NoteLetter, Channel}

@@ -1,8 +1,7 @@
 // Elements of lent slices at any index: one that is not there reads as 0, and a write to it does nothing.
 
 ghost use mathlib.Core.Path.{_≡_};
-ghost use lib.IntN.{pos};
-ghost use lib.ListN.{getD, set};
+ghost use lib.ListN.{set};
 ghost use Rattle.exports.specs.Lent.{byteAt, floatAt, numberAt};
 
 pub(crate) fn byte_at(list: &[u8], i: usize) -> u8

@@ -3,10 +3,9 @@
 ghost use mathlib.Core.Path.{_≡_};
 ghost use lib.ListN.{length};
 ghost use Rattle.arithmetic.specs.Nearest.{nearestRule};
-ghost use Rattle.models.specs.Steps.{tuningRule};
 ghost use Rattle.models.specs.Answers.{tuningAnswer};
 ghost use Rattle.models.specs.declared.steps.TuningKind.the-variants.{FineTuning, Bend};
-ghost use Rattle.exports.specs.Lent.{filled, floatAt};
+ghost use Rattle.exports.specs.Lent.{filled};
 ghost use Rattle.exports.specs.Numbers.{foundNote, refusalOf, fineOf, bendOf, nearestAt, tuningAt};
 use crate::lent::float_at;
 use crate::lent::put_bend;

@@ -1,26 +1,12 @@
 // A pool, played from lists of events.
 
 ghost use mathlib.Core.Path.{_≡_};
-ghost use lib.IntN.{pos};
 ghost use lib.ListN.{length};
-ghost use Rattle.models.specs.Pool.{openRule, found};
+ghost use Rattle.models.specs.Pool.{openRule};
 ghost use Rattle.models.specs.View.{view, place, press, repitched, stoppedNote};
 ghost use Rattle.models.specs.ChannelList.{channelsAnswer};
 ghost use Rattle.exports.specs.Lent.{filled};
-ghost use Rattle.exports.specs.Events.{
-  groupOf,
-  modeOf,
-  noPlace,
-  noteOr,
-  pressAnswer,
-  placeAnswer,
-  repitchAnswer,
-  listRefusal,
-  happens,
-  Events,
-  answerTo,
-  playedOf,
-};
+ghost use Rattle.exports.specs.Events.{groupOf, modeOf, noPlace, noteOr, pressAnswer, placeAnswer, repitchAnswer, listRefusal, happens, answerTo, playedOf};
 use crate::lent::byte_at;
 use crate::lent::float_at;
 use crate::lent::put_byte;

@@ -2,7 +2,6 @@
 // for each its kind (1 to 4) and its parts. What is written is held to the file `stdout`, which has the Rust's answers.
 
 ghost use Prim.Native.Nat.{_≤_};
-ghost use lib.ListN.{length};
 use arithmetic::pitch::Pitch;
 use arithmetic::tuning::Approximation;
 use arithmetic::tuning::find_by_pitch;

@@ -4,8 +4,8 @@ use mir.Syntax.{w32}
 use Rattle.arithmetic.specs.Nearest.{nearestRule}
 use Rattle.exports.specs.Numbers.{foundNote}
 use borrow.Author.Needs.{needs}
-use mathlib.Core.Path.{_≡_, refl, sym, ap, _∙_}
-use Prim.Native.Nat.{ℕ, _≤_, _-_}
+use mathlib.Core.Path.{_≡_, refl, ap, _∙_}
+use Prim.Native.Nat.{_≤_, _-_}
 use lib.ListN.{length}
 use native.Mathlib.Omega.{arith}
 use Rattle.exports.specs.Lent.{filled}

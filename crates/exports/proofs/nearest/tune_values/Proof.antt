@@ -1,7 +1,7 @@
 -- `nearest::tune_values` meets its contract: each turn fills one element more of each list. Assumes nothing.
 use borrow.Author.Needs.{needs}
-use mathlib.Core.Path.{_≡_, refl, sym, ap, _∙_}
-use Prim.Native.Nat.{ℕ, _≤_, _-_}
+use mathlib.Core.Path.{_≡_, refl, ap, _∙_}
+use Prim.Native.Nat.{_≤_, _-_}
 use lib.ListN.{length}
 use native.Mathlib.Omega.{arith}
 use mir.Facts.{toZ-ofZ}

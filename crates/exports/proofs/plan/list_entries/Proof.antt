@@ -7,7 +7,7 @@ use native.Mathlib.Omega.{arith}
 use mir.Facts.{toZ-ofZ}
 use mir.Syntax.{w32}
 use mir.Val.{toZ, ofZ}
-use Rattle.exports.specs.Lent.{filled, byteAt, numberAt}
+use Rattle.exports.specs.Lent.{filled, byteAt}
 use Rattle.models.specs.AotModel.{modelOf, nextRule}
 use Rattle.exports.proofs.Filled.{filled-turn, filled-all, length-filled}
 use Rattle.exports.specs.Plans.{entryOf, entryFrom}

@@ -1,13 +1,13 @@
 -- `plan::look_up` meets its contract: each turn looks up one key more. Assumes nothing.
 use borrow.Author.Needs.{needs}
 use mathlib.Core.Path.{_≡_, refl, ap, _∙_}
-use Prim.Native.Nat.{ℕ, _≤_, _-_}
+use Prim.Native.Nat.{_≤_, _-_}
 use lib.ListN.{length}
 use native.Mathlib.Omega.{arith}
 use mir.Facts.{toZ-ofZ}
 use mir.Syntax.{w32}
-use Rattle.exports.specs.Lent.{filled, byteAt, numberAt}
-use Rattle.models.specs.AotModel.{modelOf, nextRule}
+use Rattle.exports.specs.Lent.{filled}
+use Rattle.models.specs.AotModel.{modelOf}
 use Rattle.exports.proofs.Filled.{filled-turn, filled-all, length-filled}
 use Rattle.exports.specs.Plans.{seatOf, seatAt}
 use Rattle.exports.proofs.plan.look_up.Statement.{statement}

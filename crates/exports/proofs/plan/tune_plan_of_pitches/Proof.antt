@@ -1,6 +1,5 @@
 -- `plan::tune_plan_of_pitches` meets its contract: from those of the opening, the plan and the lookups. Assumes nothing.
-use mathlib.Core.Path.{_≡_, ap, _∙_}
-use Prim.Native.Nat.{ℕ}
+use mathlib.Core.Path.{ap, _∙_}
 use lib.ListN.{length, set}
 use Rattle.exports.specs.Lent.{filled}
 use Rattle.models.specs.AotModel.{openRule, setTuningOfPitches, tuningAnswer}

@@ -1,18 +1,17 @@
 -- `pool::tune_pool` meets its contract: each turn plays one event more. Assumes nothing.
 use Rattle.models.specs.declared.jit.PoolGroupBy.{PoolGroupBy}
 use borrow.Author.Needs.{needs}
-use mathlib.Core.Path.{_≡_, refl, sym, ap, _∙_}
+use mathlib.Core.Path.{_≡_, refl, ap, _∙_}
 use Prim.Native.Nat.{ℕ, _≤_, _-_, _+_}
 use native.Mathlib.Numerals.{add-one}
 use lib.ListN.{length}
-use lib.Ieee.{Float}
 use native.Mathlib.Omega.{arith}
 use mir.Facts.{toZ-ofZ}
 use mir.Syntax.{w32}
-use Rattle.exports.specs.Lent.{filled, byteAt, floatAt}
+use Rattle.exports.specs.Lent.{filled}
 use Rattle.models.specs.View.{view, opened}
 use Rattle.models.specs.Pool.{State, openRule}
-use Rattle.exports.specs.Events.{Events, happens, eventIn, answerTo, stateBefore, playedOf, listRefusal, groupOf, modeOf}
+use Rattle.exports.specs.Events.{Events, eventIn, answerTo, stateBefore, playedOf, listRefusal, groupOf}
 use Rattle.exports.proofs.Filled.{filled-turn, filled-all, length-filled}
 use Rattle.exports.proofs.pool.tune_pool.Statement.{statement}
 use Rattle.exports.proofs.pool.tune_pool.Tie as tie
