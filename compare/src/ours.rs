@@ -1,0 +1,259 @@
+//! The port, by the functions that its static library exports. A slice goes over as a pointer and a length.
+
+unsafe extern "C" {
+    fn tune_nearest_notes(
+        pitches: *const f64, n_pitches: usize,
+        refusals: *mut u8, n_refusals: usize,
+        notes: *mut i32, n_notes: usize,
+        detunings: *mut f64, n_detunings: usize,
+    );
+    fn tune_values(
+        detunings: *const f64, n_detunings: usize,
+        refusals: *mut u8, n_refusals: usize,
+        fines: *mut u16, n_fines: usize,
+        bends: *mut i16, n_bends: usize,
+    );
+    fn tune_plan(
+        channels: *const u8, n_channels: usize,
+        group_by: u8,
+        keys: *const u8, n_keys: usize,
+        notes: *const i32, n_notes: usize,
+        detunings: *const f64, n_detunings: usize,
+        asked: *const u8, n_asked: usize,
+        kind: *mut u8, n_kind: usize,
+        seat_channels: *mut u8, n_seat_channels: usize,
+        seat_notes: *mut i32, n_seat_notes: usize,
+    ) -> u16;
+    fn tune_plan_of_pitches(
+        channels: *const u8, n_channels: usize,
+        group_by: u8,
+        keys: *const u8, n_keys: usize,
+        pitches: *const f64, n_pitches: usize,
+        asked: *const u8, n_asked: usize,
+        kind: *mut u8, n_kind: usize,
+        seat_channels: *mut u8, n_seat_channels: usize,
+        seat_notes: *mut i32, n_seat_notes: usize,
+    ) -> u16;
+    fn tune_entries(
+        channels: *const u8, n_channels: usize,
+        group_by: u8,
+        keys: *const u8, n_keys: usize,
+        notes: *const i32, n_notes: usize,
+        detunings: *const f64, n_detunings: usize,
+        asked_channels: *const u8, n_asked_channels: usize,
+        asked_groups: *const i32, n_asked_groups: usize,
+        entry_kinds: *mut u8, n_entry_kinds: usize,
+        entry_groups: *mut i32, n_entry_groups: usize,
+        entry_detunings: *mut f64, n_entry_detunings: usize,
+    );
+    fn tune_pool(
+        channels: *const u8, n_channels: usize,
+        letters: bool,
+        mode: u8,
+        events: *const u8, n_events: usize,
+        keys: *const u8, n_keys: usize,
+        pitches: *const f64, n_pitches: usize,
+        kinds: *mut u8, n_kinds: usize,
+        answer_channels: *mut u8, n_answer_channels: usize,
+        notes: *mut i32, n_notes: usize,
+        stopped: *mut i32, n_stopped: usize,
+        detunings: *mut f64, n_detunings: usize,
+    ) -> u8;
+}
+
+/// Nearest notes and their detunings, beside the refusals, which are 0 where there is none.
+#[derive(Default)]
+pub struct Nearest {
+    pub refusals: Vec<u8>,
+    pub notes: Vec<i32>,
+    pub detunings: Vec<f64>,
+}
+
+impl Nearest {
+    /// Room for so many.
+    pub fn room(n: usize) -> Nearest {
+        Nearest { refusals: vec![99; n], notes: vec![9999; n], detunings: vec![-1.0; n] }
+    }
+
+    pub fn find(&mut self, pitches: &[f64]) {
+        unsafe {
+            tune_nearest_notes(
+                pitches.as_ptr(), pitches.len(),
+                self.refusals.as_mut_ptr(), self.refusals.len(),
+                self.notes.as_mut_ptr(), self.notes.len(),
+                self.detunings.as_mut_ptr(), self.detunings.len(),
+            )
+        }
+    }
+}
+
+/// The fine values and bends of detunings, beside the refusals.
+pub struct Values {
+    pub refusals: Vec<u8>,
+    pub fines: Vec<u16>,
+    pub bends: Vec<i16>,
+}
+
+impl Values {
+    pub fn room(n: usize) -> Values {
+        Values { refusals: vec![99; n], fines: vec![u16::MAX; n], bends: vec![i16::MAX; n] }
+    }
+
+    pub fn find(&mut self, detunings: &[f64]) {
+        unsafe {
+            tune_values(
+                detunings.as_ptr(), detunings.len(),
+                self.refusals.as_mut_ptr(), self.refusals.len(),
+                self.fines.as_mut_ptr(), self.fines.len(),
+                self.bends.as_mut_ptr(), self.bends.len(),
+            )
+        }
+    }
+}
+
+#[derive(Clone, Copy, Debug, PartialEq)]
+pub enum Tuning {
+    Tuned(usize),
+    Untuned(usize),
+    /// Of the plan, or of the channel list before it.
+    Refused(u8),
+}
+
+fn tuning(kind: u8, count: u16) -> Tuning {
+    match kind {
+        FOUND => Tuning::Tuned(count.into()),
+        NOTHING => Tuning::Untuned(count.into()),
+        number => Tuning::Refused(number),
+    }
+}
+
+/// The channel of a key that is not found.
+pub const NOT_FOUND: u8 = 255;
+
+/// A plan of keys with their notes and detunings; the channel and the note of each key asked for are written.
+#[allow(clippy::too_many_arguments)]
+pub fn plan(channels: &[u8], group_by: u8, keys: &[u8], notes: &[i32], detunings: &[f64], asked: &[u8], at: &mut [u8], sounds: &mut [i32]) -> Tuning {
+    let mut kind = 99;
+    let count = unsafe {
+        tune_plan(
+            channels.as_ptr(), channels.len(),
+            group_by,
+            keys.as_ptr(), keys.len(),
+            notes.as_ptr(), notes.len(),
+            detunings.as_ptr(), detunings.len(),
+            asked.as_ptr(), asked.len(),
+            &mut kind, 1,
+            at.as_mut_ptr(), at.len(),
+            sounds.as_mut_ptr(), sounds.len(),
+        )
+    };
+    tuning(kind, count)
+}
+
+/// The same of keys with their pitches.
+pub fn plan_of_pitches(channels: &[u8], group_by: u8, keys: &[u8], pitches: &[f64], asked: &[u8], at: &mut [u8], sounds: &mut [i32]) -> Tuning {
+    let mut kind = 99;
+    let count = unsafe {
+        tune_plan_of_pitches(
+            channels.as_ptr(), channels.len(),
+            group_by,
+            keys.as_ptr(), keys.len(),
+            pitches.as_ptr(), pitches.len(),
+            asked.as_ptr(), asked.len(),
+            &mut kind, 1,
+            at.as_mut_ptr(), at.len(),
+            sounds.as_mut_ptr(), sounds.len(),
+        )
+    };
+    tuning(kind, count)
+}
+
+/// For each channel asked for and a group beside it, the channel's first entry from that group on.
+pub fn entries(channels: &[u8], group_by: u8, keys: &[u8], notes: &[i32], detunings: &[f64], asked: &[(u8, i32)]) -> Vec<Option<(i32, f64)>> {
+    let n = asked.len();
+    let (asked_channels, asked_groups): (Vec<u8>, Vec<i32>) = asked.iter().copied().unzip();
+    let mut kinds = vec![99; n];
+    let mut groups = vec![9999; n];
+    let mut found = vec![-1.0; n];
+    unsafe {
+        tune_entries(
+            channels.as_ptr(), channels.len(),
+            group_by,
+            keys.as_ptr(), keys.len(),
+            notes.as_ptr(), notes.len(),
+            detunings.as_ptr(), detunings.len(),
+            asked_channels.as_ptr(), n,
+            asked_groups.as_ptr(), n,
+            kinds.as_mut_ptr(), n,
+            groups.as_mut_ptr(), n,
+            found.as_mut_ptr(), n,
+        )
+    };
+    (0..n).map(|i| (kinds[i] == FOUND).then_some((groups[i], found[i]))).collect()
+}
+
+pub const PRESS: u8 = 0;
+pub const RELEASE: u8 = 1;
+pub const LOOKUP: u8 = 3;
+
+/// An answer's kind: found or accepted; not found or rejected; the others are refusals.
+pub const FOUND: u8 = 0;
+pub const NOTHING: u8 = 20;
+
+/// Stands where a press stopped no note.
+pub const NO_NOTE: i32 = 1000;
+
+/// The events of a pool, and room for the answers.
+#[derive(Default)]
+pub struct Events {
+    pub kinds: Vec<u8>,
+    pub keys: Vec<u8>,
+    pub pitches: Vec<f64>,
+    pub answers: Answers,
+}
+
+#[derive(Default)]
+pub struct Answers {
+    pub kinds: Vec<u8>,
+    pub channels: Vec<u8>,
+    pub notes: Vec<i32>,
+    pub stopped: Vec<i32>,
+    pub detunings: Vec<f64>,
+}
+
+impl Events {
+    pub fn push(&mut self, kind: u8, key: u8, hz: f64) {
+        self.kinds.push(kind);
+        self.keys.push(key);
+        self.pitches.push(hz);
+    }
+
+    /// Makes room for the answers.
+    pub fn ready(&mut self) {
+        let n = self.kinds.len();
+        self.answers.kinds.resize(n, 99);
+        self.answers.channels.resize(n, 99);
+        self.answers.notes.resize(n, 9999);
+        self.answers.stopped.resize(n, 9999);
+        self.answers.detunings.resize(n, -1.0);
+    }
+
+    pub fn play(&mut self, channels: &[u8], letters: bool, mode: u8) -> u8 {
+        let a = &mut self.answers;
+        unsafe {
+            tune_pool(
+                channels.as_ptr(), channels.len(),
+                letters,
+                mode,
+                self.kinds.as_ptr(), self.kinds.len(),
+                self.keys.as_ptr(), self.keys.len(),
+                self.pitches.as_ptr(), self.pitches.len(),
+                a.kinds.as_mut_ptr(), a.kinds.len(),
+                a.channels.as_mut_ptr(), a.channels.len(),
+                a.notes.as_mut_ptr(), a.notes.len(),
+                a.stopped.as_mut_ptr(), a.stopped.len(),
+                a.detunings.as_mut_ptr(), a.detunings.len(),
+            )
+        }
+    }
+}

@@ -1,0 +1,119 @@
+//! Fine and bend values. The Rust makes them inside its senders, so they are read from the messages sent.
+
+use tune::midi::ChannelMessageType;
+use tune::mts;
+use tune::note::Note;
+use tune::pitch::Ratio;
+use tune::tuner::MidiTarget;
+use tune::tuner::MidiTunerMessage;
+use tune::tuner::TunableMidi;
+use tune::tuner::TunableSynth;
+
+use crate::inputs::Chance;
+use crate::inputs::step;
+use crate::ours::Values;
+use crate::report::Kind;
+use crate::report::Row;
+use crate::report::progress;
+
+/// The fine value in the messages of a channel's fine tuning.
+pub fn fine(detuning: f64) -> i32 {
+    let messages = mts::channel_fine_tuning(0, Ratio::from_float(detuning)).unwrap();
+    let data = |i: usize| match messages[i].message_type() {
+        ChannelMessageType::ControlChange { value, .. } => i32::from(value),
+        _ => panic!("a fine tuning is sent by controllers"),
+    };
+    data(2) * 128 + data(3)
+}
+
+/// The bend in the bytes that a bend sender sends.
+pub fn bend(detuning: f64) -> i32 {
+    let mut bytes = Vec::new();
+    let mut sender = TunableMidi::pitch_bend(MidiTarget {
+        handler: |message: MidiTunerMessage| message.send_to(|raw| bytes.extend_from_slice(raw)),
+        channels: vec![0],
+    });
+    sender.notes_detune(0, &[(Note::from_midi_number(69), Ratio::from_float(detuning))]);
+    drop(sender);
+    assert_eq!((bytes.len(), bytes[0]), (3, 0xe0));
+    i32::from(bytes[1]) + i32::from(bytes[2]) * 128 - 8192
+}
+
+fn compare(row: &mut Row, is_bend: bool, detunings: &[f64]) {
+    let mut ours = Values::room(detunings.len());
+    ours.find(detunings);
+    for (i, &detuning) in detunings.iter().enumerate() {
+        row.cases += 1;
+        let value: i32 = if is_bend { ours.bends[i].into() } else { ours.fines[i].into() };
+        let rust: i32 = if is_bend { bend(detuning) } else { fine(detuning) };
+        let told = || format!("{detuning:?}: {value}; the Rust: {rust}");
+        if ours.refusals[i] != 0 {
+            row.differs(Kind::Unexpected, 0, || format!("{detuning:?}: refused"));
+            continue;
+        }
+        if value == rust {
+            continue;
+        }
+        let size = format!("{detuning:?}").len();
+        if is_bend && (value, rust) == (8191, 8192) {
+            row.differs(Kind::BendClamp, size, told);
+        } else if (value - rust).abs() == 1 {
+            row.meets(if value < rust { "of these below the Rust's" } else { "of these above the Rust's" });
+            row.differs(Kind::OneStep, size, told);
+        } else {
+            row.differs(Kind::Unexpected, 0, told);
+        }
+    }
+}
+
+pub fn run(chance: &mut Chance, rows: &mut Vec<Row>) {
+    for (is_bend, name) in [(false, "fine values"), (true, "bend values")] {
+        progress(&format!("{name}: limits and steps"));
+        let mut row = Row::new(&format!("{name}: limits and every step"));
+        let mut detunings = vec![1.0, 2.0, 0.5, 33.0 / 32.0, 31.0 / 32.0, 5e-324, f64::MIN_POSITIVE, f64::MAX, 1e-300, 1e300, 4.0, 0.25];
+        // Each step's own detuning, and those beside it.
+        for value in -8200..=8200 {
+            let at = if is_bend { f64::from(value) / 49152.0 } else { f64::from(value) / 98304.0 };
+            let detuning = at.exp2();
+            for k in [-100_000, -1000, -2, -1, 0, 1, 2, 1000, 100_000] {
+                detunings.push(step(detuning, k));
+            }
+        }
+        for k in -1074..1024 {
+            detunings.push(f64::from(k).exp2());
+        }
+        // All of five decimals.
+        for k in 50_000..=200_000 {
+            detunings.push(f64::from(k) / 100_000.0);
+        }
+        compare(&mut row, is_bend, &detunings);
+        rows.push(row);
+
+        let mut row = Row::new(&format!("{name}: chance"));
+        for turn in 0..20 {
+            progress(&format!("{name}: chance, {turn} of 20"));
+            let detunings: Vec<f64> = (0..50_000)
+                .map(|i| match i % 4 {
+                    0 => f64::from_bits(chance.next() >> 1).min(f64::MAX).max(5e-324),
+                    1 => (-1.0 + 2.0 * chance.unit()).exp2(),
+                    2 => ((-2.0 + 4.0 * chance.unit()) / 12.0).exp2(),
+                    _ => ((-0.5 + chance.unit()) / 12.0).exp2(),
+                })
+                .filter(|d| d.is_finite())
+                .collect();
+            compare(&mut row, is_bend, &detunings);
+        }
+        rows.push(row);
+    }
+
+    let mut row = Row::new("values: detunings that have no logarithm");
+    let bad = [0.0, -0.0, -1.0, f64::NAN, f64::INFINITY, f64::NEG_INFINITY, -5e-324];
+    let mut ours = Values::room(bad.len());
+    ours.find(&bad);
+    for (&detuning, refusal) in bad.iter().zip(ours.refusals) {
+        row.cases += 1;
+        let kind = if refusal == 2 { Kind::Refusal } else { Kind::Unexpected };
+        row.differs(kind, 0, || format!("{detuning:?}: refusal {refusal}; the Rust sends {} and {}", fine(detuning), bend(detuning)));
+    }
+    rows.push(row);
+}

@@ -1,0 +1,31 @@
+-- `plan::count_of` meets its contract, by the answer's cases. Assumes nothing.
+use Rattle.exports.specs.Plans.{countOf}
+use borrow.Author.Needs.{needs}
+use Rattle.exports.proofs.plan.count_of.Statement.{statement}
+use Rattle.exports.proofs.plan.count_of.Tie as tie
+
+enum-known-answer : tie.Need-enum-known-answer
+enum-known-answer c = search needs
+
+enum-known-answer-2 : tie.Need-enum-known-answer-2
+enum-known-answer-2 c = search needs
+
+enum-told : tie.Need-enum-told
+enum-told c = search needs
+
+returns : tie.Need-returns
+unfolding countOf
+returns c = rw (c .before .answer .given .1)
+
+returns-2 : tie.Need-returns-2
+unfolding countOf
+returns-2 c = rw (c .before .answer2 .given .1)
+
+returns-3 : tie.Need-returns-3
+unfolding countOf
+returns-3 c = rw (c .enum-told .given .1)
+
+pub count-of-spec : {M : Type 1} → statement M
+count-of-spec =
+    tie.close
+    (tie.spec enum-known-answer enum-known-answer-2 enum-told returns returns-2 returns-3)

@@ -1,0 +1,23 @@
+-- `pool::list_refusal` meets its contract, by the answer's cases. Assumes nothing.
+use Rattle.models.specs.ChannelList.{channelsAnswer}
+use Rattle.exports.specs.Events.{listRefusal}
+use borrow.Author.Needs.{needs}
+use Rattle.exports.proofs.pool.list_refusal.Statement.{statement}
+use Rattle.exports.proofs.pool.list_refusal.Tie as tie
+
+enum-told : tie.Need-enum-told
+enum-told c = search needs
+
+enum-known-answer : tie.Need-enum-known-answer
+enum-known-answer c = search needs
+
+returns : tie.Need-returns
+unfolding listRefusal channelsAnswer
+returns c = rw (c .enum-told .given .1)
+
+returns-2 : tie.Need-returns-2
+unfolding listRefusal channelsAnswer
+returns-2 c = rw (c .before .answer .given .1)
+
+pub list-refusal-spec : {M : Type 1} → statement M
+list-refusal-spec = tie.close (tie.spec enum-told enum-known-answer returns returns-2)

@@ -1,0 +1,5 @@
+-- What the contracts of the exported functions cite. Assumes nothing.
+pub mod Lent
+pub mod Numbers
+pub mod Events
+pub mod Plans

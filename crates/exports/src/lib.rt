@@ -1,0 +1,6 @@
+// What a program in another language calls: whole lists at once, on numbers and lent slices. Each function is thin: it calls the public entry and
+// writes its answer. Names begin with `tune_`, since a name is the whole program's.
+mod lent;
+pub mod nearest;
+pub mod plan;
+pub mod pool;

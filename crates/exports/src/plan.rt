@@ -1,0 +1,254 @@
+// Plans of whole lists.
+
+ghost use mathlib.Core.Path.{_≡_};
+ghost use lib.ListN.{length, set};
+ghost use Rattle.models.specs.ChannelList.{channelsAnswer};
+ghost use Rattle.models.specs.AotModel.{openRule, setTuning, setTuningOfPitches, modelOf, planAnswer, accessAnswer, nextAnswer};
+ghost use Rattle.exports.specs.Lent.{filled};
+ghost use Rattle.exports.specs.Plans.{groupOf, kindOf, countOf, seatOf, seatAt, entryOf, entryFrom};
+use crate::lent::byte_at;
+use crate::lent::number_at;
+use crate::lent::put_byte;
+use crate::lent::put_float;
+use crate::lent::put_number;
+use models::aot::Access;
+use models::aot::AotTuningModel;
+use models::aot::GroupBy;
+use models::aot::NextAnswer;
+use models::aot::PlanAnswer;
+use models::channels::ChannelsAnswer;
+
+// The kinds of answer; 1 to 13 are refusals.
+const TUNED: u8 = 0;
+
+const UNTUNED: u8 = 20;
+
+const FOUND: u8 = 0;
+
+const NOTHING: u8 = 20;
+
+// The channel of a key that is not found.
+const NO_CHANNEL: u8 = 255;
+
+struct Seat {
+    channel: u8,
+    note: i32,
+}
+
+struct Entry {
+    kind: u8,
+    group: i32,
+    detuning: f64,
+}
+
+// Opens a model on a channel list, for 0 notes, 1 letters or 2 whole channels, and plans keys with their notes and detunings. Writes the kind of the
+// answer, and the channel and the note of each key that is asked for. Answers the count.
+#[no_mangle]
+pub extern "C" fn tune_plan(
+    channels: &[u8],
+    group_by: u8,
+    keys: &[u8],
+    notes: &[i32],
+    detunings: &[f64],
+    asked: &[u8],
+    kind: &mut [u8],
+    seat_channels: &mut [u8],
+    seat_notes: &mut [i32],
+) -> u16
+    ensures { λ r.
+        let opened = openRule (now (channels .entry)) (groupOf «group_by») in
+        let plan = setTuning (opened .0) (now (keys .entry)) (now (notes .entry)) (now (detunings .entry)) in
+        let n = length (now (asked .entry)) in
+        ⌜ (r ≡ countOf (plan .1))
+        × (now (kind .exit) ≡ set (now (kind .entry)) 0 (kindOf (opened .1) (plan .1)))
+        × (now («seat_channels» .exit) ≡ filled (λ i. seatAt (plan .0) (now (asked .entry)) i .channel) n (now («seat_channels» .entry)))
+        × (now («seat_notes» .exit) ≡ filled (λ i. seatAt (plan .0) (now (asked .entry)) i .note) n (now («seat_notes» .entry))) ⌝ }
+{
+    let opened = AotTuningModel::open(channels, group_of(group_by));
+    let listed = opened.answer;
+    let model = opened.model;
+    let planned = model.set_tuning(keys, notes, detunings);
+    let answer = planned.answer;
+    let next = planned.model;
+    put_byte(kind, 0, kind_of(listed, answer));
+    look_up(next, asked, seat_channels, seat_notes);
+    count_of(answer)
+}
+
+// The same of keys with their pitches.
+#[no_mangle]
+pub extern "C" fn tune_plan_of_pitches(
+    channels: &[u8],
+    group_by: u8,
+    keys: &[u8],
+    pitches: &[f64],
+    asked: &[u8],
+    kind: &mut [u8],
+    seat_channels: &mut [u8],
+    seat_notes: &mut [i32],
+) -> u16
+    ensures { λ r.
+        let opened = openRule (now (channels .entry)) (groupOf «group_by») in
+        let plan = setTuningOfPitches (opened .0) (now (keys .entry)) (now (pitches .entry)) in
+        let n = length (now (asked .entry)) in
+        ⌜ (r ≡ countOf (plan .1))
+        × (now (kind .exit) ≡ set (now (kind .entry)) 0 (kindOf (opened .1) (plan .1)))
+        × (now («seat_channels» .exit) ≡ filled (λ i. seatAt (plan .0) (now (asked .entry)) i .channel) n (now («seat_channels» .entry)))
+        × (now («seat_notes» .exit) ≡ filled (λ i. seatAt (plan .0) (now (asked .entry)) i .note) n (now («seat_notes» .entry))) ⌝ }
+{
+    let opened = AotTuningModel::open(channels, group_of(group_by));
+    let listed = opened.answer;
+    let model = opened.model;
+    let planned = model.set_tuning_of_pitches(keys, pitches);
+    let answer = planned.answer;
+    let next = planned.model;
+    put_byte(kind, 0, kind_of(listed, answer));
+    look_up(next, asked, seat_channels, seat_notes);
+    count_of(answer)
+}
+
+// Plans keys with their notes and detunings as `tune_plan` does. Writes, for each channel that is asked for and a group beside it, the channel's first
+// entry from that group on.
+#[no_mangle]
+pub extern "C" fn tune_entries(
+    channels: &[u8],
+    group_by: u8,
+    keys: &[u8],
+    notes: &[i32],
+    detunings: &[f64],
+    asked_channels: &[u8],
+    asked_groups: &[i32],
+    entry_kinds: &mut [u8],
+    entry_groups: &mut [i32],
+    entry_detunings: &mut [f64],
+)
+    ensures { λ r.
+        let plan = setTuning (openRule (now (channels .entry)) (groupOf «group_by») .0) (now (keys .entry)) (now (notes .entry)) (now (detunings .entry)) in
+        let entry = entryFrom (plan .0) (now («asked_channels» .entry)) (now («asked_groups» .entry)) in
+        let n = length (now («asked_channels» .entry)) in
+        ⌜ (now («entry_kinds» .exit) ≡ filled (λ i. entry i .kind) n (now («entry_kinds» .entry)))
+        × (now («entry_groups» .exit) ≡ filled (λ i. entry i .group) n (now («entry_groups» .entry)))
+        × (now («entry_detunings» .exit) ≡ filled (λ i. entry i .detuning) n (now («entry_detunings» .entry))) ⌝ }
+{
+    let opened = AotTuningModel::open(channels, group_of(group_by));
+    let model = opened.model;
+    let planned = model.set_tuning(keys, notes, detunings);
+    let next = planned.model;
+    list_entries(
+        next,
+        asked_channels,
+        asked_groups,
+        entry_kinds,
+        entry_groups,
+        entry_detunings,
+    );
+}
+
+fn look_up(model: AotTuningModel, asked: &[u8], seat_channels: &mut [u8], seat_notes: &mut [i32])
+    ensures { λ r.
+        let n = length (now (asked .entry)) in
+        ⌜ (now («seat_channels» .exit) ≡ filled (λ i. seatAt (modelOf model) (now (asked .entry)) i .channel) n (now («seat_channels» .entry)))
+        × (now («seat_notes» .exit) ≡ filled (λ i. seatAt (modelOf model) (now (asked .entry)) i .note) n (now («seat_notes» .entry))) ⌝ }
+{
+    let n = asked.len();
+    let mut i: usize = 0;
+    while i < n {
+        let seat = seat_of(model.access_key(byte_at(asked, i)));
+        put_byte(seat_channels, i, seat.channel);
+        put_number(seat_notes, i, seat.note);
+        i += 1;
+    }
+}
+
+fn list_entries(
+    model: AotTuningModel,
+    asked_channels: &[u8],
+    asked_groups: &[i32],
+    entry_kinds: &mut [u8],
+    entry_groups: &mut [i32],
+    entry_detunings: &mut [f64],
+)
+    ensures { λ r.
+        let entry = entryFrom (modelOf model) (now («asked_channels» .entry)) (now («asked_groups» .entry)) in
+        let n = length (now («asked_channels» .entry)) in
+        ⌜ (now («entry_kinds» .exit) ≡ filled (λ i. entry i .kind) n (now («entry_kinds» .entry)))
+        × (now («entry_groups» .exit) ≡ filled (λ i. entry i .group) n (now («entry_groups» .entry)))
+        × (now («entry_detunings» .exit) ≡ filled (λ i. entry i .detuning) n (now («entry_detunings» .entry))) ⌝ }
+{
+    let n = asked_channels.len();
+    let mut i: usize = 0;
+    while i < n {
+        let entry = entry_of(model.next_detuning(
+            byte_at(asked_channels, i),
+            number_at(asked_groups, i),
+        ));
+        put_byte(entry_kinds, i, entry.kind);
+        put_number(entry_groups, i, entry.group);
+        put_float(entry_detunings, i, entry.detuning);
+        i += 1;
+    }
+}
+
+fn group_of(number: u8) -> GroupBy
+    ensures { λ r. ⌜ r ≡ groupOf number ⌝ }
+{
+    if number == 0 {
+        return GroupBy::Note;
+    }
+    if number == 1 {
+        return GroupBy::NoteLetter;
+    }
+    GroupBy::Channel
+}
+
+fn kind_of(listed: ChannelsAnswer, answer: PlanAnswer) -> u8
+    ensures { λ r. ⌜ r ≡ kindOf (channelsAnswer listed) (planAnswer answer) ⌝ }
+{
+    match listed {
+        ChannelsAnswer::Listed(_) => match answer {
+            PlanAnswer::Tuned(_) => TUNED,
+            PlanAnswer::Untuned(_) => UNTUNED,
+            PlanAnswer::Refused(number) => number,
+        },
+        ChannelsAnswer::Refused(number) => number,
+    }
+}
+
+fn count_of(answer: PlanAnswer) -> u16
+    ensures { λ r. ⌜ r ≡ countOf (planAnswer answer) ⌝ }
+{
+    match answer {
+        PlanAnswer::Tuned(count) => count,
+        PlanAnswer::Untuned(count) => count,
+        PlanAnswer::Refused(_) => 0,
+    }
+}
+
+fn seat_of(access: Access) -> Seat
+    ensures { λ r. ⌜ r ≡ seatOf (accessAnswer access) ⌝ }
+{
+    match access {
+        Access::Found(channel, note) => Seat { channel, note },
+        Access::NotFound => Seat {
+            channel: NO_CHANNEL,
+            note: 0,
+        },
+    }
+}
+
+fn entry_of(next: NextAnswer) -> Entry
+    ensures { λ r. ⌜ r ≡ entryOf (nextAnswer next) ⌝ }
+{
+    match next {
+        NextAnswer::Entry(group, detuning) => Entry {
+            kind: FOUND,
+            group,
+            detuning,
+        },
+        NextAnswer::NoEntry => Entry {
+            kind: NOTHING,
+            group: 0,
+            detuning: 0.0,
+        },
+    }
+}

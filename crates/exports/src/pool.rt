@@ -1,0 +1,249 @@
+// A pool, played from lists of events.
+
+ghost use mathlib.Core.Path.{_≡_};
+ghost use lib.ListN.{length};
+ghost use Rattle.models.specs.Pool.{openRule};
+ghost use Rattle.models.specs.JitModel.{view, place, press, repitched, stoppedNote};
+ghost use Rattle.models.specs.ChannelList.{channelsAnswer};
+ghost use Rattle.exports.specs.Lent.{filled};
+ghost use Rattle.exports.specs.Events.{groupOf, modeOf, noPlace, noteOr, pressAnswer, placeAnswer, repitchAnswer, listRefusal, happens, answerTo, playedOf};
+use crate::lent::byte_at;
+use crate::lent::float_at;
+use crate::lent::put_byte;
+use crate::lent::put_float;
+use crate::lent::put_number;
+use arithmetic::pitch::Pitch;
+use models::channels::ChannelsAnswer;
+use models::jit::JitTuningModel;
+use models::jit::PoolGroupBy;
+use models::jit::PoolingMode;
+use models::jit::RegisterKeyResult;
+use models::jit::RepitchKeyResult;
+use models::jit::StoppedNote;
+use models::keys::AccessKeyResult;
+
+// The kind of an answer with a place; 1 to 13 are refusals.
+const PLACED: u8 = 0;
+
+// Rejected, or not found.
+const NOTHING: u8 = 20;
+
+// Stands where there is no note.
+const NO_NOTE: i32 = 1000;
+
+// The kinds of event; any other is a lookup.
+const PRESS: u8 = 0;
+
+const RELEASE: u8 = 1;
+
+const REPITCH: u8 = 2;
+
+struct Answer {
+    kind: u8,
+    channel: u8,
+    note: i32,
+    stopped: i32,
+    detuning: f64,
+}
+
+struct Played {
+    model: JitTuningModel,
+    answer: Answer,
+}
+
+// Opens a pool on a channel list, for letters or for whole channels, in mode 0 Block, 1 Stop or 2 Ignore; plays the events in order, and writes the
+// answer of each. Answers the refusal of the channel list, 0 where there is none.
+#[no_mangle]
+pub extern "C" fn tune_pool(
+    channels: &[u8],
+    letters: bool,
+    mode: u8,
+    kinds: &[u8],
+    keys: &[u8],
+    pitches: &[f64],
+    answer_kinds: &mut [u8],
+    answer_channels: &mut [u8],
+    answer_notes: &mut [i32],
+    answer_stopped: &mut [i32],
+    answer_detunings: &mut [f64],
+) -> u8
+    ensures { λ r. ⌜ r ≡ listRefusal (openRule (now (channels .entry)) (groupOf letters) (modeOf mode) .0) ⌝ }
+    ensures { λ r.
+        let heard = answerTo (openRule (now (channels .entry)) (groupOf letters) (modeOf mode) .1)
+        (record { kinds = now (kinds .entry); keys = now (keys .entry); pitches = now (pitches .entry) }) in
+        let n = length (now (kinds .entry)) in
+        ⌜ (now («answer_kinds» .exit) ≡ filled (λ i. heard i .kind) n (now («answer_kinds» .entry)))
+        × (now («answer_channels» .exit) ≡ filled (λ i. heard i .channel) n (now («answer_channels» .entry)))
+        × (now («answer_notes» .exit) ≡ filled (λ i. heard i .note) n (now («answer_notes» .entry)))
+        × (now («answer_stopped» .exit) ≡ filled (λ i. heard i .stopped) n (now («answer_stopped» .entry)))
+        × (now («answer_detunings» .exit) ≡ filled (λ i. heard i .detuning) n (now («answer_detunings» .entry))) ⌝ }
+{
+    let opened = JitTuningModel::open(channels, group_of(letters), mode_of(mode));
+    let listed = opened.answer;
+    let mut model = opened.model;
+    let n = kinds.len();
+    let mut i: usize = 0;
+    while i < n {
+        let played = play(
+            model,
+            byte_at(kinds, i),
+            byte_at(keys, i),
+            float_at(pitches, i),
+        );
+        let answer = played.answer;
+        put_byte(answer_kinds, i, answer.kind);
+        put_byte(answer_channels, i, answer.channel);
+        put_number(answer_notes, i, answer.note);
+        put_number(answer_stopped, i, answer.stopped);
+        put_float(answer_detunings, i, answer.detuning);
+        let next = played.model;
+        model = next;
+        i += 1;
+    }
+    list_refusal(listed)
+}
+
+fn list_refusal(answer: ChannelsAnswer) -> u8
+    ensures { λ r. ⌜ r ≡ listRefusal (channelsAnswer answer) ⌝ }
+{
+    match answer {
+        ChannelsAnswer::Listed(_) => 0,
+        ChannelsAnswer::Refused(number) => number,
+    }
+}
+
+fn group_of(letters: bool) -> PoolGroupBy
+    ensures { λ r. ⌜ r ≡ groupOf letters ⌝ }
+{
+    if letters {
+        return PoolGroupBy::NoteLetter;
+    }
+    PoolGroupBy::Channel
+}
+
+fn mode_of(mode: u8) -> PoolingMode
+    ensures { λ r. ⌜ r ≡ modeOf mode ⌝ }
+{
+    if mode == 0 {
+        return PoolingMode::Block;
+    }
+    if mode == 1 {
+        return PoolingMode::Stop;
+    }
+    PoolingMode::Ignore
+}
+
+fn play(model: JitTuningModel, kind: u8, key: u8, hz: f64) -> Played
+    ensures { λ r. ⌜ playedOf r ≡ happens kind (view model) key hz ⌝ }
+{
+    if kind == PRESS {
+        let registered = model.register_key(key, Pitch::from_hz(hz));
+        let result = registered.result;
+        let next = registered.model;
+        return Played {
+            model: next,
+            answer: press_answer(result),
+        };
+    }
+    if kind == RELEASE {
+        let deregistered = model.deregister_key(key);
+        let result = deregistered.result;
+        let next = deregistered.model;
+        return Played {
+            model: next,
+            answer: place_answer(result),
+        };
+    }
+    if kind == REPITCH {
+        let result = model.repitch_key(key, Pitch::from_hz(hz));
+        return Played {
+            model,
+            answer: repitch_answer(result),
+        };
+    }
+    let result = model.access_key(key);
+    Played {
+        model,
+        answer: place_answer(result),
+    }
+}
+
+fn press_answer(result: RegisterKeyResult) -> Answer
+    ensures { λ r. ⌜ r ≡ pressAnswer (press result) ⌝ }
+{
+    match result {
+        RegisterKeyResult::Accepted {
+            channel,
+            stopped_note,
+            started_note,
+            detuning,
+        } => Answer {
+            kind: PLACED,
+            channel,
+            note: started_note,
+            stopped: note_or(stopped_note),
+            detuning,
+        },
+        RegisterKeyResult::Rejected => no_place(NOTHING),
+        RegisterKeyResult::Refused(number) => no_place(number),
+    }
+}
+
+fn note_or(stopped: StoppedNote) -> i32
+    ensures { λ r. ⌜ r ≡ noteOr (stoppedNote stopped) ⌝ }
+{
+    match stopped {
+        StoppedNote::Note(note) => note,
+        StoppedNote::Nothing => NO_NOTE,
+    }
+}
+
+fn place_answer(result: AccessKeyResult) -> Answer
+    ensures { λ r. ⌜ r ≡ placeAnswer (place result) ⌝ }
+{
+    match result {
+        AccessKeyResult::Found {
+            channel,
+            found_note,
+        } => Answer {
+            kind: PLACED,
+            channel,
+            note: found_note,
+            stopped: NO_NOTE,
+            detuning: 0.0,
+        },
+        AccessKeyResult::NotFound => no_place(NOTHING),
+    }
+}
+
+fn repitch_answer(result: RepitchKeyResult) -> Answer
+    ensures { λ r. ⌜ r ≡ repitchAnswer (repitched result) ⌝ }
+{
+    match result {
+        RepitchKeyResult::Found {
+            channel,
+            found_note,
+            detuning,
+        } => Answer {
+            kind: PLACED,
+            channel,
+            note: found_note,
+            stopped: NO_NOTE,
+            detuning,
+        },
+        RepitchKeyResult::NotFound => no_place(NOTHING),
+        RepitchKeyResult::Refused(number) => no_place(number),
+    }
+}
+
+fn no_place(kind: u8) -> Answer
+    ensures { λ r. ⌜ r ≡ noPlace kind ⌝ }
+{
+    Answer {
+        kind,
+        channel: 0,
+        note: NO_NOTE,
+        stopped: NO_NOTE,
+        detuning: 0.0,
+    }
+}
