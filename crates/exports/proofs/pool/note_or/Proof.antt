@@ -14,11 +14,11 @@ enum-told : tie.Need-enum-told
 enum-told c = search needs
 
 returns : tie.Need-returns
-unfolding noteOr stoppedNote
+unfolding noteOr
 returns c = rw (c .before .stopped .given .1, toZ-ofZ {w = w32} {z = c .before .stopped .given .0 .0} (record { sfits = c .known-told .given .0 .1 }))
 
 returns-2 : tie.Need-returns-2
-unfolding noteOr stoppedNote
+unfolding noteOr
 returns-2 c = rw (c .enum-told .given .1)
 
 pub note-or-spec : {M : Type 1} → statement M
