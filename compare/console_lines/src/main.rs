@@ -66,7 +66,41 @@ fn pitch_of(millihertz: u32) -> Option<Pitch> {
     (millihertz > 0).then(|| Pitch::from_hz(f64::from(millihertz) / 1000.0))
 }
 
+/// Lines to play: at most four keys are down, and no key is pressed that is down.
+fn write_lines(count: usize) {
+    let mut output = BufWriter::with_capacity(BUFFER, stdout().lock());
+    let mut seed = 20261115_u64;
+    let mut draw = |below: u64| {
+        seed = seed.wrapping_mul(6364136223846793005).wrapping_add(1442695040888963407);
+        (seed >> 33) % below
+    };
+    let mut down: Vec<u64> = Vec::new();
+    for _ in 0..count {
+        let choice = draw(10);
+        let millihertz = 20_000 + draw(4_000_000);
+        let velocity = 1 + draw(127);
+        if down.is_empty() || (choice < 5 && down.len() < 4) {
+            let mut key = draw(256);
+            while down.contains(&key) {
+                key = (key + 1) % 256;
+            }
+            down.push(key);
+            writeln!(output, "on,{key},{millihertz},{velocity}").unwrap();
+        } else if choice < 9 {
+            let key = down.remove(0);
+            writeln!(output, "off,{key},0,{velocity}").unwrap();
+        } else {
+            let key = down[draw(down.len() as u64) as usize];
+            writeln!(output, "bend,{key},{millihertz},0").unwrap();
+        }
+    }
+}
+
 fn main() {
+    if let Some(count) = std::env::args().nth(1) {
+        write_lines(count.parse().unwrap());
+        return;
+    }
     let sent = Rc::new(RefCell::new(Vec::with_capacity(64)));
     let bytes = sent.clone();
     let handler = move |message: MidiTunerMessage| message.send_to(|raw| bytes.borrow_mut().extend_from_slice(raw));

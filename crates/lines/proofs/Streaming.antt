@@ -1,15 +1,17 @@
--- Whatever the pieces in which the input comes, and whatever room each call has, the program writes what it writes for the whole input. Assumes
--- nothing.
+-- Whatever the pieces in which the input comes, and whatever room each call has, the program writes what it writes for the whole input. The argument
+-- goes byte by byte: what is still to be written is what a byte answers, and then what the rest asks. Assumes nothing.
 use Prim.Native.Nat.{ℕ, _-_}
-use mathlib.Core.Path.{_≡_, refl, sym, _∙_, ap}
+use mathlib.Core.Path.{_≡_, refl, sym, _∙_, ap, subst}
 use mathlib.Core.Bool.{Bool, true, false, cond}
 use mathlib.Core.List.{List, [], _∷_, _++_, append-assoc, append-nil}
-use lib.ListN.{length, drop}
+use lib.ListN.{length, take, drop}
+use lib.Seq.{take-at}
 use lib.Dec.{eqb, leb}
 use borrow.Author.Tests.{eqb-true, eqb-false}
 use Rattle.lines.specs.Split.{feed, into, split}
 use Rattle.lines.specs.Console.{opened, answer, next, answers, ended, linesOf, output}
-use Rattle.lines.specs.Session.{Session, start, clip, then, text, Taken, nothing, byteThen, stepRule, finish, Calls, none, call}
+use Rattle.lines.specs.Session.{Session, session, Stepped, start, clip, then, text, Taken, nothing, byteThen, stepRule, finish, Calls, none, call}
+use Rattle.lines.specs.declared.step.Step.{Step}
 use Rattle.lines.proofs.Splits.{into-none, into-into, split-sep, split-other}
 use Rattle.lines.proofs.Clips.{ended-clip}
 
@@ -76,3 +78,18 @@ calls-ahead (call {s = s} {s′ = s′} {out = out} room piece rest r e cs) =
 pub whole-input : {s : Session} {input out : List ℕ} → Calls start input s out → out ++ finish s ≡ output input
 unfolding output linesOf ahead
 whole-input {s} {input} {out} cs = sym (calls-ahead cs) ∙ ap (λ (x : List (List ℕ)). answers opened (ended x)) (into-none feed input)
+
+-- a call of the code, by its contract, is one of `Calls`: what it wrote stands at the start of its buffer
+pub step-call :
+    {s s′ : Session} {piece old new out : List ℕ} (rest : List ℕ) (r : Step) → Stepped s piece old new r
+    → Calls (session (r .console)) (drop (r .used) piece ++ rest) s′ out → Calls s (piece ++ rest) s′ (take (r .written) new ++ out)
+step-call {s} {s′} {piece} {old} {new} {out} rest r p cs =
+    let q = stepRule (length old) s piece in
+    let o : take (r .written) new ≡ q .output =
+    ap (λ (k : ℕ). take k new) (p .written-is)
+    ∙ ap (take (length (q .output))) (p .left-is)
+    ∙ take-at (q .output) (drop (length (q .output)) old) (length (q .output)) refl in
+    let c : Calls (q .session) (drop (q .used) piece ++ rest) s′ out =
+    subst (λ (k : ℕ). Calls (q .session) (drop k piece ++ rest) s′ out) (p .used-is)
+    (subst (λ (x : Session). Calls x (drop (r .used) piece ++ rest) s′ out) (p .session-is) cs) in
+    subst (λ (l : List ℕ). Calls s (piece ++ rest) s′ (l ++ out)) (sym o) (call (length old) piece rest q refl c)
