@@ -3,7 +3,8 @@
 ghost use mathlib.Core.Path.{_≡_};
 ghost use lib.ListN.{length, set};
 ghost use Rattle.models.specs.ChannelList.{channelsAnswer};
-ghost use Rattle.models.specs.AotModel.{openRule, setTuning, setTuningOfPitches, modelOf, planAnswer, accessAnswer, nextAnswer};
+ghost use Rattle.models.specs.PlanLists.{noteLists, pitchLists};
+ghost use Rattle.models.specs.AotModel.{openRule, setTuning, setTuningOfPitches, Smallest, modelOf, planAnswer, accessAnswer, nextAnswer};
 ghost use Rattle.exports.specs.Lent.{filled};
 ghost use Rattle.exports.specs.Plans.{groupOf, kindOf, countOf, seatOf, seatAt, entryOf, entryFrom};
 use crate::lent::byte_at;
@@ -63,6 +64,10 @@ pub extern "C" fn tune_plan(
         × (now (kind .exit) ≡ set (now (kind .entry)) 0 (kindOf (opened .1) (plan .1)))
         × (now («seat_channels» .exit) ≡ filled (λ i. seatAt (plan .0) (now (asked .entry)) i .channel) n (now («seat_channels» .entry)))
         × (now («seat_notes» .exit) ≡ filled (λ i. seatAt (plan .0) (now (asked .entry)) i .note) n (now («seat_notes» .entry))) ⌝ }
+    ensures { λ r.
+        let fresh = openRule (now (channels .entry)) (groupOf «group_by») .0 in
+        ⌜ Smallest fresh (noteLists (now (keys .entry)) (now (notes .entry)) (now (detunings .entry)))
+            (setTuning fresh (now (keys .entry)) (now (notes .entry)) (now (detunings .entry))) ⌝ }
 {
     let opened = AotTuningModel::open(channels, group_of(group_by));
     let listed = opened.answer;
@@ -95,6 +100,9 @@ pub extern "C" fn tune_plan_of_pitches(
         × (now (kind .exit) ≡ set (now (kind .entry)) 0 (kindOf (opened .1) (plan .1)))
         × (now («seat_channels» .exit) ≡ filled (λ i. seatAt (plan .0) (now (asked .entry)) i .channel) n (now («seat_channels» .entry)))
         × (now («seat_notes» .exit) ≡ filled (λ i. seatAt (plan .0) (now (asked .entry)) i .note) n (now («seat_notes» .entry))) ⌝ }
+    ensures { λ r.
+        let fresh = openRule (now (channels .entry)) (groupOf «group_by») .0 in
+        ⌜ Smallest fresh (pitchLists (now (keys .entry)) (now (pitches .entry))) (setTuningOfPitches fresh (now (keys .entry)) (now (pitches .entry))) ⌝ }
 {
     let opened = AotTuningModel::open(channels, group_of(group_by));
     let listed = opened.answer;
@@ -129,6 +137,10 @@ pub extern "C" fn tune_entries(
         ⌜ (now («entry_kinds» .exit) ≡ filled (λ i. entry i .kind) n (now («entry_kinds» .entry)))
         × (now («entry_groups» .exit) ≡ filled (λ i. entry i .group) n (now («entry_groups» .entry)))
         × (now («entry_detunings» .exit) ≡ filled (λ i. entry i .detuning) n (now («entry_detunings» .entry))) ⌝ }
+    ensures { λ r.
+        let fresh = openRule (now (channels .entry)) (groupOf «group_by») .0 in
+        ⌜ Smallest fresh (noteLists (now (keys .entry)) (now (notes .entry)) (now (detunings .entry)))
+            (setTuning fresh (now (keys .entry)) (now (notes .entry)) (now (detunings .entry))) ⌝ }
 {
     let opened = AotTuningModel::open(channels, group_of(group_by));
     let model = opened.model;

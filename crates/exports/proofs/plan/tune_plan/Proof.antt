@@ -1,8 +1,9 @@
 -- `plan::tune_plan` meets its contract: from those of the opening, the plan and the lookups. Assumes nothing.
-use mathlib.Core.Path.{ap, _∙_}
+use mathlib.Core.Path.{ap, subst, _∙_}
 use lib.ListN.{length, set}
 use Rattle.exports.specs.Lent.{filled}
-use Rattle.models.specs.AotModel.{openRule, setTuning, planAnswer}
+use Rattle.models.specs.PlanLists.{noteLists}
+use Rattle.models.specs.AotModel.{openRule, setTuning, planAnswer, Smallest}
 use Rattle.exports.specs.Plans.{groupOf, kindOf, countOf, seatAt}
 use borrow.Author.Needs.{needs}
 use Rattle.exports.proofs.plan.tune_plan.Statement.{statement}
@@ -44,15 +45,16 @@ returns c =
     let asked = start .asked .now in
     let opened = openRule (start .channels .now) (groupOf (start .group-by)) in
     let fresh = c .before .before .before .before .before .before .before .before .before .before .before .before .before .before .before .«open» .ensures ∙ ap (openRule (start .channels .now)) (c .before .before .before .before .before .before .before .before .before .before .before .before .before .before .before .before .group-of .ensures) in
+    let smallest = subst (λ o. Smallest (o .0) (noteLists (start .keys .now) (start .notes .now) (start .detunings .now)) (setTuning (o .0) (start .keys .now) (start .notes .now) (start .detunings .now))) fresh (subst (Smallest _ (noteLists (start .keys .now) (start .notes .now) (start .detunings .now))) (c .before .before .before .before .before .before .before .before .before .before .before .before .before .set-tuning .ensures .0) (c .before .before .before .before .before .before .before .before .before .before .before .before .before .set-tuning .ensures .1)) in
     let told = c .before .before .before .before .before .before .before .before .before .before .before .before .before .set-tuning .ensures .0 ∙ ap (λ o. setTuning (o .0) (start .keys .now) (start .notes .now) (start .detunings .now)) fresh in
     let kind = c .before .before .before .before .before .before .before .before .before .before .kind-of .ensures
     ∙ ap (λ o. kindOf (o .1) (planAnswer (c .before .before .before .before .before .before .before .before .before .before .before .before .before .set-tuning .result .answer))) fresh
-    ∙ ap (λ r. kindOf (opened .1) (r .1)) told in (
+    ∙ ap (λ r. kindOf (opened .1) (r .1)) told in ((
       c .count-of .ensures ∙ ap (λ r. countOf (r .1)) told,
       c .before .before .before .before .before .before .before .before .before .put-byte .ensures ∙ ap (set (start .kind .now) 0) kind,
       c .before .before .before .before .look-up .ensures .0 ∙ ap (λ r. filled (λ i. seatAt (r .0) asked i .channel) (length asked) (start .seat-channels .now)) told,
       c .before .before .before .before .look-up .ensures .1 ∙ ap (λ r. filled (λ i. seatAt (r .0) asked i .note) (length asked) (start .seat-notes .now)) told,
-    )
+    ), smallest)
 
 pub tune-plan-spec : {M : Type 1} → statement M
 tune-plan-spec =

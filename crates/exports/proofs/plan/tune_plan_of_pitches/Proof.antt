@@ -1,8 +1,9 @@
 -- `plan::tune_plan_of_pitches` meets its contract: from those of the opening, the plan and the lookups. Assumes nothing.
-use mathlib.Core.Path.{ap, _∙_}
+use mathlib.Core.Path.{ap, subst, _∙_}
 use lib.ListN.{length, set}
 use Rattle.exports.specs.Lent.{filled}
-use Rattle.models.specs.AotModel.{openRule, setTuningOfPitches, planAnswer}
+use Rattle.models.specs.PlanLists.{pitchLists}
+use Rattle.models.specs.AotModel.{openRule, setTuningOfPitches, planAnswer, Smallest}
 use Rattle.exports.specs.Plans.{groupOf, kindOf, countOf, seatAt}
 use borrow.Author.Needs.{needs}
 use Rattle.exports.proofs.plan.tune_plan_of_pitches.Statement.{statement}
@@ -44,15 +45,16 @@ returns c =
     let asked = start .asked .now in
     let opened = openRule (start .channels .now) (groupOf (start .group-by)) in
     let fresh = c .before .before .before .before .before .before .before .before .before .before .before .before .before .before .before .«open» .ensures ∙ ap (openRule (start .channels .now)) (c .before .before .before .before .before .before .before .before .before .before .before .before .before .before .before .before .group-of .ensures) in
+    let smallest = subst (λ o. Smallest (o .0) (pitchLists (start .keys .now) (start .pitches .now)) (setTuningOfPitches (o .0) (start .keys .now) (start .pitches .now))) fresh (subst (Smallest _ (pitchLists (start .keys .now) (start .pitches .now))) (c .before .before .before .before .before .before .before .before .before .before .before .before .before .set-tuning-of-pitches .ensures .0) (c .before .before .before .before .before .before .before .before .before .before .before .before .before .set-tuning-of-pitches .ensures .1)) in
     let told = c .before .before .before .before .before .before .before .before .before .before .before .before .before .set-tuning-of-pitches .ensures .0 ∙ ap (λ o. setTuningOfPitches (o .0) (start .keys .now) (start .pitches .now)) fresh in
     let kind = c .before .before .before .before .before .before .before .before .before .before .kind-of .ensures
     ∙ ap (λ o. kindOf (o .1) (planAnswer (c .before .before .before .before .before .before .before .before .before .before .before .before .before .set-tuning-of-pitches .result .answer))) fresh
-    ∙ ap (λ r. kindOf (opened .1) (r .1)) told in (
+    ∙ ap (λ r. kindOf (opened .1) (r .1)) told in ((
       c .count-of .ensures ∙ ap (λ r. countOf (r .1)) told,
       c .before .before .before .before .before .before .before .before .before .put-byte .ensures ∙ ap (set (start .kind .now) 0) kind,
       c .before .before .before .before .look-up .ensures .0 ∙ ap (λ r. filled (λ i. seatAt (r .0) asked i .channel) (length asked) (start .seat-channels .now)) told,
       c .before .before .before .before .look-up .ensures .1 ∙ ap (λ r. filled (λ i. seatAt (r .0) asked i .note) (length asked) (start .seat-notes .now)) told,
-    )
+    ), smallest)
 
 pub tune-plan-of-pitches-spec : {M : Type 1} → statement M
 tune-plan-of-pitches-spec =
