@@ -121,6 +121,16 @@ fn plan(keys: &[u8], pitches: &[f64], group: usize) -> (Figure, Figure) {
 }
 
 /// So many keys held, then a release of the oldest and a press of another, again and again.
+/// How many channels a plan of pitches needs, in words.
+fn needs(keys: &[u8], pitches: &[f64], group: usize) -> String {
+    let list: Vec<u8> = (0..16).collect();
+    match ours::plan_of_pitches(&list, GROUPS[group].0, keys, pitches, &[], &mut [], &mut []) {
+        Tuning::Tuned(count) => format!("{count} channels"),
+        Tuning::Untuned(count) => format!("{count} channels, so untuned"),
+        Tuning::Refused(number) => format!("refused {number}"),
+    }
+}
+
 fn pool(channels: usize, letters: bool, mode: u8, chance: &mut Chance) -> (Figure, Figure) {
     let list: Vec<u8> = (0..channels as u8).collect();
     let mut events = Events::default();
@@ -256,15 +266,18 @@ pub fn run(folder: &Path) {
             for (group, (_, _, kind)) in GROUPS.iter().enumerate() {
                 progress(&format!("speed: plans of {n} keys, {steps} equal, {kind} groups"));
                 let (keys, pitches) = keys_and_pitches(n, steps);
-                let list: Vec<u8> = (0..16).collect();
-                let needs = match ours::plan_of_pitches(&list, group as u8, &keys, &pitches, &[], &mut [], &mut []) {
-                    Tuning::Tuned(count) => format!("{count} channels"),
-                    Tuning::Untuned(count) => format!("{count} channels, so untuned"),
-                    Tuning::Refused(number) => format!("refused {number}"),
-                };
+                let needs = needs(&keys, &pitches, group);
                 table.line(&format!("plan of {n} keys, {kind} groups, {steps} equal ({needs})"), plan(&keys, &pitches, group));
             }
         }
+    }
+
+    // Keys of one note that share a channel, and such that each need their own, from below and from above.
+    for (order, cents) in [("one pitch", 0.0), ("rising pitches", 0.3), ("falling pitches", -0.3)] {
+        progress("speed: plans of 256 keys of one note");
+        let keys: Vec<u8> = (0..=255).collect();
+        let pitches: Vec<f64> = (0..256).map(|i| 440.0 * ((i as f64 - 127.5) * cents / 1200.0).exp2()).collect();
+        table.line(&format!("plan of 256 keys, channel groups, {order} of one note ({})", needs(&keys, &pitches, 2)), plan(&keys, &pitches, 2));
     }
 
     for channels in [2, 16] {
