@@ -67,7 +67,7 @@ pub extern "C" fn tune_plan(
     ensures { λ r.
         let fresh = openRule (now (channels .entry)) (groupOf «group_by») .0 in
         ⌜ Smallest fresh (noteLists (now (keys .entry)) (now (notes .entry)) (now (detunings .entry)))
-            (setTuning fresh (now (keys .entry)) (now (notes .entry)) (now (detunings .entry))) ⌝ }
+        (setTuning fresh (now (keys .entry)) (now (notes .entry)) (now (detunings .entry))) ⌝ }
 {
     let opened = AotTuningModel::open(channels, group_of(group_by));
     let listed = opened.answer;
@@ -140,7 +140,7 @@ pub extern "C" fn tune_entries(
     ensures { λ r.
         let fresh = openRule (now (channels .entry)) (groupOf «group_by») .0 in
         ⌜ Smallest fresh (noteLists (now (keys .entry)) (now (notes .entry)) (now (detunings .entry)))
-            (setTuning fresh (now (keys .entry)) (now (notes .entry)) (now (detunings .entry))) ⌝ }
+        (setTuning fresh (now (keys .entry)) (now (notes .entry)) (now (detunings .entry))) ⌝ }
 {
     let opened = AotTuningModel::open(channels, group_of(group_by));
     let model = opened.model;

@@ -35,11 +35,14 @@ returns c =
     let start = c .before .before .before .before .before .before .before .before .before .before .before .before .before .before .before .before .before .before .before .before .args in
     let fresh = c .before .before .before .before .before .before .before .before .before .before .before .before .«open» .ensures ∙ ap (openRule (start .channels .now)) (c .before .before .before .before .before .before .before .before .before .before .before .before .before .group-of .ensures) in
     let smallest = subst (λ o. Smallest (o .0) (noteLists (start .keys .now) (start .notes .now) (start .detunings .now)) (setTuning (o .0) (start .keys .now) (start .notes .now) (start .detunings .now))) fresh (subst (Smallest _ (noteLists (start .keys .now) (start .notes .now) (start .detunings .now))) (c .before .before .before .before .before .before .before .before .before .before .set-tuning .ensures .0) (c .before .before .before .before .before .before .before .before .before .before .set-tuning .ensures .1)) in
-    let told = c .before .before .before .before .before .before .before .before .before .before .set-tuning .ensures .0 ∙ ap (λ o. setTuning (o .0) (start .keys .now) (start .notes .now) (start .detunings .now)) fresh in ((
-      c .before .before .before .before .before .list-entries .ensures .0 ∙ ap (λ r. filled (λ i. entryFrom (r .0) (start .asked-channels .now) (start .asked-groups .now) i .kind) (length (start .asked-channels .now)) (start .entry-kinds .now)) told,
-      c .before .before .before .before .before .list-entries .ensures .1 ∙ ap (λ r. filled (λ i. entryFrom (r .0) (start .asked-channels .now) (start .asked-groups .now) i .group) (length (start .asked-channels .now)) (start .entry-groups .now)) told,
-      c .before .before .before .before .before .list-entries .ensures .2 ∙ ap (λ r. filled (λ i. entryFrom (r .0) (start .asked-channels .now) (start .asked-groups .now) i .detuning) (length (start .asked-channels .now)) (start .entry-detunings .now)) told,
-    ), smallest)
+    let told = c .before .before .before .before .before .before .before .before .before .before .set-tuning .ensures .0 ∙ ap (λ o. setTuning (o .0) (start .keys .now) (start .notes .now) (start .detunings .now)) fresh in (
+      (
+        c .before .before .before .before .before .list-entries .ensures .0 ∙ ap (λ r. filled (λ i. entryFrom (r .0) (start .asked-channels .now) (start .asked-groups .now) i .kind) (length (start .asked-channels .now)) (start .entry-kinds .now)) told,
+        c .before .before .before .before .before .list-entries .ensures .1 ∙ ap (λ r. filled (λ i. entryFrom (r .0) (start .asked-channels .now) (start .asked-groups .now) i .group) (length (start .asked-channels .now)) (start .entry-groups .now)) told,
+        c .before .before .before .before .before .list-entries .ensures .2 ∙ ap (λ r. filled (λ i. entryFrom (r .0) (start .asked-channels .now) (start .asked-groups .now) i .detuning) (length (start .asked-channels .now)) (start .entry-detunings .now)) told,
+      ),
+      smallest,
+    )
 
 pub tune-entries-spec : {M : Type 1} → statement M
 tune-entries-spec =

@@ -49,12 +49,15 @@ returns c =
     let told = c .before .before .before .before .before .before .before .before .before .before .before .before .before .set-tuning .ensures .0 ∙ ap (λ o. setTuning (o .0) (start .keys .now) (start .notes .now) (start .detunings .now)) fresh in
     let kind = c .before .before .before .before .before .before .before .before .before .before .kind-of .ensures
     ∙ ap (λ o. kindOf (o .1) (planAnswer (c .before .before .before .before .before .before .before .before .before .before .before .before .before .set-tuning .result .answer))) fresh
-    ∙ ap (λ r. kindOf (opened .1) (r .1)) told in ((
-      c .count-of .ensures ∙ ap (λ r. countOf (r .1)) told,
-      c .before .before .before .before .before .before .before .before .before .put-byte .ensures ∙ ap (set (start .kind .now) 0) kind,
-      c .before .before .before .before .look-up .ensures .0 ∙ ap (λ r. filled (λ i. seatAt (r .0) asked i .channel) (length asked) (start .seat-channels .now)) told,
-      c .before .before .before .before .look-up .ensures .1 ∙ ap (λ r. filled (λ i. seatAt (r .0) asked i .note) (length asked) (start .seat-notes .now)) told,
-    ), smallest)
+    ∙ ap (λ r. kindOf (opened .1) (r .1)) told in (
+      (
+        c .count-of .ensures ∙ ap (λ r. countOf (r .1)) told,
+        c .before .before .before .before .before .before .before .before .before .put-byte .ensures ∙ ap (set (start .kind .now) 0) kind,
+        c .before .before .before .before .look-up .ensures .0 ∙ ap (λ r. filled (λ i. seatAt (r .0) asked i .channel) (length asked) (start .seat-channels .now)) told,
+        c .before .before .before .before .look-up .ensures .1 ∙ ap (λ r. filled (λ i. seatAt (r .0) asked i .note) (length asked) (start .seat-notes .now)) told,
+      ),
+      smallest,
+    )
 
 pub tune-plan-spec : {M : Type 1} → statement M
 tune-plan-spec =
