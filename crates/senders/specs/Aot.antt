@@ -7,6 +7,7 @@ use mathlib.Core.Option.{Option, some, none}
 use Prim.Native.Nat.{ℕ, zero, suc}
 use lib.IntN.{ℤ, pos}
 use lib.Ieee.{Float}
+use lib.Ieee.Positive.{positive}
 use lib.ListN.{length}
 use Rattle.models.specs.Outcome.{Outcome, value, refused}
 use Rattle.models.specs.Refusal.{bufferTooShort}
@@ -122,3 +123,19 @@ globalAttrRule t m = toAllRule (t .kind) (t .plan .channels) m
 
 abbrev pub stopRule : Tuner → Answer
 stopRule t = sent []
+
+-- ---- what the private functions need of a plan
+
+abbrev pub Measurable : Option Float → Type 0
+Measurable (some d) = positive d ≡ true
+Measurable none = Unit {0}
+
+-- the detuning of each channel can be measured
+abbrev pub Sendable : Model → Type 0
+Sendable m = (i : ℕ) → Measurable (m .detunings i (pos 0))
+
+-- so it is of a plan
+abbrev pub Ready : Model × M.Answer → Type 0
+Ready (m, M.tuned n) = Sendable m
+Ready (m, M.untuned n) = Unit {0}
+Ready (m, M.refused n) = Unit {0}

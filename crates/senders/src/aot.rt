@@ -1,19 +1,20 @@
 // The plan tuner: a plan model whose tunings are sent when it is tuned, so that its keys then send notes alone.
 
 ghost use mathlib.Core.Path.{_≡_};
-ghost use Prim.Native.Nat.{_≤_};
+ghost use Prim.Native.Nat.{_+_, _≤_};
 ghost use lib.ListN.{length};
-ghost use Rattle.models.specs.AotModel.{accessAnswer, modelOf, outcomeOf};
+ghost use Rattle.models.specs.AotModel.{accessAnswer, detuningAnswer, modelOf, outcomeOf};
+ghost use Rattle.models.specs.ChannelList.{entries};
 ghost use Rattle.models.specs.PlanLists.{noteLists, pitchLists};
-ghost use Rattle.senders.specs.Lent.{Put, Answers, Steps, sent};
+ghost use Rattle.senders.specs.Lent.{Put, Answers, Steps};
 ghost use Rattle.senders.specs.Answers.{sentAnswer, planSent};
 ghost use Rattle.senders.specs.Midi.{bytesOf};
-ghost use Rattle.senders.specs.Aot.{tuner, opened, startRule, planMessages, planEffect, setTuningRule, setTuningOfPitchesRule, Smallest, Sendable, Ready, noteOnRule, noteOffRule, noteAttrRule, globalAttrRule, stopRule};
+ghost use Rattle.senders.specs.Aot.{tuner, opened, startRule, channelMessages, planMessages, planEffect, setTuningRule, setTuningOfPitchesRule, Smallest, Measurable, Sendable, Ready, noteOnRule, noteOffRule, noteAttrRule, globalAttrRule, stopRule};
 use crate::midi::ChannelMessageType;
 use crate::midi::Sent;
+use crate::mts::put_tuning;
+use crate::mts::tuning_len;
 use crate::tuner::NoteMessage;
-use crate::tuner::kind_len;
-use crate::tuner::put_listed_tuning;
 use crate::tuner::send_checked_key;
 use crate::tuner::send_checked_to_all;
 use crate::tuner::sent_as;
@@ -22,7 +23,9 @@ use models::aot::DetuningAnswer;
 use models::aot::GroupBy;
 use models::aot::PlanAnswer;
 use models::aot::SetTuning;
+use models::channels::ChannelList;
 use models::channels::ChannelsAnswer;
+use models::channels::EntryAnswer;
 use models::keys::AccessKeyResult;
 use models::refusal::BUFFER_TOO_SHORT;
 use models::steps::TuningKind;
@@ -65,13 +68,7 @@ impl AotTuner {
     }
 
     // Plans keys with their notes and detunings, and tunes each channel used, in order. Refuses 12, then line by line 4, 3, 5; then 10, unless there are too few channels.
-    pub fn set_tuning(
-        self,
-        keys: &[u8],
-        notes: &[i32],
-        detunings: &[f64],
-        out: &mut [u8],
-    ) -> Tuned
+    pub fn set_tuning(self, keys: &[u8], notes: &[i32], detunings: &[f64], out: &mut [u8]) -> Tuned
         ensures { λ r. ⌜ Steps tuner (setTuningRule (tuner self) (now (keys .entry)) (now (notes .entry)) (now (detunings .entry))) self (now (out .entry)) (planSent (r .answer)) (r .tuner) (now (out .exit)) ⌝ }
         ensures { λ r. ⌜ Smallest (tuner self) (noteLists (now (keys .entry)) (now (notes .entry)) (now (detunings .entry))) (planSent (r .answer)) (tuner (r .tuner)) ⌝ }
     {
@@ -155,16 +152,19 @@ impl AotTuner {
         let answer = planned.answer;
         let next = AotTuner { model, kind };
         match answer {
-            PlanAnswer::Tuned(channels) => match send_tunings(kind, model, out) {
-                Sent::Written(written) => Tuned {
+            PlanAnswer::Tuned(channels) => {
+                if out.len() < tunings_len(kind, model) {
+                    return Tuned {
+                        answer: PlanSent::Refused(BUFFER_TOO_SHORT),
+                        tuner: self,
+                    };
+                }
+                let written = put_tunings(kind, model, out);
+                Tuned {
                     answer: PlanSent::Tuned { channels, written },
                     tuner: next,
-                },
-                Sent::Refused(n) => Tuned {
-                    answer: PlanSent::Refused(n),
-                    tuner: self,
-                },
-            },
+                }
+            }
             PlanAnswer::Untuned(channels) => Tuned {
                 answer: PlanSent::Untuned(channels),
                 tuner: next,
@@ -177,20 +177,23 @@ impl AotTuner {
     }
 }
 
-// Writes the tuning of each channel of a plan to the buffer's start. Refuses 10.
-fn send_tunings(kind: TuningKind, model: AotTuningModel, out: &mut [u8]) -> Sent
+// How many bytes the tunings of a plan's channels take.
+fn tunings_len(kind: TuningKind, model: AotTuningModel) -> usize
     requires { ⌜ Sendable (modelOf model) ⌝ }
-    ensures { λ r. ⌜ Answers (sent (bytesOf (planMessages kind (modelOf model)))) (now (out .entry)) (sentAnswer r) (now (out .exit)) ⌝ }
+    ensures { λ r. ⌜ r ≡ length (bytesOf (planMessages kind (modelOf model))) ⌝ }
 {
-    let count = model.num_channels() as usize;
-    if out.len() < count * kind_len(kind) {
-        return Sent::Refused(BUFFER_TOO_SHORT);
+    let channels = model.channels();
+    let count = model.num_channels();
+    let mut len: usize = 0;
+    let mut i: u8 = 0;
+    while i < count {
+        len += channel_len(kind, channels, i, model.detuning(i, 0));
+        i += 1;
     }
-    let end = put_tunings(kind, model, out);
-    Sent::Written(end)
+    len
 }
 
-// Puts the tuning of each channel of a plan, in order, and answers the place behind.
+// Puts the tunings of a plan's channels, in order, and answers the place behind.
 fn put_tunings(kind: TuningKind, model: AotTuningModel, out: &mut [u8]) -> usize
     requires { ⌜ Sendable (modelOf model) × (length (bytesOf (planMessages kind (modelOf model))) ≤ length (now out)) ⌝ }
     ensures { λ r. ⌜ Put 0 (bytesOf (planMessages kind (modelOf model))) r (now (out .entry)) (now (out .exit)) ⌝ }
@@ -200,12 +203,43 @@ fn put_tunings(kind: TuningKind, model: AotTuningModel, out: &mut [u8]) -> usize
     let mut at: usize = 0;
     let mut i: u8 = 0;
     while i < count {
-        // Each channel of a plan has a detuning.
-        let DetuningAnswer::Detuning(detuning) = model.detuning(i, 0) else {
-            return at;
-        };
-        at = put_listed_tuning(out, at, channels, i, sent_as(kind, detuning));
+        at = put_channel(out, at, kind, channels, i, model.detuning(i, 0));
         i += 1;
     }
     at
+}
+
+// How many bytes the tuning of channel i of a list takes, by its detuning.
+fn channel_len(kind: TuningKind, channels: ChannelList, i: u8, detuning: DetuningAnswer) -> usize
+    requires { ⌜ Measurable (detuningAnswer detuning) ⌝ }
+    ensures { λ r. ⌜ r ≡ length (bytesOf (channelMessages kind (entries channels) i (detuningAnswer detuning))) ⌝ }
+{
+    let DetuningAnswer::Detuning(d) = detuning else {
+        return 0;
+    };
+    let EntryAnswer::Channel(_) = channels.entry(i) else {
+        return 0;
+    };
+    tuning_len(sent_as(kind, d))
+}
+
+// Puts the tuning of channel i of a list, by its detuning, from `at` on, and answers the place behind it.
+fn put_channel(
+    out: &mut [u8],
+    at: usize,
+    kind: TuningKind,
+    channels: ChannelList,
+    i: u8,
+    detuning: DetuningAnswer,
+) -> usize
+    requires { ⌜ Measurable (detuningAnswer detuning) × (at + length (bytesOf (channelMessages kind (entries channels) i (detuningAnswer detuning))) ≤ length (now out)) ⌝ }
+    ensures { λ r. ⌜ Put at (bytesOf (channelMessages kind (entries channels) i (detuningAnswer detuning))) r (now (out .entry)) (now (out .exit)) ⌝ }
+{
+    let DetuningAnswer::Detuning(d) = detuning else {
+        return at;
+    };
+    let EntryAnswer::Channel(channel) = channels.entry(i) else {
+        return at;
+    };
+    put_tuning(out, at, channel, sent_as(kind, d))
 }
