@@ -42,7 +42,9 @@ back c =
     rw (c .nearest-note .ensures) (toZ-ofZ w32 note (note-fits note (is-note c)))
 
 note-pitch-requires : tie.Need-note-pitch-requires
-note-pitch-requires c κs = rw (back c) (is-note c)
+note-pitch-requires c κs =
+    let h : isNote (toZ w32 (ofZ w32 (c .nearest-note .result))) ≡ true = rw (back c) (is-note c) in
+    search (needs, h)
 
 between-pitches-requires : tie.Need-between-pitches-requires
 between-pitches-requires c κs = search needs
