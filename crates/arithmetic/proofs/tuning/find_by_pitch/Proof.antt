@@ -59,7 +59,7 @@ returns-2 c =
     let hz = n .before .before .before .args .pitch .hz in
     let deviation = c .as-float .ensures ∙ c .before .between-pitches .ensures
     ∙ ap (λ (x : Float). div binary64 hz x) (c .before .before .note-pitch .ensures ∙ ap pitchOf (back n)) in
-    passes pitchOutOfRange _ (is-pitch (n .before)) (rw (back n, deviation))
+    passes pitchOutOfRange _ (is-pitch (n .before)) (ap (λ (z : ℤ). value (z, c .as-float .result)) (back n) ∙ ap (λ (x : Float). value (nearestNote hz, x)) deviation)
 
 pub find-by-pitch-spec : {M : Type 1} → statement M
 find-by-pitch-spec =
