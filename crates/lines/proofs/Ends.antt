@@ -1,41 +1,45 @@
 -- A line that ends: behind the bytes that a console holds, and at the end of the input. Assumes nothing.
-use Prim.Native.Nat.{ℕ, _<_}
+use Prim.Native.Nat.{ℕ, _<_, _≤_}
 use native.Mathlib.Omega.{arith}
 use mathlib.Core.Path.{_≡_, refl, sym, _∙_, ap, subst}
 use mathlib.Core.List.{List, [], _∷_, _++_, append-nil}
+use mathlib.Core.Bool.{Bool, true, false}
+use lib.Dec.{leb}
 use lib.ListN.{length, take}
-use Rattle.senders.specs.Lent.{Steps, Answers, sent}
+use borrow.Author.Tests.{leb-true, leb-false}
+use Rattle.models.specs.Outcome.{value, refused}
+use Rattle.models.specs.Refusal.{bufferTooShort}
+use Rattle.senders.specs.Lent.{Steps, Answers, sent, written}
 use Rattle.senders.specs.Answers.{sentAnswer}
-use Rattle.senders.specs.Jit.{Tuner, tuner}
-use Rattle.senders.specs.declared.jit.JitTuner.{JitTuner}
+use Rattle.senders.specs.Jit.{tuner, after}
+use Rattle.models.specs.Change.{noChange}
 use Rattle.senders.specs.declared.midi.Sent.{Sent}
 use Rattle.lines.specs.Console.{answer, next, answers, nonempty, lineRule}
-use Rattle.lines.specs.Session.{Session, session, clip, finish}
+use Rattle.lines.specs.Session.{Session, session, clip, Taken, nothing, stepRule, Stepped, finish, finishRule}
+use Rattle.lines.specs.Split.{feed}
 use Rattle.lines.specs.Inner.{EndedBy}
 use Rattle.lines.specs.declared.step.Console.{Console}
+use Rattle.lines.specs.declared.step.Step.{Step}
+use Rattle.lines.specs.declared.answer.Reply.{Reply}
 use Rattle.lines.proofs.Clips.{answer-clip, next-clip}
 use Rattle.lines.proofs.Hears.{as-text, as-next}
+use Rattle.lines.proofs.Stepping.{feed-byte, no-room-byte}
 
 -- as many bytes of the line were given as decide what it means
-pub ended-by : (con : Console) (line more : List ℕ) {held : List ℕ} {a : Sent} {back : JitTuner} {out new : List ℕ}
+pub ended-by : (con : Console) (line more : List ℕ) (r : Reply) {out new : List ℕ}
     → clip line ≡ clip (take (con .len) (con .held) ++ more)
-    → Steps tuner (lineRule (tuner (con .tuner)) line) (con .tuner) out (sentAnswer a) back new
-    → EndedBy (session con) more out new (record { answer = a; console = record { tuner = back; held = held; len = 0 } })
-ended-by con line more {a = a} {back = back} {out = out} {new = new} e s =
+    → Steps (after (tuner (con .tuner))) (lineRule (tuner (con .tuner)) line) noChange out (sentAnswer (r .answer)) (r .change) new
+    → EndedBy (session con) more out new r
+ended-by con line more r {out = out} {new = new} e s =
     let t = tuner (con .tuner) in
     let whole = take (con .len) (con .held) ++ more in
     let same : answer t line ≡ answer t whole = sym (answer-clip t line) ∙ ap (answer t) e ∙ answer-clip t whole in
     let then : next t line ≡ next t whole = sym (next-clip t line) ∙ ap (next t) e ∙ next-clip t whole in
     record {
-      text = subst (λ (x : List ℕ). Answers (sent x) out (sentAnswer a) new) same (as-text (answer t line) (next t line) s);
+      text = subst (λ (x : List ℕ). Answers (sent x) out (sentAnswer (r .answer)) new) same (as-text {view = after t} (answer t line) (next t line) s);
       session-is = λ w.
-          ap (λ (u : Tuner). record { tuner = u; begun = [] })
-          (as-next (answer t line) (subst (λ (x : Sent). Steps tuner (lineRule t line) (con .tuner) out (sentAnswer x) back new) w s) ∙ then);
+          as-next {view = after t} (answer t line) (subst (λ (x : Sent). Steps (after t) (lineRule t line) noChange out (sentAnswer x) (r .change) new) w s) ∙ then;
     }
-
--- nothing is held
-pub none-held : (n : ℕ) (l : List ℕ) → n ≡ 0 → take n l ≡ []
-none-held n l e = ap (λ (k : ℕ). take k l) e
 
 -- ---- the end of the input
 
@@ -54,3 +58,44 @@ finish-some s h = go (s .begun) h
     go : (l : List ℕ) → 0 < length l → answers (s .tuner) (nonempty l) ≡ answer (s .tuner) l
     go [] h = absurd (omega arith)
     go (b ∷ l) h = append-nil (answer (s .tuner) (b ∷ l))
+
+-- the same by a step over a feed
+module _ (s : Session) {old new : List ℕ} (r : Step) (some : 0 < length (s .begun)) (done : Stepped s (feed ∷ []) old new r) where
+  step-written : length (answer (s .tuner) (s .begun)) ≤ length old → stepRule (length old) s (feed ∷ []) .used ≡ 1
+  unfolding stepRule
+  step-written h = ap (λ (t : Taken). t .used) (feed-byte (length old) s feed [] refl h)
+
+  step-text : length (answer (s .tuner) (s .begun)) ≤ length old → stepRule (length old) s (feed ∷ []) .output ≡ answer (s .tuner) (s .begun)
+  unfolding stepRule
+  step-text h = ap (λ (t : Taken). t .output) (feed-byte (length old) s feed [] refl h) ∙ append-nil (answer (s .tuner) (s .begun))
+
+  step-none : length old < length (answer (s .tuner) (s .begun)) → stepRule (length old) s (feed ∷ []) ≡ nothing s
+  step-none h = no-room-byte (length old) s feed [] refl h
+
+  pub finish-written : (r .used ≡ 0 → ⊥) → Answers (finishRule s) old (value (r .written)) new
+  finish-written used = go (leb (length (answer (s .tuner) (s .begun))) (length old)) refl
+    where
+      go : (b : Bool) → leb (length (answer (s .tuner) (s .begun))) (length old) ≡ b → Answers (finishRule s) old (value (r .written)) new
+      go true h =
+          let text = step-text (leb-true (length (answer (s .tuner) (s .begun))) (length old) h) in
+          rw (finish-some s some)
+          (record {
+            told-is = rw h (ap value (done .written-is ∙ ap length text));
+            moved-is = rw h refl;
+            left-is = rw h (done .left-is ∙ ap (λ (l : List ℕ). written l old) text);
+          })
+      go false h = absurd (used (done .used-is ∙ ap (λ (t : Taken). t .used) (step-none (leb-false (length (answer (s .tuner) (s .begun))) (length old) h))))
+
+  pub finish-unwritten : r .used ≡ 0 → Answers (finishRule s) old (refused bufferTooShort) new
+  finish-unwritten used = go (leb (length (answer (s .tuner) (s .begun))) (length old)) refl
+    where
+      go : (b : Bool) → leb (length (answer (s .tuner) (s .begun))) (length old) ≡ b → Answers (finishRule s) old (refused bufferTooShort) new
+      go true h = absurd (let z : _≡_ {A = ℕ} 0 1 = sym used ∙ done .used-is ∙ step-written (leb-true (length (answer (s .tuner) (s .begun))) (length old) h) in omega arith)
+      go false h =
+          let none = step-none (leb-false (length (answer (s .tuner) (s .begun))) (length old) h) in
+          rw (finish-some s some)
+          (record {
+            told-is = rw h refl;
+            moved-is = rw h refl;
+            left-is = rw h (done .left-is ∙ ap (λ (t : Taken). written (t .output) old) none);
+          })

@@ -10,6 +10,7 @@ use borrow.Rule.Slice.PartMut.{putMid}
 use Rattle.models.specs.Outcome.{value}
 use Rattle.senders.specs.Lent.{Answers, sent, written}
 use Rattle.senders.specs.Answers.{sentAnswer}
+use Rattle.senders.specs.Jit.{Tuner, after}
 use Rattle.senders.specs.declared.midi.Sent.{Sent}
 use Rattle.senders.specs.declared.midi.Sent.the-variants.{Written, Refused}
 use Rattle.lines.specs.Split.{feed, First}
@@ -17,7 +18,7 @@ use Rattle.lines.specs.Console.{answer}
 use Rattle.lines.specs.Session.{Session, session, Taken, nothing, stepRule, Stepped}
 use Rattle.lines.specs.Inner.{endedBy, longerBy, EndedBy}
 use Rattle.lines.specs.declared.step.Console.{Console}
-use Rattle.lines.specs.declared.step.Ended.{Ended}
+use Rattle.lines.specs.declared.answer.Reply.{Reply}
 use Rattle.lines.proofs.Fills.{Filled, unfilled, filled-is, tail-part, tail-back, put-length, put-refused, fill, fill-text}
 use Rattle.lines.proofs.Stepping.{behind, behind-behind, Small, no-feed, no-room, line-ends}
 
@@ -78,7 +79,7 @@ module _ {s₀ : Session} {piece old out : List ℕ} (con : Console) {at w n : �
       closing n back p (no-feed (length old - w) (session con) (drop at piece) (p .small) place i)
       (h ∙ ap (longerBy (session con)) (rest-is ∙ sym all))
 
-  module _ {ys : List ℕ} {r : Ended} (h : n ≡ length (take (length piece - at) (drop at piece)) → ⊥)
+  module _ {ys : List ℕ} {r : Reply} (h : n ≡ length (take (length piece - at) (drop at piece)) → ⊥)
       (e : EndedBy (session con) (take n (take (length piece - at) (drop at piece))) (take (length out - w) (drop w out)) ys r) where
     pub below : n < length (drop at piece)
     below = subst (λ (l : List ℕ). n < length l) rest-is (omega (arith, f .within))
@@ -113,15 +114,15 @@ module _ {s₀ : Session} {piece old out : List ℕ} (con : Console) {at w n : �
         (b ∙ ap (longerBy (session con)) line-is))
 
     -- it was written
-    pub turn : {k : ℕ} → r .answer ≡ Written k
-        → Progress s₀ piece old (session (r .console)) (at + (n + 1)) (w + k) (putMid w (length out - w) out ys)
-    turn {k} q =
+    pub turn : {k : ℕ} (back : Console) → r .answer ≡ Written k → session back ≡ record { tuner = after (session con .tuner) (r .change); begun = [] }
+        → Progress s₀ piece old (session back) (at + (n + 1)) (w + k) (putMid w (length out - w) out ys)
+    turn {k} back q is =
         let line = take n (drop at piece) in
         let text = answer (session con .tuner) (session con .begun ++ line) in
         let u : Answers (sent text) (drop w out) (value k) ys = subst (λ (a : Sent). Answers (sent text) (drop w out) (sentAnswer a) ys) q shown in
         let z = put-length text (drop w out) ys k u in
         let b : putMid w (length out - w) out ys ≡ take w out ++ ys = tail-back out ys w in
-        let ends : session (r .console) ≡ endedBy (session con) line = e .session-is q ∙ ap (endedBy (session con)) line-is in
+        let ends : session back ≡ endedBy (session con) line = is ∙ ap (λ (t : Tuner). record { tuner = t; begun = [] }) (e .session-is q) ∙ ap (endedBy (session con)) line-is in
         let room : length text ≤ length old - w = omega (arith, z .2, length-drop w out, p .buffer .size) in
         let left : length old - w - length text ≡ length old - (w + k) = omega (arith, z .0) in
         let more : drop (n + 1) (drop at piece) ≡ drop (at + (n + 1)) piece = drop-drop (n + 1) at piece in

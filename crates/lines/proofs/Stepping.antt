@@ -64,10 +64,10 @@ before-feed room s (suc n) (b ∷ l) m h f =
     ∙ ap (λ (k : ℕ). behind k [] r) one
 
 -- a feed, with room for the answer and without
-abbrev endHere : Session → Session
+abbrev pub endHere : Session → Session
 endHere s = record { tuner = next (s .tuner) (s .begun); begun = [] }
 
-feed-byte : (room : ℕ) (s : Session) (b : ℕ) (bs : List ℕ) → b ≡ feed → length (answer (s .tuner) (s .begun)) ≤ room
+pub feed-byte : (room : ℕ) (s : Session) (b : ℕ) (bs : List ℕ) → b ≡ feed → length (answer (s .tuner) (s .begun)) ≤ room
     → stepRule room s (b ∷ bs)
     ≡ behind 1 (answer (s .tuner) (s .begun)) (stepRule (room - length (answer (s .tuner) (s .begun))) (endHere s) bs)
 unfolding stepRule text then
@@ -75,7 +75,7 @@ feed-byte room s b bs e h =
     rw (eq-eqb b feed e, le-leb (length (answer (s .tuner) (s .begun))) room h)
     (byte-behind (answer (s .tuner) (s .begun)) (stepRule (room - length (answer (s .tuner) (s .begun))) (endHere s) bs))
 
-no-room-byte : (room : ℕ) (s : Session) (b : ℕ) (bs : List ℕ) → b ≡ feed → room < length (answer (s .tuner) (s .begun)) → stepRule room s (b ∷ bs) ≡ nothing s
+pub no-room-byte : (room : ℕ) (s : Session) (b : ℕ) (bs : List ℕ) → b ≡ feed → room < length (answer (s .tuner) (s .begun)) → stepRule room s (b ∷ bs) ≡ nothing s
 unfolding stepRule text then
 no-room-byte room s b bs e h = rw (eq-eqb b feed e, lt-leb (length (answer (s .tuner) (s .begun))) room h)
 

@@ -6,16 +6,15 @@ use lib.ListN.{length, take}
 use Rattle.models.specs.Outcome.{Outcome, value, refused}
 use Rattle.senders.specs.Lent.{Answers, sent}
 use Rattle.senders.specs.Answers.{sentAnswer}
-use Rattle.senders.specs.Jit.{Pressed, sounds, rejects}
-use Rattle.senders.specs.declared.jit.JitTuner.{JitTuner}
+use Rattle.senders.specs.Jit.{Pressed, sounds, rejects, after}
 use Rattle.senders.specs.declared.midi.Sent.{Sent}
 use Rattle.senders.specs.declared.midi.Sent.the-variants.{Written, Refused}
 use Rattle.lines.specs.Console.{answer, next}
-use Rattle.lines.specs.Session.{Session, session, clip}
-use Rattle.lines.specs.declared.step.Ended.{Ended}
+use Rattle.lines.specs.Session.{Session, clip}
+use Rattle.lines.specs.declared.answer.Reply.{Reply}
 
--- `answer::settled`: the tuner after an answer that was written, or not
-unfoldable pub settle : Sent → JitTuner → JitTuner → JitTuner
+-- `answer::settled`: what goes with an answer that was written, or not
+unfoldable pub settle : {A : Type 0} → Sent → A → A → A
 settle (Written n) next before = next
 settle (Refused n) next before = before
 
@@ -32,13 +31,13 @@ counted (refused n) = refused n
 abbrev pub longerBy : Session → List ℕ → Session
 longerBy s more = record { tuner = s .tuner; begun = clip (s .begun ++ more) }
 
--- `step::Console::ended_by`: a line that ends behind more bytes
+-- `step::Console::reply_behind`: a line that ends behind more bytes
 abbrev pub endedBy : Session → List ℕ → Session
 endedBy s more = record { tuner = next (s .tuner) (s .begun ++ more); begun = [] }
 
-pub record EndedBy (s : Session) (more old new : List ℕ) (r : Ended) : Type 0 where
+pub record EndedBy (s : Session) (more old new : List ℕ) (r : Reply) : Type 0 where
   pub text : Answers (sent (answer (s .tuner) (s .begun ++ more))) old (sentAnswer (r .answer)) new
-  pub session-is : {n : ℕ} → r .answer ≡ Written n → session (r .console) ≡ endedBy s more
+  pub session-is : {n : ℕ} → r .answer ≡ Written n → after (s .tuner) (r .change) ≡ endedBy s more .tuner
 
 -- `step::hold`: bytes put behind the bytes of a line that has begun, as many as there is room for
 pub record Holds (held : List ℕ) (n : ℕ) (more new : List ℕ) (r : ℕ) : Type 0 where

@@ -3,7 +3,8 @@
 ghost use mathlib.Core.Path.{_≡_};
 ghost use Rattle.senders.specs.Lent.{Steps};
 ghost use Rattle.senders.specs.Answers.{sentAnswer, pressAnswer};
-ghost use Rattle.senders.specs.Jit.{tuner as Jit·tuner};
+ghost use Rattle.models.specs.Change.{noChange};
+ghost use Rattle.senders.specs.Jit.{tuner as Jit·tuner, after as Jit·after};
 ghost use Rattle.lines.specs.Line.{meant};
 ghost use Rattle.lines.specs.Console.{opened, pitchOf, eventRule, lineRule};
 ghost use Rattle.lines.specs.Inner.{settle, counted};
@@ -13,6 +14,7 @@ use crate::line::parse;
 use crate::show::show_bytes;
 use crate::show::show_refusal;
 use models::Pitch;
+use models::jit::Change;
 use models::jit::PoolingMode;
 use models::refusal::LINE_MALFORMED;
 use models::steps::TuningKind;
@@ -29,6 +31,12 @@ pub struct Answered {
     pub tuner: JitTuner,
 }
 
+// What was sent or written, and what it changes in the tuner.
+pub(crate) struct Reply {
+    pub(crate) answer: Sent,
+    pub(crate) change: Change,
+}
+
 // The tuner of the console: fine tuning, channels 0 and 1, Stop.
 pub fn open() -> JitTuner
     ensures { λ r. ⌜ Jit·tuner r ≡ opened ⌝ }
@@ -41,65 +49,75 @@ pub fn open() -> JitTuner
 pub fn answer(tuner: JitTuner, line: &[u8], out: &mut [u8]) -> Answered
     ensures { λ r. ⌜ Steps Jit·tuner (lineRule (Jit·tuner tuner) (now (line .entry))) tuner (now (out .entry)) (sentAnswer (r .answer)) (r .tuner) (now (out .exit)) ⌝ }
 {
-    let mut bytes = [0u8; MOST_BYTES];
-    let heard = hear(tuner, parse(line), &mut bytes);
-    let sent = heard.answer;
-    let next = heard.tuner;
-    match sent {
-        Sent::Written(n) => settled(tuner, next, show_bytes(&bytes[..n], out)),
-        Sent::Refused(n) => settled(tuner, next, show_refusal(n, out)),
+    let reply = reply_to(tuner, line, out);
+    let answer = reply.answer;
+    let change = reply.change;
+    let next = tuner.changed(change);
+    Answered {
+        answer,
+        tuner: next,
     }
 }
 
-// The next tuner where the answer was written, else the tuner as it was.
-fn settled(before: JitTuner, next: JitTuner, answer: Sent) -> Answered
-    ensures { λ r. ⌜ (r .answer ≡ answer) × (r .tuner ≡ settle answer next before) ⌝ }
+// A line as `answer`, with what it changes in place of the tuner after it.
+pub(crate) fn reply_to(tuner: JitTuner, line: &[u8], out: &mut [u8]) -> Reply
+    ensures { λ r. ⌜ Steps (Jit·after (Jit·tuner tuner)) (lineRule (Jit·tuner tuner) (now (line .entry))) noChange (now (out .entry)) (sentAnswer (r .answer)) (r .change) (now (out .exit)) ⌝ }
+{
+    let mut bytes = [0u8; MOST_BYTES];
+    let heard = hear(tuner, parse(line), &mut bytes);
+    let sent = heard.answer;
+    let change = heard.change;
+    match sent {
+        Sent::Written(n) => settled(change, show_bytes(&bytes[..n], out)),
+        Sent::Refused(n) => settled(change, show_refusal(n, out)),
+    }
+}
+
+// The change where the answer was written, else none.
+fn settled(change: Change, answer: Sent) -> Reply
+    ensures { λ r. ⌜ (r .answer ≡ answer) × (r .change ≡ settle answer change noChange) ⌝ }
 {
     match answer {
-        Sent::Written(_) => Answered {
-            answer,
-            tuner: next,
-        },
-        Sent::Refused(_) => Answered {
-            answer,
-            tuner: before,
-        },
+        Sent::Written(_) => Reply { answer, change },
+        Sent::Refused(_) => {
+            let none = Change::none();
+            Reply {
+                answer,
+                change: none,
+            }
+        }
     }
 }
 
 // The tuner on a line's event: the bytes that it sends. A malformed line is refused (13) before it.
-fn hear(tuner: JitTuner, line: Line, out: &mut [u8]) -> Answered
-    ensures { λ r. ⌜ Steps Jit·tuner (eventRule (Jit·tuner tuner) (meant line)) tuner (now (out .entry)) (sentAnswer (r .answer)) (r .tuner) (now (out .exit)) ⌝ }
+fn hear(tuner: JitTuner, line: Line, out: &mut [u8]) -> Reply
+    ensures { λ r. ⌜ Steps (Jit·after (Jit·tuner tuner)) (eventRule (Jit·tuner tuner) (meant line)) noChange (now (out .entry)) (sentAnswer (r .answer)) (r .change) (now (out .exit)) ⌝ }
 {
     let Line::Event(kind, key, millihertz, velocity) = line else {
-        return Answered {
+        let change = Change::none();
+        return Reply {
             answer: Sent::Refused(LINE_MALFORMED),
-            tuner,
+            change,
         };
     };
     match kind {
         Kind::On => {
-            let pressed = tuner.note_on(key, pitch_of(millihertz), velocity, out);
-            let press = pressed.answer;
+            let pressing = tuner.press(key, pitch_of(millihertz), velocity, out);
+            let press = pressing.answer;
             let answer = sent_of(press);
-            let next = pressed.tuner;
-            Answered {
-                answer,
-                tuner: next,
-            }
+            let change = pressing.change;
+            Reply { answer, change }
         }
         Kind::Off => {
-            let released = tuner.note_off(key, velocity, out);
-            let answer = released.answer;
-            let next = released.tuner;
-            Answered {
-                answer,
-                tuner: next,
-            }
+            let releasing = tuner.release(key, velocity, out);
+            let answer = releasing.answer;
+            let change = releasing.change;
+            Reply { answer, change }
         }
         Kind::Bend => {
             let answer = tuner.note_pitch(key, pitch_of(millihertz), out);
-            Answered { answer, tuner }
+            let change = Change::none();
+            Reply { answer, change }
         }
     }
 }

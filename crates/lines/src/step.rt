@@ -1,14 +1,19 @@
 // Lines of the input answered as they come, whatever pieces they come in.
 
 ghost use mathlib.Core.Path.{_≡_};
+ghost use mathlib.Core.List.{[]};
 ghost use Prim.Native.Nat.{min};
 ghost use Rattle.senders.specs.Lent.{Answers};
 ghost use Rattle.senders.specs.Answers.{sentAnswer};
+ghost use Rattle.senders.specs.Jit.{after};
 ghost use Rattle.lines.specs.Session.{session, start, finishRule, Stepped};
 ghost use Rattle.lines.specs.Inner.{longerBy, EndedBy, Holds};
-use crate::answer::answer;
+use crate::answer::Reply;
 use crate::answer::open;
+use crate::answer::reply_to;
 use crate::line::find;
+use models::jit::Change;
+use models::refusal::BUFFER_TOO_SHORT;
 use senders::jit::JitTuner;
 use senders::midi::Sent;
 
@@ -27,12 +32,6 @@ pub struct Step {
     pub console: Console,
     pub used: usize,
     pub written: usize,
-}
-
-// The answer to a line, and the console.
-struct Ended {
-    answer: Sent,
-    console: Console,
 }
 
 impl Console {
@@ -66,8 +65,8 @@ impl Console {
                 };
             }
             let line = &rest[..n];
-            let ended = console.ended_by(line, &mut out[end..]);
-            let answer = ended.answer;
+            let reply = console.reply_behind(line, &mut out[end..]);
+            let answer = reply.answer;
             let Sent::Written(written) = answer else {
                 return Step {
                     console: console.longer_by(line),
@@ -75,7 +74,8 @@ impl Console {
                     written: end,
                 };
             };
-            console = ended.console;
+            let change = reply.change;
+            console = console.ended(change);
             end += written;
             at += n + 1;
         }
@@ -90,49 +90,37 @@ impl Console {
     pub fn finish(self, out: &mut [u8]) -> Sent
         ensures { λ r. ⌜ Answers (finishRule (session self)) (now (out .entry)) (sentAnswer r) (now (out .exit)) ⌝ }
     {
-        let tuner = self.tuner;
-        let held = self.held;
-        let len = self.len;
-        let whole = &held[..];
-        let n = least(len, whole.len());
-        if n == 0 {
+        if self.len == 0 {
             return Sent::Written(0);
         }
-        let answered = answer(tuner, &whole[..n], out);
-        answered.answer
+        let step = self.step(b"\n", out);
+        if step.used == 0 {
+            return Sent::Refused(BUFFER_TOO_SHORT);
+        }
+        Sent::Written(step.written)
     }
 
-    // A line ends behind more bytes: its answer, and the console behind it where the answer was written. Refuses 10.
-    fn ended_by(self, more: &[u8], out: &mut [u8]) -> Ended
+    // A line ends behind more bytes: its answer, and what it changes. Refuses 10.
+    fn reply_behind(self, more: &[u8], out: &mut [u8]) -> Reply
         ensures { λ r. ⌜ EndedBy (session self) (now (more .entry)) (now (out .entry)) (now (out .exit)) r ⌝ }
     {
         let tuner = self.tuner;
         let mut held = self.held;
         let n = self.len;
-        if n == 0 {
-            let answered = answer(tuner, more, out);
-            let sent = answered.answer;
-            let next = answered.tuner;
-            return Ended {
-                answer: sent,
-                console: Console {
-                    tuner: next,
-                    held,
-                    len: 0,
-                },
-            };
-        }
         let len = hold(&mut held, n, more);
-        let answered = answer(tuner, &held[..len], out);
-        let sent = answered.answer;
-        let next = answered.tuner;
-        Ended {
-            answer: sent,
-            console: Console {
-                tuner: next,
-                held,
-                len: 0,
-            },
+        reply_to(tuner, &held[..len], out)
+    }
+
+    // The console behind a line that has ended.
+    fn ended(self, change: Change) -> Console
+        ensures { λ r. ⌜ session r ≡ record { tuner = after (session self .tuner) change; begun = [] } ⌝ }
+    {
+        let tuner = self.tuner.changed(change);
+        let held = self.held;
+        Console {
+            tuner,
+            held,
+            len: 0,
         }
     }
 

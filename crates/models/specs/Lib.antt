@@ -8,6 +8,7 @@ pub mod Answers
 pub mod Pool
 pub mod JitModel
 pub mod PoolInside
+pub mod Change
 pub mod Recital
 pub mod Line
 pub mod Walk

@@ -3,25 +3,30 @@
 ghost use mathlib.Core.Path.{_≡_};
 ghost use mathlib.Core.Bool.{true};
 ghost use mathlib.Core.List.{[]};
+ghost use mathlib.Core.Option.{none};
 ghost use Prim.Native.Nat.{_<_, _≤_};
 ghost use lib.ListN.{length};
 ghost use Rattle.arithmetic.specs.Note.{isNote};
-ghost use Rattle.arithmetic.specs.Outcome.{value};
+ghost use Rattle.arithmetic.specs.Outcome.{value, refused};
 ghost use Rattle.models.specs.Lists.{upward, first};
 ghost use Rattle.models.specs.ChannelList.{entries};
-ghost use Rattle.models.specs.Pool.{poolCount, poolOf, fresh, pool, found, takenIn, freedIn, withPool, freed, forgotten, oldest, roomFor, madeRoom, taken, pressed, released, heldKeys, stopped, replied, unlessHeld, registerRule, repitchRule, openRule};
-ghost use Rattle.models.specs.JitModel.{place, nextHeld, poolView, view, told, repitched, opened};
-ghost use Rattle.models.specs.PoolInside.{old, roomView};
+ghost use Rattle.models.specs.Pool.{poolCount, poolOf, fresh, pool, found, takenIn, freedIn, oldestOf, rejected, pressed, released, heldKeys, stopped, replied, unlessHeld, registerRule, repitchRule, openRule};
+ghost use Rattle.models.specs.JitModel.{place, nextHeld, poolView, view, press, told, repitched, opened};
+ghost use Rattle.models.specs.Change.{losing, gaining, changed, noChange, pressing};
+ghost use Rattle.models.specs.PoolInside.{old};
 use crate::channels::ChannelList;
 use crate::channels::ChannelsAnswer;
 use crate::channels::present;
 use crate::keys::AccessKeyResult;
 use crate::keys::KEYS;
 use crate::keys::Keys;
+use crate::keys::NO_NOTE;
 use crate::keys::NextKey;
+use crate::keys::Slot;
 use crate::queue::Front;
 use crate::queue::Queue;
 use arithmetic::note::LetterAnswer;
+use arithmetic::note::is_note;
 use arithmetic::note::letter;
 use arithmetic::pitch::Pitch;
 use arithmetic::refusal::KEY_HELD;
@@ -106,16 +111,45 @@ pub struct Deregistered {
     pub model: JitTuningModel,
 }
 
+// What a press or a release changes: a key loses its channel, and then a key takes one. It is small where the model is large.
+pub struct Change {
+    lost: Lost,
+    gained: Gained,
+}
+
+// A key that loses its channel, and whether it is not found any more.
+pub enum Lost {
+    Channel {
+        key: u8,
+        note: i32,
+        channel: u8,
+        forgotten: bool,
+    },
+    Nothing,
+}
+
+// A key that takes the channel at the front.
+pub enum Gained {
+    Channel { key: u8, note: i32, channel: u8 },
+    Nothing,
+}
+
+// What a press answers and what it changes.
+pub struct Pressing {
+    pub result: RegisterKeyResult,
+    pub change: Change,
+}
+
+// What a release answers and what it changes.
+pub struct Releasing {
+    pub result: AccessKeyResult,
+    pub change: Change,
+}
+
 // The longest-held key of a pool that still has its channel, and where it sounds.
 enum Oldest {
     Key { key: u8, channel: u8, note: i32 },
     Nothing,
-}
-
-// The model in which a press seeks its channel, and the note that was stopped for it.
-struct Room {
-    model: JitTuningModel,
-    stopped_note: StoppedNote,
 }
 
 impl JitTuningModel {
@@ -133,18 +167,37 @@ impl JitTuningModel {
     pub fn register_key(self, key: u8, pitch: Pitch) -> Registered
         ensures { λ r. ⌜ told r ≡ replied (view self) (registerRule (view self) key (pitch .hz)) ⌝ }
     {
-        match find_by_pitch(pitch) {
-            Approximation::Nearest(note, detuning) => self.press(key, note, detuning),
-            Approximation::Refused(n) => Registered {
-                result: RegisterKeyResult::Refused(n),
-                model: self,
-            },
-        }
+        let pressing = self.press(key, pitch);
+        let result = pressing.result;
+        let change = pressing.change;
+        let model = self.changed(change);
+        Registered { result, model }
     }
 
     // A release: where the key was found.
     pub fn deregister_key(self, key: u8) -> Deregistered
         ensures { λ r. ⌜ (place (r .result) ≡ found (view self) key) × (view (r .model) ≡ released (view self) key) ⌝ }
+    {
+        let releasing = self.release(key);
+        let result = releasing.result;
+        let change = releasing.change;
+        let model = self.changed(change);
+        Deregistered { result, model }
+    }
+
+    // What a press would answer and change.
+    pub fn press(self, key: u8, pitch: Pitch) -> Pressing
+        ensures { λ r. ⌜ pressing (view self) r ≡ replied (view self) (registerRule (view self) key (pitch .hz)) ⌝ }
+    {
+        match find_by_pitch(pitch) {
+            Approximation::Nearest(note, detuning) => self.press_note(key, note, detuning),
+            Approximation::Refused(n) => refusal(n),
+        }
+    }
+
+    // What a release would answer and change.
+    pub fn release(self, key: u8) -> Releasing
+        ensures { λ r. ⌜ (place (r .result) ≡ found (view self) key) × (changed (view self) (r .change) ≡ released (view self) key) ⌝ }
     {
         let result = self.access_key(key);
         match result {
@@ -152,14 +205,31 @@ impl JitTuningModel {
                 channel,
                 found_note,
             } => {
-                let model = self.freed(key, channel, found_note).forgotten(key);
-                Deregistered { result, model }
+                let change = Change {
+                    lost: Lost::Channel {
+                        key,
+                        note: found_note,
+                        channel,
+                        forgotten: true,
+                    },
+                    gained: Gained::Nothing,
+                };
+                Releasing { result, change }
             }
-            AccessKeyResult::NotFound => Deregistered {
+            AccessKeyResult::NotFound => Releasing {
                 result,
-                model: self,
+                change: Change::none(),
             },
         }
+    }
+
+    // The model after a change. Where nothing changes it is the very same.
+    pub fn changed(self, change: Change) -> JitTuningModel
+        ensures { λ r. ⌜ (view r ≡ changed (view self) change) × (change ≡ noChange → r ≡ self) ⌝ }
+    {
+        let lost = change.lost;
+        let gained = change.gained;
+        self.losing(lost).gaining(gained)
     }
 
     // A lookup: where the key is found.
@@ -248,109 +318,105 @@ impl JitTuningModel {
     }
 
     // A press for a note.
-    fn press(self, key: u8, note: i32, detuning: f64) -> Registered
+    fn press_note(self, key: u8, note: i32, detuning: f64) -> Pressing
         requires { ⌜ isNote note ≡ true ⌝ }
-        ensures { λ r. ⌜ told r ≡ replied (view self) (unlessHeld (view self) key note detuning) ⌝ }
+        ensures { λ r. ⌜ pressing (view self) r ≡ replied (view self) (unlessHeld (view self) key note detuning) ⌝ }
     {
         match self.access_key(key) {
             AccessKeyResult::Found {
                 channel: _,
                 found_note: _,
-            } => Registered {
-                result: RegisterKeyResult::Refused(KEY_HELD),
-                model: self,
-            },
+            } => refusal(KEY_HELD),
             AccessKeyResult::NotFound => self.press_new(key, note, detuning),
         }
     }
 
     // A press of a key that is not held.
-    fn press_new(self, key: u8, note: i32, detuning: f64) -> Registered
+    fn press_new(self, key: u8, note: i32, detuning: f64) -> Pressing
         requires { ⌜ isNote note ≡ true ⌝ }
-        ensures { λ r. ⌜ told r ≡ replied (view self) (value (pressed (view self) key note detuning)) ⌝ }
+        ensures { λ r. ⌜ pressing (view self) r ≡ replied (view self) (value (pressed (view self) key note detuning)) ⌝ }
     {
-        let room = self.room_for(note);
-        let model = room.model;
-        let stopped_note = room.stopped_note;
-        let pool = model.pool(note);
+        let pool = self.pool(note);
         let free = pool.free;
         match free.front() {
-            Front::Item(channel) => {
-                let result = RegisterKeyResult::Accepted {
+            Front::Item(channel) => Pressing {
+                result: RegisterKeyResult::Accepted {
                     channel,
-                    stopped_note,
+                    stopped_note: StoppedNote::Nothing,
                     started_note: note,
                     detuning,
-                };
-                let model = model.taken(key, note, channel);
-                Registered { result, model }
-            }
-            Front::Empty => Registered {
-                result: RegisterKeyResult::Rejected,
-                model: self,
-            },
-        }
-    }
-
-    // Where no channel is free, the pooling mode may make one so.
-    fn room_for(self, note: i32) -> Room
-        requires { ⌜ isNote note ≡ true ⌝ }
-        ensures { λ r. ⌜ roomView r ≡ roomFor (view self) note ⌝ }
-    {
-        let pool = self.pool(note);
-        let free = pool.free;
-        match free.front() {
-            Front::Item(_) => Room {
-                model: self,
-                stopped_note: StoppedNote::Nothing,
-            },
-            Front::Empty => self.make_room(note),
-        }
-    }
-
-    fn make_room(self, note: i32) -> Room
-        requires { ⌜ isNote note ≡ true ⌝ }
-        ensures { λ r. ⌜ roomView r ≡ madeRoom (self .«pooling_mode») (view self) (oldest (view self) note) ⌝ }
-    {
-        let mode = self.pooling_mode;
-        let oldest = self.oldest(note);
-        match oldest {
-            Oldest::Key {
-                key: old_key,
-                channel,
-                note: old_note,
-            } => match mode {
-                PoolingMode::Block => Room {
-                    model: self,
-                    stopped_note: StoppedNote::Nothing,
                 },
-                PoolingMode::Stop => {
-                    let model = self.deregister_key(old_key).model;
-                    Room {
-                        model,
-                        stopped_note: StoppedNote::Note(old_note),
-                    }
-                }
-                PoolingMode::Ignore => {
-                    let model = self.freed(old_key, channel, old_note);
-                    Room {
-                        model,
-                        stopped_note: StoppedNote::Nothing,
-                    }
-                }
+                change: Change {
+                    lost: Lost::Nothing,
+                    gained: Gained::Channel { key, note, channel },
+                },
             },
-            Oldest::Nothing => Room {
-                model: self,
-                stopped_note: StoppedNote::Nothing,
-            },
+            Front::Empty => self.press_full(key, note, detuning, pool),
         }
     }
 
-    fn oldest(self, note: i32) -> Oldest
-        requires { ⌜ isNote note ≡ true ⌝ }
-        ensures { λ r. ⌜ old r ≡ oldest (view self) note ⌝ }
+    // A press that finds no free channel in its pool: the longest-held key gives its channel up, unless the mode is Block.
+    fn press_full(self, key: u8, note: i32, detuning: f64, full: JitPool) -> Pressing
+        requires { ⌜ (isNote note ≡ true) × (poolView full ≡ pool (view self) note) × (first (poolView full .free) ≡ none) ⌝ }
+        ensures { λ r. ⌜ pressing (view self) r ≡ replied (view self) (value (pressed (view self) key note detuning)) ⌝ }
     {
-        let pool = self.pool(note);
+        let group = self.group_by;
+        let mode = self.pooling_mode;
+        let Oldest::Key {
+            key: old_key,
+            channel,
+            note: old_note,
+        } = self.oldest(full)
+        else {
+            return rejection();
+        };
+        if pool_of(group, old_note) != pool_of(group, note) {
+            return rejection();
+        }
+        let gained = Gained::Channel { key, note, channel };
+        match mode {
+            PoolingMode::Block => rejection(),
+            PoolingMode::Stop => {
+                let lost = Lost::Channel {
+                    key: old_key,
+                    note: old_note,
+                    channel,
+                    forgotten: true,
+                };
+                Pressing {
+                    result: RegisterKeyResult::Accepted {
+                        channel,
+                        stopped_note: StoppedNote::Note(old_note),
+                        started_note: note,
+                        detuning,
+                    },
+                    change: Change { lost, gained },
+                }
+            }
+            PoolingMode::Ignore => {
+                let lost = Lost::Channel {
+                    key: old_key,
+                    note: old_note,
+                    channel,
+                    forgotten: false,
+                };
+                Pressing {
+                    result: RegisterKeyResult::Accepted {
+                        channel,
+                        stopped_note: StoppedNote::Nothing,
+                        started_note: note,
+                        detuning,
+                    },
+                    change: Change { lost, gained },
+                }
+            }
+        }
+    }
+
+    // The longest-held key of a pool that still has its channel.
+    fn oldest(self, pool: JitPool) -> Oldest
+        ensures { λ r. ⌜ old r ≡ oldestOf (view self) (first (poolView pool .order)) ⌝ }
+    {
         let order = pool.order;
         match order.front() {
             Front::Item(key) => match self.access_key(key) {
@@ -368,35 +434,77 @@ impl JitTuningModel {
         }
     }
 
-    // The key takes the channel at the front.
-    fn taken(self, key: u8, note: i32, channel: u8) -> JitTuningModel
-        requires { ⌜ isNote note ≡ true ⌝ }
-        ensures { λ r. ⌜ view r ≡ taken (view self) key note channel ⌝ }
+    // A key's channel goes to the back of its pool, unless the key has lost it before.
+    fn losing(self, lost: Lost) -> JitTuningModel
+        ensures { λ r. ⌜ (view r ≡ losing (view self) lost) × (lost ≡ Lost.Nothing → r ≡ self) ⌝ }
     {
-        let pool = self.pool(note).taken(key);
-        let mut model = self.with_pool(note, pool);
-        let keys = model.keys.store(key, channel, note);
-        model.keys = keys;
-        model
+        let channels = self.channels;
+        let group_by = self.group_by;
+        let pooling_mode = self.pooling_mode;
+        let mut pools = self.pools;
+        let keys = self.keys;
+        let mut slots = keys.slots;
+        if let Lost::Channel {
+            key,
+            note,
+            channel,
+            forgotten,
+        } = lost {
+            if is_note(note) {
+                let at = pool_of(group_by, note);
+                let pool = pools[at];
+                let freed = pool.freed(key, channel);
+                pools[at] = freed;
+                if forgotten {
+                    let key_at = key as usize;
+                    let slot = Slot {
+                        channel: 0,
+                        note: NO_NOTE,
+                    };
+                    slots[key_at] = slot;
+                }
+            }
+        }
+        let keys = Keys { slots };
+        JitTuningModel {
+            channels,
+            group_by,
+            pooling_mode,
+            pools,
+            keys,
+        }
     }
 
-    // The channel of a found key goes to the back of its pool, unless the key has lost it.
-    fn freed(self, key: u8, channel: u8, note: i32) -> JitTuningModel
-        requires { ⌜ isNote note ≡ true ⌝ }
-        ensures { λ r. ⌜ view r ≡ freed (view self) key (record { channel = channel; note = note }) ⌝ }
+    // A key takes the channel at the front of its pool.
+    fn gaining(self, gained: Gained) -> JitTuningModel
+        ensures { λ r. ⌜ (view r ≡ gaining (view self) gained) × (gained ≡ Gained.Nothing → r ≡ self) ⌝ }
     {
-        let pool = self.pool(note).freed(key, channel);
-        self.with_pool(note, pool)
-    }
-
-    // The key is not found any more.
-    fn forgotten(self, key: u8) -> JitTuningModel
-        ensures { λ r. ⌜ view r ≡ forgotten (view self) key ⌝ }
-    {
-        let keys = self.keys.clear(key);
-        let mut model = self;
-        model.keys = keys;
-        model
+        let channels = self.channels;
+        let group_by = self.group_by;
+        let pooling_mode = self.pooling_mode;
+        let mut pools = self.pools;
+        let keys = self.keys;
+        let mut slots = keys.slots;
+        if let Gained::Channel { key, note, channel } = gained {
+            if is_note(note) {
+                let at = pool_of(group_by, note);
+                let pool = pools[at];
+                let taken = pool.taken(key);
+                pools[at] = taken;
+                let key_at = key as usize;
+                let low = note as i16;
+                let slot = Slot { channel, note: low };
+                slots[key_at] = slot;
+            }
+        }
+        let keys = Keys { slots };
+        JitTuningModel {
+            channels,
+            group_by,
+            pooling_mode,
+            pools,
+            keys,
+        }
     }
 
     // The pool of a note.
@@ -409,18 +517,16 @@ impl JitTuningModel {
         let pools = self.pools;
         pools[at]
     }
+}
 
-    fn with_pool(self, note: i32, pool: JitPool) -> JitTuningModel
-        requires { ⌜ isNote note ≡ true ⌝ }
-        ensures { λ r. ⌜ view r ≡ withPool (view self) note (poolView pool) ⌝ }
+impl Change {
+    // No change.
+    pub fn none() -> Change
+        ensures { λ r. ⌜ r ≡ noChange ⌝ }
     {
-        let group = self.group_by;
-        let at = pool_of(group, note);
-        let mut pools = self.pools;
-        pools[at] = pool;
-        let mut model = self;
-        model.pools = pools;
-        model
+        let lost = Lost::Nothing;
+        let gained = Gained::Nothing;
+        Change { lost, gained }
     }
 }
 
@@ -454,6 +560,24 @@ impl JitPool {
         }
         self
     }
+}
+
+// A press that is refused.
+fn refusal(n: u8) -> Pressing
+    ensures { λ r. ⌜ (press (r .result) ≡ refused n) × (r .change ≡ noChange) ⌝ }
+{
+    let result = RegisterKeyResult::Refused(n);
+    let change = Change::none();
+    Pressing { result, change }
+}
+
+// A press that no channel is free for.
+fn rejection() -> Pressing
+    ensures { λ r. ⌜ (press (r .result) ≡ value rejected) × (r .change ≡ noChange) ⌝ }
+{
+    let result = RegisterKeyResult::Rejected;
+    let change = Change::none();
+    Pressing { result, change }
 }
 
 // The number of a note's pool.

@@ -14,7 +14,7 @@ use arithmetic::note::is_note;
 pub const KEYS: usize = 256;
 
 // One above the highest note: the key is not found.
-const NO_NOTE: i16 = 501;
+pub(crate) const NO_NOTE: i16 = 501;
 
 // What a lookup of a key finds.
 pub enum AccessKeyResult {
@@ -30,12 +30,12 @@ pub enum NextKey {
 
 // A key's channel and note. A number that is no note says that the key is not found.
 pub struct Slot {
-    channel: u8,
-    note: i16,
+    pub(crate) channel: u8,
+    pub(crate) note: i16,
 }
 
 pub struct Keys {
-    slots: [Slot; KEYS],
+    pub(crate) slots: [Slot; KEYS],
 }
 
 impl Keys {

@@ -1,5 +1,5 @@
 -- What the calls of a pool tuner come to: a press by the model's answer, and a release. Assumes nothing.
-use mathlib.Core.Path.{_≡_, sym, ap}
+use mathlib.Core.Path.{_≡_, sym, ap, subst, _∙_}
 use mathlib.Core.Option.{Option}
 use mathlib.Core.List.{List, []}
 use Prim.Native.Nat.{ℕ, _<_}
@@ -10,12 +10,15 @@ use lib.ListN.{length}
 use borrow.Author.Tests.{lt-ltb}
 use Rattle.models.specs.Outcome.{Outcome, value, refused}
 use Rattle.models.specs.Pool.{State, found, released, accepted, rejected, registerRule, replied}
+use Rattle.models.specs.Change.{noChange}
 use Rattle.models.specs.Steps.{sentAs}
-use Rattle.senders.specs.Lent.{Effect, sends, sent, Answers, Steps}
+use Rattle.models.specs.declared.jit.Change.{Change}
+use Rattle.senders.specs.Lent.{Effect, sends, sent, fitted, Moved, Answers, Steps}
 use Rattle.senders.specs.Midi.{bytesOf}
 use Rattle.senders.specs.Tuner.{onChannel, pressMessages, keyMessages}
-use Rattle.senders.specs.Jit.{Tuner, withPool, Pressed, sounds, rejects, noteOnRule, noteOffRule}
+use Rattle.senders.specs.Jit.{Tuner, tuner, after, withPool, Pressed, sounds, rejects, noteOnRule, noteOffRule}
 use Rattle.senders.specs.declared.tuner.NoteMessage.the-variants.{Off}
+use Rattle.senders.specs.declared.jit.JitTuner.{JitTuner}
 use Rattle.senders.proofs.Lent.{counted, ends-written}
 
 -- ---- the model's reply
@@ -81,3 +84,21 @@ releaseBytes t key v = bytesOf (keyMessages Off (t .pool .channels) v (found (t 
 
 pub release-sent : (t : Tuner) (key v : ℕ) → v < 128 → noteOffRule t key v ≡ sends (releaseBytes t key v) (withPool t (released (t .pool) key))
 release-sent t key v low = rw (lt-ltb v 128 low)
+
+-- ---- a call that tells what it changes, and the tuner after the change
+
+pub none-changed :
+    {R S : Type 0} {view : Change → S} {rule : Outcome (Effect R S)} {old new : List ℕ} {answer : Outcome R} {change : Change} → change ≡ noChange
+    → Steps view rule noChange old answer noChange new → Steps view rule noChange old answer change new
+none-changed {view = view} {rule = rule} {old = old} {new = new} {answer = answer} e s = subst (λ (x : Change). Steps view rule noChange old answer x new) (sym e) s
+
+pub carried :
+    {R : Type 0} {rule : Outcome (Effect R Tuner)} {old new : List ℕ} {answer : Outcome R} {change : Change} (t back : JitTuner)
+    → (tuner back ≡ after (tuner t) change) × (change ≡ noChange → back ≡ t) → Steps (after (tuner t)) rule noChange old answer change new
+    → Steps tuner rule t old answer back new
+carried {R} {rule} {old} {new} {answer} {change} t back m s =
+    record { told-is = s .told-is; moved-is = by (fitted (length old) rule) (s .moved-is); left-is = s .left-is }
+  where
+    by : (o : Outcome (Effect R Tuner)) → Moved (after (tuner t)) o noChange change → Moved tuner o t back
+    by (value e) h = m .0 ∙ h
+    by (refused n) h = m .1 h

@@ -10,9 +10,11 @@ use Rattle.models.specs.Refusal.{dataByteOver127}
 use Rattle.models.specs.ChannelList.{channelsAnswer}
 use Rattle.models.specs.Pool.{State, Place, Held, Press, accepted, rejected, found, released, registerRule, repitchRule, openRule, heldKeys, stopped}
 use Rattle.models.specs.JitModel.{view}
+use Rattle.models.specs.Change.{changed}
 use Rattle.models.specs.Steps.{sentAs}
 use Rattle.models.specs.declared.steps.TuningKind.{TuningKind}
 use Rattle.models.specs.declared.jit.PoolingMode.{PoolingMode}
+use Rattle.models.specs.declared.jit.Change.{Change}
 use Rattle.models.specs.declared.jit.PoolGroupBy.the-variants.{Channel}
 use Rattle.senders.specs.Message.{Message, isData}
 use Rattle.senders.specs.Midi.{bytesOf}
@@ -34,6 +36,10 @@ tuner t = record { pool = view (t .model); kind = t .kind }
 
 abbrev pub withPool : Tuner → State → Tuner
 withPool t s = record { pool = s; kind = t .kind }
+
+-- the tuner after a change of its pool
+abbrev pub after : Tuner → Change → Tuner
+after t c = withPool t (changed (t .pool) c)
 
 -- ---- a tuner is started on a channel list; "only channel groups are sent"
 

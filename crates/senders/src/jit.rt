@@ -5,10 +5,11 @@ ghost use Prim.Native.Nat.{_≤_};
 ghost use lib.ListN.{length};
 ghost use Rattle.models.specs.Pool.{found};
 ghost use Rattle.models.specs.JitModel.{place, view};
+ghost use Rattle.models.specs.Change.{noChange};
 ghost use Rattle.senders.specs.Lent.{Put, Answers, Steps};
 ghost use Rattle.senders.specs.Answers.{sentAnswer, pressAnswer};
 ghost use Rattle.senders.specs.Midi.{bytesOf};
-ghost use Rattle.senders.specs.Jit.{tuner, opened, startRule, noteOnRule, noteOffRule, notePitchRule, noteAttrRule, globalAttrRule, releaseMessages, stopRule};
+ghost use Rattle.senders.specs.Jit.{tuner, after, opened, startRule, noteOnRule, noteOffRule, notePitchRule, noteAttrRule, globalAttrRule, releaseMessages, stopRule};
 use crate::midi::ChannelMessageType;
 use crate::midi::HIGHEST_DATA_BYTE;
 use crate::midi::Sent;
@@ -23,6 +24,7 @@ use crate::tuner::send_tuning;
 use crate::tuner::sent_as;
 use models::Pitch;
 use models::channels::ChannelsAnswer;
+use models::jit::Change;
 use models::jit::JitTuningModel;
 use models::jit::PoolGroupBy;
 use models::jit::PoolingMode;
@@ -64,6 +66,18 @@ pub struct Released {
     pub tuner: JitTuner,
 }
 
+// What a press answers and what it changes.
+pub struct Pressing {
+    pub answer: PressAnswer,
+    pub change: Change,
+}
+
+// What a release answers and what it changes.
+pub struct Releasing {
+    pub answer: Sent,
+    pub change: Change,
+}
+
 impl JitTuner {
     // A tuner of the channels listed, in which no key is found. Refuses 6 or 7 as the channel list does; the tuner has no channels then.
     pub fn start(channels: &[u8], kind: TuningKind, pooling_mode: PoolingMode) -> Opened
@@ -80,18 +94,39 @@ impl JitTuner {
     pub fn note_on(self, key: u8, pitch: Pitch, velocity: u8, out: &mut [u8]) -> Pressed
         ensures { λ r. ⌜ Steps tuner (noteOnRule (tuner self) key (pitch .hz) velocity) self (now (out .entry)) (pressAnswer (r .answer)) (r .tuner) (now (out .exit)) ⌝ }
     {
+        let pressing = self.press(key, pitch, velocity, out);
+        let answer = pressing.answer;
+        let change = pressing.change;
+        let tuner = self.changed(change);
+        Pressed { answer, tuner }
+    }
+
+    // A release: the note-off of a key that is found. Refuses 8, 10.
+    pub fn note_off(self, key: u8, velocity: u8, out: &mut [u8]) -> Released
+        ensures { λ r. ⌜ Steps tuner (noteOffRule (tuner self) key velocity) self (now (out .entry)) (sentAnswer (r .answer)) (r .tuner) (now (out .exit)) ⌝ }
+    {
+        let releasing = self.release(key, velocity, out);
+        let answer = releasing.answer;
+        let change = releasing.change;
+        let tuner = self.changed(change);
+        Released { answer, tuner }
+    }
+
+    // A press as `note_on`, with what it changes in place of the tuner after it.
+    pub fn press(self, key: u8, pitch: Pitch, velocity: u8, out: &mut [u8]) -> Pressing
+        ensures { λ r. ⌜ Steps (after (tuner self)) (noteOnRule (tuner self) key (pitch .hz) velocity) noChange (now (out .entry)) (pressAnswer (r .answer)) (r .change) (now (out .exit)) ⌝ }
+    {
         if HIGHEST_DATA_BYTE < velocity {
-            return Pressed {
+            return Pressing {
                 answer: PressAnswer::Refused(DATA_BYTE_OVER_127),
-                tuner: self,
+                change: Change::none(),
             };
         }
         let kind = self.kind;
         let channels = self.model.channel_list();
-        let registered = self.model.register_key(key, pitch);
-        let model = registered.model;
-        let next = JitTuner { model, kind };
-        let result = registered.result;
+        let pressing = self.model.press(key, pitch);
+        let change = pressing.change;
+        let result = pressing.result;
         match result {
             RegisterKeyResult::Accepted {
                 channel,
@@ -109,53 +144,60 @@ impl JitTuner {
                     velocity,
                     out,
                 ) {
-                    Sent::Written(n) => Pressed {
+                    Sent::Written(n) => Pressing {
                         answer: PressAnswer::Written(n),
-                        tuner: next,
+                        change,
                     },
-                    Sent::Refused(n) => Pressed {
+                    Sent::Refused(n) => Pressing {
                         answer: PressAnswer::Refused(n),
-                        tuner: self,
+                        change: Change::none(),
                     },
                 }
             }
-            RegisterKeyResult::Rejected => Pressed {
+            RegisterKeyResult::Rejected => Pressing {
                 answer: PressAnswer::Rejected,
-                tuner: next,
+                change,
             },
-            RegisterKeyResult::Refused(n) => Pressed {
+            RegisterKeyResult::Refused(n) => Pressing {
                 answer: PressAnswer::Refused(n),
-                tuner: self,
+                change: Change::none(),
             },
         }
     }
 
-    // A release: the note-off of a key that is found. Refuses 8, 10.
-    pub fn note_off(self, key: u8, velocity: u8, out: &mut [u8]) -> Released
-        ensures { λ r. ⌜ Steps tuner (noteOffRule (tuner self) key velocity) self (now (out .entry)) (sentAnswer (r .answer)) (r .tuner) (now (out .exit)) ⌝ }
+    // A release as `note_off`, with what it changes in place of the tuner after it.
+    pub fn release(self, key: u8, velocity: u8, out: &mut [u8]) -> Releasing
+        ensures { λ r. ⌜ Steps (after (tuner self)) (noteOffRule (tuner self) key velocity) noChange (now (out .entry)) (sentAnswer (r .answer)) (r .change) (now (out .exit)) ⌝ }
     {
         if HIGHEST_DATA_BYTE < velocity {
-            return Released {
+            return Releasing {
                 answer: Sent::Refused(DATA_BYTE_OVER_127),
-                tuner: self,
+                change: Change::none(),
             };
         }
-        let kind = self.kind;
         let channels = self.model.channel_list();
-        let deregistered = self.model.deregister_key(key);
-        let model = deregistered.model;
-        let next = JitTuner { model, kind };
-        let found = deregistered.result;
+        let releasing = self.model.release(key);
+        let change = releasing.change;
+        let found = releasing.result;
         match send_key(channels, found, NoteMessage::Off, velocity, out) {
-            Sent::Written(n) => Released {
+            Sent::Written(n) => Releasing {
                 answer: Sent::Written(n),
-                tuner: next,
+                change,
             },
-            Sent::Refused(n) => Released {
+            Sent::Refused(n) => Releasing {
                 answer: Sent::Refused(n),
-                tuner: self,
+                change: Change::none(),
             },
         }
+    }
+
+    // The tuner after a change. Where nothing changes it is the very same.
+    pub fn changed(self, change: Change) -> JitTuner
+        ensures { λ r. ⌜ (tuner r ≡ after (tuner self) change) × (change ≡ noChange → r ≡ self) ⌝ }
+    {
+        let kind = self.kind;
+        let model = self.model.changed(change);
+        JitTuner { model, kind }
     }
 
     // The tuning of the channel of a key that is found, by the pitch. Refuses 1, and 10 where the key is found.

@@ -1,10 +1,11 @@
 -- `lines::answer::hear` meets its contract: each kind of event by its call. Assumes nothing.
 use mathlib.Core.Path.{ap}
-use Rattle.senders.specs.Jit.{tuner}
+use Rattle.senders.specs.Jit.{tuner, after}
 use Rattle.senders.proofs.Lent.{ends-refused}
+use Rattle.senders.proofs.Calls.{none-changed}
 use Rattle.lines.specs.Line.{meant}
 use Rattle.lines.specs.Console.{eventRule}
-use Rattle.lines.proofs.Hears.{meant-event, on-heard, off-heard, bend-heard}
+use Rattle.lines.proofs.Hears.{after-none, meant-event, on-heard, off-heard, bend-heard}
 use Rattle.lines.specs.declared.line.Line.{Line}
 use borrow.Author.Needs.{needs}
 use Rattle.lines.proofs.answer.hear.Statement.{statement}
@@ -16,9 +17,14 @@ enum-known-line c = search needs
 enum-told : tie.Need-enum-told
 enum-told c = search needs
 
+none-requires : tie.Need-none-requires
+none-requires c κs = search needs
+
 returns : tie.Need-returns
 unfolding eventRule meant
-returns c = ends-refused (ap (λ (l : Line). eventRule (tuner (c .before .before .before .args .tuner)) (meant l)) (c .enum-told .given .1))
+returns c =
+    none-changed (c .none .ensures)
+    (ends-refused (ap (λ (l : Line). eventRule (tuner (c .before .before .before .before .args .tuner)) (meant l)) (c .before .enum-told .given .1)))
 
 enum-told-2 : tie.Need-enum-told-2
 enum-told-2 c = search needs
@@ -26,8 +32,8 @@ enum-told-2 c = search needs
 pitch-of-requires : tie.Need-pitch-of-requires
 pitch-of-requires c κs = search needs
 
-note-on-requires : tie.Need-note-on-requires
-note-on-requires c κs = search needs
+press-requires : tie.Need-press-requires
+press-requires c κs = search needs
 
 sent-of-requires : tie.Need-sent-of-requires
 sent-of-requires c κs = search needs
@@ -35,8 +41,8 @@ sent-of-requires c κs = search needs
 enum-told-3 : tie.Need-enum-told-3
 enum-told-3 c = search needs
 
-note-off-requires : tie.Need-note-off-requires
-note-off-requires c κs = search needs
+release-requires : tie.Need-release-requires
+release-requires c κs = search needs
 
 enum-told-4 : tie.Need-enum-told-4
 enum-told-4 c = search needs
@@ -47,26 +53,30 @@ pitch-of-requires-2 c κs = search needs
 note-pitch-requires : tie.Need-note-pitch-requires
 note-pitch-requires c κs = search needs
 
+none-requires-2 : tie.Need-none-requires-2
+none-requires-2 c κs = search needs
+
 same-length : tie.Need-same-length
 same-length c = search needs
 
 returns-2 : tie.Need-returns-2
 returns-2 c =
-    on-heard (c .before .before .before .before .before .before .before .before .before .before .before .before .before .args .tuner) (meant-event (c .before .before .before .before .before .before .before .before .before .before .line .given .1) (c .before .before .before .before .before .before .before .enum-told2 .given .1)) (c .before .before .before .before .before .before .pitch-of .ensures) (c .before .before .before .before .note-on .ensures) (c .before .sent-of .ensures)
+    on-heard (tuner (c .before .before .before .before .before .before .before .before .before .before .before .before .before .args .tuner)) (meant-event (c .before .before .before .before .before .before .before .before .before .before .line .given .1) (c .before .before .before .before .before .before .before .enum-told2 .given .1)) (c .before .before .before .before .before .before .pitch-of .ensures) (c .before .before .before .before .press .ensures) (c .before .sent-of .ensures)
 
 same-length-2 : tie.Need-same-length-2
 same-length-2 c = search needs
 
 returns-3 : tie.Need-returns-3
-returns-3 c =
-    off-heard (c .before .before .before .before .before .before .before .before .before .before .before .args .tuner) (meant-event (c .before .before .before .before .before .before .before .before .line .given .1) (c .before .before .before .before .before .enum-told3 .given .1)) (c .before .before .before .note-off .ensures)
+returns-3 c = off-heard (tuner (c .before .before .before .before .before .before .before .before .before .before .before .args .tuner)) (meant-event (c .before .before .before .before .before .before .before .before .line .given .1) (c .before .before .before .before .before .enum-told3 .given .1)) (c .before .before .before .release .ensures)
 
 same-length-3 : tie.Need-same-length-3
 same-length-3 c = search needs
 
 returns-4 : tie.Need-returns-4
 returns-4 c =
-    bend-heard (c .before .before .before .before .before .before .before .before .before .before .before .args .tuner) (meant-event (c .before .before .before .before .before .before .before .before .line .given .1) (c .before .before .before .before .before .enum-told4 .given .1)) (c .before .before .before .before .pitch-of2 .ensures) (c .before .before .note-pitch .ensures)
+    let u = tuner (c .before .before .before .before .before .before .before .before .before .before .before .before .args .tuner) in
+    none-changed (c .none2 .ensures)
+    (bend-heard {view = after u} u (after-none u) (meant-event (c .before .before .before .before .before .before .before .before .before .line .given .1) (c .before .before .before .before .before .before .enum-told4 .given .1)) (c .before .before .before .before .before .pitch-of2 .ensures) (c .before .before .before .note-pitch .ensures))
 
 pub hear-spec : {M : Type 1} → statement M
 hear-spec =
@@ -74,16 +84,18 @@ hear-spec =
     (tie.spec
     enum-known-line
     enum-told
+    none-requires
     returns
     enum-told-2
     pitch-of-requires
-    note-on-requires
+    press-requires
     sent-of-requires
     enum-told-3
-    note-off-requires
+    release-requires
     enum-told-4
     pitch-of-requires-2
     note-pitch-requires
+    none-requires-2
     same-length
     returns-2
     same-length-2

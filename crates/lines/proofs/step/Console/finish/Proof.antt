@@ -1,59 +1,54 @@
--- `lines::step::Console::finish` meets its contract: a line that has begun is answered. Assumes nothing.
-use Prim.Native.Nat.{ℕ, min}
+-- `lines::step::Console::finish` meets its contract: a line that has begun is ended by a feed. Assumes nothing.
 use native.Mathlib.Omega.{arith}
-use mathlib.Core.Path.{_≡_, sym, _∙_, ap}
 use mathlib.Core.List.{[]}
-use lib.ListN.{length, take, length-take}
-use lib.Seq.{length-take-le}
-use Rattle.senders.specs.Jit.{tuner}
-use Rattle.lines.specs.Console.{answer, next}
+use mathlib.Core.Path.{_≡_, sym, _∙_}
+use Prim.Native.Nat.{_<_}
+use lib.ListN.{length, take, length-take, length-map}
 use Rattle.lines.specs.Session.{session}
-use Rattle.lines.proofs.Holds.{take-min}
 use Rattle.lines.proofs.Writes.{wrote-none, puts-all}
-use Rattle.lines.proofs.Hears.{as-text}
-use Rattle.lines.proofs.Ends.{finish-none, finish-some}
+use Rattle.lines.proofs.Ends.{finish-none, finish-written, finish-unwritten}
 use borrow.Author.Needs.{needs}
 use Rattle.lines.proofs.step.Console.finish.Statement.{statement}
 use Rattle.lines.proofs.step.Console.finish.Tie as tie
 
-slice-aggregate-whole : tie.Need-slice-aggregate-whole
-slice-aggregate-whole c = search needs
-
-least-requires : tie.Need-least-requires
-least-requires c κs = search needs
-
 returns : tie.Need-returns
 returns c =
-    let con = c .before .before .before .before .before .before .args .self in
-    rw (finish-none (session con) (omega (arith, length-take (con .len) (con .held), c .before .least .ensures)))
-    (puts-all (omega arith) (wrote-none [] (c .before .before .before .before .before .before .args .out .now)))
+    let con = c .before .before .before .args .self in
+    rw (finish-none (session con) (omega (arith, length-take (con .len) (con .held), c .if1 .taken)))
+    (puts-all (omega arith) (wrote-none [] (c .before .before .before .args .out .now)))
 
-slice-aggregate-answer : tie.Need-slice-aggregate-answer
-slice-aggregate-answer c = sym (length-take-le _ _ (omega (arith, c .before .before .least .ensures)))
+slice-aggregate-step : tie.Need-slice-aggregate-step
+slice-aggregate-step c = search needs
 
-answer-requires : tie.Need-answer-requires
-answer-requires c κs = search needs
+step-requires : tie.Need-step-requires
+step-requires c κs = search needs
 
 same-length : tie.Need-same-length
 same-length c = search needs
 
+begun : (c : tie.Else1) → let con = c .before .before .before .args .self in 0 < length (take (con .len) (con .held))
+begun c =
+    let con = c .before .before .before .args .self in
+    let full : length (con .held) ≡ 65 = sym (length-map (con .held) (λ v. v)) ∙ c .before .before .before .good .0 .1 .1 .1 .0 .1 .0 .1 in
+    omega (arith, length-take (con .len) (con .held), c .if1 .left, full)
+
 returns-2 : tie.Need-returns-2
-returns-2 c =
-    let con = c .before .before .before .before .before .before .before .before .before .before .before .args .self in
-    let n = c .before .before .before .before .before .before .least .result in
-    let l : n ≡ min (con .len) (length (con .held)) = omega (arith, c .before .before .before .before .before .before .least .ensures) in
-    let e : take (con .len) (con .held) ≡ take n (con .held) =
-    take-min (con .len) (con .held) ∙ ap (λ (k : ℕ). take k (con .held)) (sym l) in
-    rw (finish-some (session con) (omega (arith, length-take (con .len) (con .held), l, c .before .before .before .before .before .if1 .left)), e) (as-text (answer (tuner (con .tuner)) (take n (con .held))) (next (tuner (con .tuner)) (take n (con .held))) (c .before .before .answer .ensures))
+returns-2 c = finish-unwritten (session (c .before .before .before .before .before .before .before .before .before .before .args .self)) (c .before .before .before .before .step .result) (begun (c .before .before .before .before .before .before .before)) (c .before .before .before .before .step .ensures) (c .if2 .taken)
+
+same-length-2 : tie.Need-same-length-2
+same-length-2 c = search needs
+
+returns-3 : tie.Need-returns-3
+returns-3 c = finish-written (session (c .before .before .before .before .before .before .before .before .before .before .args .self)) (c .before .before .before .before .step .result) (begun (c .before .before .before .before .before .before .before)) (c .before .before .before .before .step .ensures) (c .if2 .left)
 
 pub finish-spec : {M : Type 1} → statement M
 finish-spec =
     tie.close
     (tie.spec
-    slice-aggregate-whole
-    least-requires
     returns
-    slice-aggregate-answer
-    answer-requires
+    slice-aggregate-step
+    step-requires
     same-length
-    returns-2)
+    returns-2
+    same-length-2
+    returns-3)

@@ -39,8 +39,8 @@ find-requires c κs = tt
 longer-by-requires : tie.Need-longer-by-requires Inv-loop μ-loop
 longer-by-requires c κs = tt
 
-add-t18 : tie.Need-add-t18 Inv-loop μ-loop
-add-t18 c = omega (arith, c .before .before .find .ensures .within)
+add-t19 : tie.Need-add-t19 Inv-loop μ-loop
+add-t19 c = omega (arith, c .before .before .find .ensures .within)
 
 same-length : tie.Need-same-length Inv-loop μ-loop
 same-length c = c .before .before .before .before .before .loop .inv .buffer .size
@@ -51,17 +51,17 @@ returns c = stopped (c .before .before .before .before .before .loop .console) (
 slice-aggregate-line : tie.Need-slice-aggregate-line Inv-loop μ-loop
 slice-aggregate-line c = sym (length-take-le _ _ (c .before .before .find .ensures .within))
 
-sub-ended-by : tie.Need-sub-ended-by Inv-loop μ-loop
-sub-ended-by c = c .before .before .before .before .before .loop .inv .buffer .within
+sub-reply-behind : tie.Need-sub-reply-behind Inv-loop μ-loop
+sub-reply-behind c = c .before .before .before .before .before .loop .inv .buffer .within
 
-part-ended-by-start : tie.Need-part-ended-by-start Inv-loop μ-loop
-part-ended-by-start c = c .before .before .before .before .before .loop .inv .buffer .within
+part-reply-behind-start : tie.Need-part-reply-behind-start Inv-loop μ-loop
+part-reply-behind-start c = c .before .before .before .before .before .loop .inv .buffer .within
 
-part-ended-by-end : tie.Need-part-ended-by-end Inv-loop μ-loop
-part-ended-by-end c = omega arith
+part-reply-behind-end : tie.Need-part-reply-behind-end Inv-loop μ-loop
+part-reply-behind-end c = omega arith
 
-ended-by-requires : tie.Need-ended-by-requires Inv-loop μ-loop
-ended-by-requires c κs = tt
+reply-behind-requires : tie.Need-reply-behind-requires Inv-loop μ-loop
+reply-behind-requires c κs = tt
 
 enum-known-answer : tie.Need-enum-known-answer Inv-loop μ-loop
 enum-known-answer c = search needs
@@ -72,31 +72,37 @@ enum-told c = search needs
 longer-by-requires-2 : tie.Need-longer-by-requires-2 Inv-loop μ-loop
 longer-by-requires-2 c κs = tt
 
-add-t24 : tie.Need-add-t24 Inv-loop μ-loop
-add-t24 c = omega (arith, below (c .before .before .before .before .before .before .before .before .before .before .before .before .loop .console) (c .before .before .before .before .before .before .before .before .before .before .before .before .loop .inv) (c .before .before .before .before .before .before .before .before .before .find .ensures) (c .before .before .before .before .before .before .before .before .if1 .left) (c .before .before .before .before .before .ended-by .ensures), length-drop (c .before .before .before .before .before .before .before .before .before .before .before .before .loop .at) (c .before .before .before .before .before .before .before .before .before .before .before .before .before .before .before .args .piece .now), c .before .before .before .before .before .before .before .before .before .before .before .before .loop .inv .within, c .before .before .before .before .before .before .before .before .before .before .before .before .before .before .before .good)
+add-t25 : tie.Need-add-t25 Inv-loop μ-loop
+add-t25 c = omega (arith, below (c .before .before .before .before .before .before .before .before .before .before .before .before .loop .console) (c .before .before .before .before .before .before .before .before .before .before .before .before .loop .inv) (c .before .before .before .before .before .before .before .before .before .find .ensures) (c .before .before .before .before .before .before .before .before .if1 .left) (c .before .before .before .before .before .reply-behind .ensures), length-drop (c .before .before .before .before .before .before .before .before .before .before .before .before .loop .at) (c .before .before .before .before .before .before .before .before .before .before .before .before .before .before .before .args .piece .now), c .before .before .before .before .before .before .before .before .before .before .before .before .loop .inv .within, c .before .before .before .before .before .before .before .before .before .before .before .before .before .before .before .good)
 
 same-length-2 : tie.Need-same-length-2 Inv-loop μ-loop
-same-length-2 c = ap length (unchanged (c .before .before .before .before .before .before .before .before .before .before .before .before .loop .console) (c .before .before .before .before .before .before .before .before .before .before .before .before .loop .inv) (c .before .before .before .before .before .before .before .before .before .find .ensures) (c .before .before .before .before .before .before .before .before .if1 .left) (c .before .before .before .before .before .ended-by .ensures) (c .before .enum-told .given .1)) ∙ c .before .before .before .before .before .before .before .before .before .before .before .before .loop .inv .buffer .size
+same-length-2 c = ap length (unchanged (c .before .before .before .before .before .before .before .before .before .before .before .before .loop .console) (c .before .before .before .before .before .before .before .before .before .before .before .before .loop .inv) (c .before .before .before .before .before .before .before .before .before .find .ensures) (c .before .before .before .before .before .before .before .before .if1 .left) (c .before .before .before .before .before .reply-behind .ensures) (c .before .enum-told .given .1)) ∙ c .before .before .before .before .before .before .before .before .before .before .before .before .loop .inv .buffer .size
 
 returns-2 : tie.Need-returns-2 Inv-loop μ-loop
-returns-2 c = held-up (c .before .before .before .before .before .before .before .before .before .before .before .before .loop .console) (c .before .before .before .before .before .before .before .before .before .before .before .before .loop .inv) (c .before .before .before .before .before .before .before .before .before .find .ensures) (c .before .before .before .before .before .before .before .before .if1 .left) (c .before .before .before .before .before .ended-by .ensures) (c .longer-by2 .result) (c .before .enum-told .given .1) (c .longer-by2 .ensures)
+returns-2 c = held-up (c .before .before .before .before .before .before .before .before .before .before .before .before .loop .console) (c .before .before .before .before .before .before .before .before .before .before .before .before .loop .inv) (c .before .before .before .before .before .before .before .before .before .find .ensures) (c .before .before .before .before .before .before .before .before .if1 .left) (c .before .before .before .before .before .reply-behind .ensures) (c .longer-by2 .result) (c .before .enum-told .given .1) (c .longer-by2 .ensures)
 
-turned : (c : tie.After-console Inv-loop μ-loop)
-    → Progress (session (c .before .before .before .before .before .before .before .before .before .before .before .before .before .before .before .before .args .self)) (c .before .before .before .before .before .before .before .before .before .before .before .before .before .before .before .before .args .piece .now) (c .before .before .before .before .before .before .before .before .before .before .before .before .before .before .before .before .args .out .now)
-    (session (c .before .before .before .before .before .before .ended-by .result .console))
-    (c .before .before .before .before .before .before .before .before .before .before .before .before .before .loop .at + (c .before .before .before .before .before .before .before .before .before .before .find .result + 1))
-    (c .before .before .before .before .before .before .before .before .before .before .before .before .before .loop .«end» + c .before .before .answer .given .0 .0)
-    (putMid (c .before .before .before .before .before .before .before .before .before .before .before .before .before .loop .«end») (length (c .before .before .before .before .before .before .before .before .before .before .before .before .before .loop .out) - c .before .before .before .before .before .before .before .before .before .before .before .before .before .loop .«end») (c .before .before .before .before .before .before .before .before .before .before .before .before .before .loop .out) (c .before .before .before .before .before .before .ended-by .last .1 .1 .0))
-turned c = turn (c .before .before .before .before .before .before .before .before .before .before .before .before .before .loop .console) (c .before .before .before .before .before .before .before .before .before .before .before .before .before .loop .inv) (c .before .before .before .before .before .before .before .before .before .before .find .ensures) (c .before .before .before .before .before .before .before .before .before .if1 .left) (c .before .before .before .before .before .before .ended-by .ensures) (c .before .before .answer .given .1)
+ended-requires : tie.Need-ended-requires Inv-loop μ-loop
+ended-requires c κs = tt
+
+turned : (c : tie.After-ended Inv-loop μ-loop)
+    → let at-loop = c .before .before .before .before .before .before .before .before .before .before .before .before .before .before in
+    let a = c .before .before .before .before .before .before .before .before .before .before .before .before .before .before .before .before .before .args in
+    let w = at-loop .loop .«end» in
+    Progress (session (a .self)) (a .piece .now) (a .out .now)
+    (session (c .ended .result))
+    (at-loop .loop .at + (c .before .before .before .before .before .before .before .before .before .before .before .find .result + 1))
+    (w + c .before .before .before .answer .given .0 .0)
+    (putMid w (length (at-loop .loop .out) - w) (at-loop .loop .out) (c .before .before .before .before .before .before .before .reply-behind .last .1 .1 .0))
+turned c = turn (c .before .before .before .before .before .before .before .before .before .before .before .before .before .before .loop .console) (c .before .before .before .before .before .before .before .before .before .before .before .before .before .before .loop .inv) (c .before .before .before .before .before .before .before .before .before .before .before .find .ensures) (c .before .before .before .before .before .before .before .before .before .before .if1 .left) (c .before .before .before .before .before .before .before .reply-behind .ensures) (c .ended .result) (c .before .before .before .answer .given .1) (c .ended .ensures)
 
 add-end : tie.Need-add-end Inv-loop μ-loop
-add-end c = omega (arith, turned c .buffer .within, turned c .buffer .size)
+add-end c = omega (arith, turned c .buffer .within, turned c .buffer .size, c .before .before .before .before .before .before .before .before .before .before .before .before .before .before .before .before .before .good)
 
 add-at : tie.Need-add-at Inv-loop μ-loop
-add-at c = omega (arith, turned c .within)
+add-at c = omega (arith, turned c .within, c .before .before .before .before .before .before .before .before .before .before .before .before .before .before .before .before .before .good)
 
 add-at-2 : tie.Need-add-at-2 Inv-loop μ-loop
-add-at-2 c = omega (arith, turned c .within)
+add-at-2 c = omega (arith, turned c .within, c .before .before .before .before .before .before .before .before .before .before .before .before .before .before .before .before .before .good)
 
 loop-less : tie.Need-loop-less Inv-loop μ-loop
 loop-less c = omega (arith, turned c .within)
@@ -122,20 +128,21 @@ step-spec =
     part-rest-end
     find-requires
     longer-by-requires
-    add-t18
+    add-t19
     same-length
     returns
     slice-aggregate-line
-    sub-ended-by
-    part-ended-by-start
-    part-ended-by-end
-    ended-by-requires
+    sub-reply-behind
+    part-reply-behind-start
+    part-reply-behind-end
+    reply-behind-requires
     enum-known-answer
     enum-told
     longer-by-requires-2
-    add-t24
+    add-t25
     same-length-2
     returns-2
+    ended-requires
     add-end
     add-at
     add-at-2

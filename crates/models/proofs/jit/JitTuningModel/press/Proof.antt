@@ -1,38 +1,64 @@
--- `jit::JitTuningModel::press` meets its contract: a held key is refused. Assumes nothing.
+-- `jit::JitTuningModel::press` meets its contract: the nearest note of a pitch is a note, and a number that is no pitch is refused. Assumes nothing.
 use borrow.Author.Needs.{needs}
-use mathlib.Core.Path.{sym, ap, _∙_}
+use mathlib.Core.Path.{_≡_, sym, ap, _∙_}
+use mathlib.Core.Bool.{true}
 use mir.Facts.{toZ-ofZ}
-use Rattle.models.specs.Pool.{replied, unlessHeld, isHeld}
-use Rattle.models.specs.JitModel.{place, told, press}
+use mir.Syntax.{w32}
+use mir.Val.{toZ, ofZ}
+use Rattle.arithmetic.specs.Answers.{approximation}
+use Rattle.arithmetic.specs.Pitch.{isPitch, detuningOf}
+use Rattle.arithmetic.specs.Nearest.{nearestNote}
+use Rattle.arithmetic.proofs.Nearest.{nearest-is-note}
+use Rattle.arithmetic.proofs.Refusals.{nearest-refuses}
+use Rattle.models.specs.Pool.{registerRule, replied}
+use Rattle.models.specs.JitModel.{view}
+use Rattle.models.proofs.Pools.{nearest-is}
+use Rattle.models.proofs.Changes.{unchanged}
 use Rattle.models.proofs.jit.JitTuningModel.press.Statement.{statement}
 use Rattle.models.proofs.jit.JitTuningModel.press.Tie as tie
 
-access-key-requires : tie.Need-access-key-requires
-access-key-requires c κs = search needs
+is : (c : tie.After-known-told)
+    → let hz = c .before .before .before .before .args .pitch .hz in
+    let given = c .before .note .given .0 in
+    (isPitch hz ≡ true) × (given .0 ≡ nearestNote hz) × (given .1 .0 ≡ detuningOf hz (nearestNote hz))
+is c =
+    let given = c .before .note .given in
+    nearest-is (c .before .before .before .before .args .pitch .hz) (given .0 .0) (given .0 .1 .0) (sym (ap approximation (given .1)) ∙ c .before .before .before .find-by-pitch .ensures)
 
-enum-told : tie.Need-enum-told
-enum-told c = search needs
+note : (c : tie.After-known-told) → toZ w32 (ofZ w32 (c .before .note .given .0 .0)) ≡ c .before .note .given .0 .0
+note c = toZ-ofZ {w = w32} {z = c .before .note .given .0 .0} (record { sfits = c .known-told .given .0 .1 })
 
-enum-told-2 : tie.Need-enum-told-2
-enum-told-2 c = search needs
+find-by-pitch-requires : tie.Need-find-by-pitch-requires
+find-by-pitch-requires c κs = search needs
 
-press-new-requires : tie.Need-press-new-requires
-press-new-requires c κs = search needs
+enum-known-note : tie.Need-enum-known-note
+enum-known-note c = search needs
+
+press-note-requires : tie.Need-press-note-requires
+press-note-requires c κs = rw (note c, is c .1) (nearest-is-note (c .before .before .before .before .args .pitch .hz) (rw (is c .0) tt))
+
+enum-known-n : tie.Need-enum-known-n
+enum-known-n c = search needs
+
+refusal-requires : tie.Need-refusal-requires
+refusal-requires c κs = search needs
 
 returns : tie.Need-returns
-unfolding told press replied unlessHeld isHeld place
+unfolding registerRule
 returns c =
-    let was = sym (c .before .before .access-key .ensures) ∙ ap place (c .enum-told .given .1) in
-    rw was
+    let known = c .before in
+    let a = known .before .before .before .before .args in
+    c .press-note .ensures ∙ rw (note known, is known .0, is known .1, is known .2)
 
 returns-2 : tie.Need-returns-2
-unfolding unlessHeld isHeld place
+unfolding replied registerRule
 returns-2 c =
-    let note = toZ-ofZ (c .before .before .before .before .fits .note) in
-    let was = sym (c .before .before .before .access-key .ensures) ∙ ap place (c .before .enum-told2 .given .1) in
-    c .press-new .ensures ∙ rw (note, was)
+    let k = c .before in
+    let a = k .before .before .before .before .args in
+    let refusal = nearest-refuses (a .pitch .hz) (k .before .n .given .0 .0) .0 (sym (k .before .before .before .find-by-pitch .ensures) ∙ ap approximation (k .before .n .given .1)) in
+    unchanged (view (a .self)) (c .refusal .result) (c .refusal .ensures .0) (c .refusal .ensures .1) ∙ rw (refusal .0, refusal .1)
 
 pub press-spec : {M : Type 1} → statement M
 press-spec =
     tie.close
-    (tie.spec access-key-requires enum-told enum-told-2 press-new-requires returns returns-2)
+    (tie.spec find-by-pitch-requires enum-known-note press-note-requires enum-known-n refusal-requires returns returns-2)
