@@ -1,5 +1,5 @@
--- What the calls of a pool tuner wrote, as a receiver by the Specification takes it, from any state it was in: a press, a release, a repitch and `stop`.
--- BothTuners has pressures and messages to all. Assumes nothing.
+-- What the calls of a pool tuner wrote, as a reader and a receiver by the Specification take it, from any state they were in: a press, a release, a
+-- repitch and `stop`. BothTuners has pressures and messages to all. Assumes nothing.
 use mathlib.Core.Path.{_≡_, refl, sym, ap, _∙_}
 use mathlib.Core.Bool.{Bool, true, false, cond}
 use mathlib.Core.Option.{Option, some, none}
@@ -29,9 +29,9 @@ use Rattle.senders.specs.Meant.{tuned, noted, pressed, onListed, keyMean
 use Rattle.senders.specs.declared.midi.ChannelMessageType.{ChannelMessageType}
 use Rattle.senders.specs.declared.tuner.NoteMessage.the-variants.{Off, Pressure}
 use Rattle.senders.specs.declared.jit.JitTuner.{JitTuner}
-use Rattle.senders.proofs.Bytes.{read-padded, sent-read, read-plain}
+use Rattle.senders.proofs.Bytes.{read-plain, sent-read-plain}
 use Rattle.senders.proofs.Calls.{press-sent, release-sent}
-use Rattle.senders.proofs.Conveyed.{conveys-none, conveys-each, sent-conveyed, conveys-key, conveys-tuning, conveys-press, all-valid, echoes-heard, all-hear}
+use Rattle.senders.proofs.Conveyed.{Conveys, conveys-none, conveys-each, sent-conveyed, conveys-key, conveys-tuning, conveys-press, all-valid, echoes-heard, all-hear}
 use Rattle.senders.proofs.Hearing.{on-none}
 use Rattle.senders.proofs.Lent.{accepted as done, starts-with}
 use Rattle.senders.proofs.Messages.{test-held, checked-valid, valid-checked}
@@ -56,53 +56,80 @@ module _ (other : Other) (st : State) (r : Receiver) (self : JitTuner) where
   channels = tuner self .pool .channels
 
   module _ {back : JitTuner} {old new : List ℕ} {n : ℕ} where
-    -- After an accepted press the stopped note is off, the channel tuned, and the new note on.
-    pub press-received :
+    -- An accepted press: a reader finds its messages; the stopped note is off, the channel tuned, and the new note on.
+    module _
         (key : ℕ) (hz : Float) (v : ℕ) {i : ℕ} {stopped : Option ℤ} {note : ℤ} {d : Float} {u : Pools}
-        → registerRule (tuner self .pool) key hz ≡ value (accepted i stopped note d, u)
-        → Steps tuner (noteOnRule (tuner self) key hz v) self old (value (sounds n)) back new
-        → hearBytes other st (take n new) r ≡ onListed (getElem? channels i) (pressed stopped (sentAs (self .kind) d) note v) r
-    unfolding view
-    press-received key hz v {i} {stopped} {note} {d} {u} e p =
-        let low = ltb-true v 128 (test-held 8 (ltb v 128) _ (done p .rule-is) .0) in
-        let c = conveys-press other (self .model .channels) i stopped (sentAs (self .kind) d) note v (sent-in-steps (self .kind) d) low in
-        let ms = onChannel channels i (λ ch. pressMessages ch stopped (sentAs (self .kind) d) note v) in
-        let starts : take n new ≡ bytesOf ms =
-        sounding-starts {next = withPool (tuner self) u} {bs = bytesOf ms} (press-sent (tuner self) key hz v low e) p in
-        ap (λ (l : List ℕ). hearBytes other st l r) starts
-        ∙ ap (λ (l : List Message). hearAll other l r) (read-plain st ms (c .plain))
-        ∙ c .heard r
+        (e : registerRule (tuner self .pool) key hz ≡ value (accepted i stopped note d, u))
+        (p : Steps tuner (noteOnRule (tuner self) key hz v) self old (value (sounds n)) back new) where
+      abbrev pressSent : List Message
+      pressSent = onChannel channels i (λ ch. pressMessages ch stopped (sentAs (self .kind) d) note v)
 
-    -- After a release the key's note is off.
-    pub release-received :
-        (key v : ℕ) → Steps tuner (noteOffRule (tuner self) key v) self old (value n) back new
-        → hearBytes other st (take n new) r ≡ keyMeant Off channels v (found (tuner self .pool) key) r
-    unfolding view
-    release-received key v p =
-        let low = ltb-true v 128 (test-held 8 (ltb v 128) _ (done p .rule-is) .0) in
-        let o = found (tuner self .pool) key in
-        sent-conveyed other st (keyMessages Off channels v o) r (conveys-key other (self .model .channels) Off v o low) (release-sent (tuner self) key v low) p
+      low : v < 128
+      low = ltb-true v 128 (test-held 8 (ltb v 128) _ (done p .rule-is) .0)
 
-    -- After `stop` a release with velocity 0 was heard for every key that was found, by rising key.
-    pub stop-received :
-        Steps tuner (stopRule (tuner self)) self old (value n) back new
-        → hearBytes other st (take n new) r ≡ inTurn (λ (h : Held). keyMeant Off channels 0 (some (h .place))) (heldKeys (tuner self .pool) 0) r
-    unfolding view
-    stop-received p =
-        let c = conveys-each other (λ (h : Held). keyMessages Off channels 0 (some (h .place))) (λ (h : Held). keyMeant Off channels 0 (some (h .place))) (heldKeys (tuner self .pool) 0) (λ h. conveys-key other (self .model .channels) Off 0 (some (h .place)) (omega arith)) in
-        sent-conveyed other st (releaseMessages (tuner self)) r c refl p
+      press-conveyed : Conveys other pressSent (onListed (getElem? channels i) (pressed stopped (sentAs (self .kind) d) note v))
+      unfolding view
+      press-conveyed = conveys-press other (self .model .channels) i stopped (sentAs (self .kind) d) note v (sent-in-steps (self .kind) d) low
+
+      pub press-read : read st (take n new) ≡ pressSent
+      press-read =
+          let starts : take n new ≡ bytesOf pressSent =
+          sounding-starts {next = withPool (tuner self) u} {bs = bytesOf pressSent} (press-sent (tuner self) key hz v low e) p in
+          ap (read st) starts ∙ read-plain st pressSent (press-conveyed .plain)
+
+      pub press-received : hearBytes other st (take n new) r ≡ onListed (getElem? channels i) (pressed stopped (sentAs (self .kind) d) note v) r
+      press-received = ap (λ (l : List Message). hearAll other l r) press-read ∙ press-conveyed .heard r
+
+    -- A release: a reader finds its message; the key's note is off.
+    module _ (key v : ℕ) (p : Steps tuner (noteOffRule (tuner self) key v) self old (value n) back new) where
+      abbrev releaseSent : List Message
+      releaseSent = keyMessages Off channels v (found (tuner self .pool) key)
+
+      release-low : v < 128
+      release-low = ltb-true v 128 (test-held 8 (ltb v 128) _ (done p .rule-is) .0)
+
+      release-conveyed : Conveys other releaseSent (keyMeant Off channels v (found (tuner self .pool) key))
+      unfolding view
+      release-conveyed = conveys-key other (self .model .channels) Off v (found (tuner self .pool) key) release-low
+
+      pub release-read : read st (take n new) ≡ releaseSent
+      release-read = sent-read-plain st releaseSent (release-sent (tuner self) key v release-low) p (release-conveyed .plain)
+
+      pub release-received : hearBytes other st (take n new) r ≡ keyMeant Off channels v (found (tuner self .pool) key) r
+      release-received = sent-conveyed other st releaseSent r release-conveyed (release-sent (tuner self) key v release-low) p
+
+    -- `stop`: a reader finds a release with velocity 0 for every key that was found, by rising key, and so a receiver hears it.
+    module _ (p : Steps tuner (stopRule (tuner self)) self old (value n) back new) where
+      stop-conveyed : Conveys other (releaseMessages (tuner self)) (inTurn (λ (h : Held). keyMeant Off channels 0 (some (h .place))) (heldKeys (tuner self .pool) 0))
+      unfolding view
+      stop-conveyed = conveys-each other (λ (h : Held). keyMessages Off channels 0 (some (h .place))) (λ (h : Held). keyMeant Off channels 0 (some (h .place))) (heldKeys (tuner self .pool) 0) (λ h. conveys-key other (self .model .channels) Off 0 (some (h .place)) (omega arith))
+
+      pub stop-read : read st (take n new) ≡ releaseMessages (tuner self)
+      stop-read = sent-read-plain st (releaseMessages (tuner self)) refl p (stop-conveyed .plain)
+
+      pub stop-received : hearBytes other st (take n new) r ≡ inTurn (λ (h : Held). keyMeant Off channels 0 (some (h .place))) (heldKeys (tuner self .pool) 0) r
+      stop-received = sent-conveyed other st (releaseMessages (tuner self)) r stop-conveyed refl p
 
   module _ {old new : List ℕ} {n : ℕ} where
-    -- After a repitch of a found key its channel is tuned; that of an unknown key changes nothing.
-    pub repitch-received :
-        (key : ℕ) (hz : Float) (p : Place) (d : Float) → repitchRule (tuner self .pool) key hz ≡ value (some (p, d))
-        → Answers (notePitchRule (tuner self) key hz) old (value n) new
-        → hearBytes other st (take n new) r ≡ onListed (getElem? channels (p .channel)) (tuned (sentAs (self .kind) d)) r
-    unfolding view
-    repitch-received key hz p d e a =
-        let ms = repitchMessages (tuner self) (some (p, d)) in
-        let s : notePitchRule (tuner self) key hz ≡ sent (bytesOf ms) = rw e in
-        sent-conveyed other st ms r (conveys-tuning other (self .model .channels) (p .channel) (sentAs (self .kind) d) (sent-in-steps (self .kind) d)) s a
+    -- A repitch of a found key: a reader finds the tuning, and the key's channel is tuned; that of an unknown key changes nothing.
+    module _
+        (key : ℕ) (hz : Float) (p : Place) (d : Float) (e : repitchRule (tuner self .pool) key hz ≡ value (some (p, d)))
+        (a : Answers (notePitchRule (tuner self) key hz) old (value n) new) where
+      abbrev repitchSent : List Message
+      repitchSent = repitchMessages (tuner self) (some (p, d))
+
+      repitch-conveyed : Conveys other repitchSent (onListed (getElem? channels (p .channel)) (tuned (sentAs (self .kind) d)))
+      unfolding view
+      repitch-conveyed = conveys-tuning other (self .model .channels) (p .channel) (sentAs (self .kind) d) (sent-in-steps (self .kind) d)
+
+      sent-repitch : notePitchRule (tuner self) key hz ≡ sent (bytesOf repitchSent)
+      sent-repitch = rw e
+
+      pub repitch-read : read st (take n new) ≡ repitchSent
+      repitch-read = sent-read-plain st repitchSent sent-repitch a (repitch-conveyed .plain)
+
+      pub repitch-received : hearBytes other st (take n new) r ≡ onListed (getElem? channels (p .channel)) (tuned (sentAs (self .kind) d)) r
+      repitch-received = sent-conveyed other st repitchSent r repitch-conveyed sent-repitch a
 
     pub repitch-unknown :
         (key : ℕ) (hz : Float) → repitchRule (tuner self .pool) key hz ≡ value none → Answers (notePitchRule (tuner self) key hz) old (value n) new
