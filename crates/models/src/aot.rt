@@ -305,6 +305,7 @@ fn with_key(used: u16, before: f64, detuning: f64) -> Run
         };
     }
     if joins(before, detuning) {
+        // The next key is compared with this one, not with the channel's first.
         let latest = detuning;
         return Run { used, latest };
     }
