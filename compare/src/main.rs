@@ -2,11 +2,13 @@
 //!
 //! `compare/run` builds and runs it.
 
+mod bytes;
 mod inputs;
 mod lists;
 mod nearest;
 mod ours;
 mod plans;
+mod pool_tuners;
 mod pools;
 mod report;
 mod speed;
@@ -23,6 +25,8 @@ fn compare(seed: u64) -> u64 {
     steps::run(&mut chance, &mut rows);
     plans::run(&mut chance, &mut rows);
     pools::run(&mut chance, &mut rows);
+    bytes::run(&mut chance, &mut rows);
+    pool_tuners::run(&mut chance, &mut rows);
     report::summary(&rows)
 }
 
