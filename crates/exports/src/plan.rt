@@ -12,12 +12,12 @@ use crate::lent::number_at;
 use crate::lent::put_byte;
 use crate::lent::put_float;
 use crate::lent::put_number;
-use models::aot::Access;
 use models::aot::AotTuningModel;
 use models::aot::GroupBy;
 use models::aot::NextAnswer;
 use models::aot::PlanAnswer;
 use models::channels::ChannelsAnswer;
+use models::keys::AccessKeyResult;
 
 // The kinds of answer; 1 to 13 are refusals.
 const TUNED: u8 = 0;
@@ -236,12 +236,18 @@ fn count_of(answer: PlanAnswer) -> u16
     }
 }
 
-fn seat_of(access: Access) -> Seat
+fn seat_of(access: AccessKeyResult) -> Seat
     ensures { λ r. ⌜ r ≡ seatOf (accessAnswer access) ⌝ }
 {
     match access {
-        Access::Found(channel, note) => Seat { channel, note },
-        Access::NotFound => Seat {
+        AccessKeyResult::Found {
+            channel,
+            found_note,
+        } => Seat {
+            channel,
+            note: found_note,
+        },
+        AccessKeyResult::NotFound => Seat {
             channel: NO_CHANNEL,
             note: 0,
         },

@@ -14,7 +14,7 @@ use Rattle.models.specs.declared.aot.GroupBy.{GroupBy}
 use Rattle.models.specs.declared.aot.GroupBy.the-variants.{Note, NoteLetter, Channel}
 use Rattle.models.specs.declared.aot.KeyRecord.{KeyRecord}
 use Rattle.models.specs.declared.aot.AotTuningModel.{AotTuningModel}
-use Rattle.models.specs.declared.aot.Access as A
+use Rattle.models.specs.declared.keys.AccessKeyResult as A
 use Rattle.models.specs.declared.aot.PlanAnswer as T
 use Rattle.models.specs.declared.aot.DetuningAnswer as D
 use Rattle.models.specs.declared.aot.NextAnswer as N
@@ -152,7 +152,7 @@ modelOf s = record {
 
 -- ---- the code's answers in these words
 
-abbrev pub accessAnswer : A.Access → Option (ℕ × ℤ)
+abbrev pub accessAnswer : A.AccessKeyResult → Option (ℕ × ℤ)
 accessAnswer (A.the-variants.Found c n) = some (c, n)
 accessAnswer A.the-variants.NotFound = none
 

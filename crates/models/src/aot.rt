@@ -14,6 +14,7 @@ ghost use Rattle.models.specs.PlanInside.{Accepted, Ready, Seats, channe
 use crate::channels::ChannelList;
 use crate::channels::ChannelsAnswer;
 use crate::channels::present;
+use crate::keys::AccessKeyResult;
 use crate::keys::KEYS;
 use crate::waiting::Waiting;
 use crate::waiting::note_lists;
@@ -30,13 +31,6 @@ pub enum GroupBy {
     Note,
     NoteLetter,
     Channel,
-}
-
-// Where a key is.
-pub enum Access {
-    // Its channel and its note.
-    Found(u8, i32),
-    NotFound,
 }
 
 // What a tuning answers.
@@ -146,15 +140,18 @@ impl AotTuningModel {
     }
 
     // The channel and the note of a key of the plan.
-    pub fn access_key(self, key: u8) -> Access
+    pub fn access_key(self, key: u8) -> AccessKeyResult
         ensures { λ r. ⌜ accessAnswer r ≡ modelOf self .keys key ⌝ }
     {
         let at = key as usize;
         let record = self.records[at];
         if record.is_planned() {
-            return Access::Found(record.channel, record.note);
+            return AccessKeyResult::Found {
+                channel: record.channel,
+                found_note: record.note,
+            };
         }
-        Access::NotFound
+        AccessKeyResult::NotFound
     }
 
     // How many channels the plan uses, and without a plan how many there are.

@@ -1,7 +1,6 @@
 // Plans: document 01's examples 9 and 10, every kind of group, both kinds of list, each refusal, full lists, and the detuning entries of the channels.
 // Writes a line for each call.
 ghost use Prim.Native.Nat.{_≤_};
-use models::aot::Access;
 use models::aot::AotTuningModel;
 use models::aot::DetuningAnswer;
 use models::aot::GroupBy;
@@ -9,6 +8,7 @@ use models::aot::NextAnswer;
 use models::aot::PlanAnswer;
 use models::aot::SetTuning;
 use models::channels::ChannelsAnswer;
+use models::keys::AccessKeyResult;
 use show::float;
 use show::number;
 use show::refusal;
@@ -67,11 +67,14 @@ fn key(model: AotTuningModel, key: u8) {
     word(b"  key");
     number(key as u64);
     match model.access_key(key) {
-        Access::Found(channel, note) => {
+        AccessKeyResult::Found {
+            channel,
+            found_note,
+        } => {
             number(channel as u64);
-            signed(note);
+            signed(found_note);
         }
-        Access::NotFound => {
+        AccessKeyResult::NotFound => {
             word(b" -");
         }
     }

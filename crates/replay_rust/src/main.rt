@@ -6,7 +6,6 @@ use arithmetic::pitch::Pitch;
 use arithmetic::tuning::Approximation;
 use arithmetic::tuning::find_by_pitch;
 use libc::STDIN_FILENO;
-use models::aot::Access;
 use models::aot::AotTuningModel;
 use models::aot::GroupBy;
 use models::aot::PlanAnswer as Plan;
@@ -249,15 +248,8 @@ fn seats(model: AotTuningModel, keys: &[u8], lines: u64) {
     let n = cut(lines, keys.len());
     let mut i: usize = 0;
     while i < n {
-        seat(model.access_key(keys[i]));
+        accessed(model.access_key(keys[i]));
         i += 1;
-    }
-}
-
-fn seat(access: Access) {
-    match access {
-        Access::Found(channel, note) => place(channel, note),
-        Access::NotFound => word(b" -"),
     }
 }
 

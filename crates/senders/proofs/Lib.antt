@@ -11,6 +11,8 @@ pub mod Hearing
 pub mod Received
 pub mod Each
 pub mod Channels
+pub mod Tunings
+pub mod PlanCalls
 pub mod Stops
 pub mod Calls
 pub mod Passages

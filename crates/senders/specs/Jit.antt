@@ -15,10 +15,10 @@ use Rattle.models.specs.declared.steps.TuningKind.{TuningKind}
 use Rattle.models.specs.declared.jit.PoolingMode.{PoolingMode}
 use Rattle.models.specs.declared.jit.PoolGroupBy.the-variants.{Channel}
 use Rattle.senders.specs.Message.{Message, isData}
-use Rattle.senders.specs.Midi.{bytesOf, checked}
+use Rattle.senders.specs.Midi.{bytesOf}
 use Rattle.senders.specs.Lent.{Effect, sends, Answer, sent}
 use Rattle.senders.specs.Mts.{tuningMessages}
-use Rattle.senders.specs.Tuner.{pressMessages, each, onChannel, keyMessages, toAll}
+use Rattle.senders.specs.Tuner.{pressMessages, each, onChannel, keyMessages, keyRule, toAllRule}
 use Rattle.senders.specs.declared.midi.ChannelMessageType.{ChannelMessageType}
 use Rattle.senders.specs.declared.tuner.NoteMessage.the-variants.{Off, Pressure}
 use Rattle.senders.specs.declared.jit.JitTuner.{JitTuner}
@@ -77,9 +77,7 @@ noteOffRule t key velocity =
     sends (bytesOf (keyMessages Off (t .pool .channels) velocity (found (t .pool) key))) (withPool t (released (t .pool) key))
 
 abbrev pub noteAttrRule : Tuner → ℕ → ℕ → Answer
-noteAttrRule t key pressure =
-    refuse dataByteOver127 unless isData pressure then
-    sent (bytesOf (keyMessages Pressure (t .pool .channels) pressure (found (t .pool) key)))
+noteAttrRule t key pressure = keyRule Pressure (t .pool .channels) pressure (found (t .pool) key)
 
 -- ---- "A repitch of a found key: 1, 10; of an unknown key: 1 only"; "`note_pitch` sends tuning only"
 
@@ -94,10 +92,10 @@ repitchEffect t (refused n) = refused n
 abbrev pub notePitchRule : Tuner → ℕ → Float → Answer
 notePitchRule t key hz = repitchEffect t (repitchRule (t .pool) key hz)
 
--- ---- "`global_attr` goes to every channel, except bends of a bend sender"; it "tests 8 and 9 even when nothing is sent"
+-- ---- "`global_attr` goes to every channel, except bends of a bend sender"
 
 abbrev pub globalAttrRule : Tuner → ChannelMessageType → Answer
-globalAttrRule t m = checked m (sent (bytesOf (toAll (t .kind) (t .pool .channels) m)))
+globalAttrRule t m = toAllRule (t .kind) (t .pool .channels) m
 
 -- ---- "`stop` on a pool tuner releases every found key with velocity 0", by rising key: 10 only
 

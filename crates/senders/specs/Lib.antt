@@ -4,6 +4,7 @@ pub mod Message
 pub mod Midi
 pub mod Mts
 pub mod Tuner
+pub mod Aot
 pub mod Jit
 pub mod Passage
 pub mod Answers

@@ -1,13 +1,16 @@
--- The messages that a tuner sends on its channels ("midi.rs under tuner"). Assumes nothing.
+-- The messages that a tuner sends on its channels ("midi.rs under tuner"), and the calls that a plan tuner and a pool tuner share. Assumes nothing.
 use mathlib.Core.Bool.{Bool, true, false, cond}
 use mathlib.Core.Option.{Option, some, none}
 use mathlib.Core.List.{List, [], _∷_, _++_}
 use Prim.Native.Nat.{ℕ}
 use lib.IntN.{ℤ, pos, negsuc}
 use lib.ListN.{getElem?}
+use Rattle.models.specs.Outcome.{refuse_unless_then_}
+use Rattle.models.specs.Refusal.{dataByteOver127}
 use Rattle.models.specs.Pool.{Place}
+use Rattle.senders.specs.Lent.{Answer, sent}
 use Rattle.senders.specs.Message.{Message, isData}
-use Rattle.senders.specs.Midi.{meant}
+use Rattle.senders.specs.Midi.{bytesOf, checked, meant}
 use Rattle.senders.specs.Mts.{tuningMessages}
 use Rattle.senders.specs.declared.midi.ChannelMessageType.{ChannelMessageType}
 use Rattle.senders.specs.declared.midi.ChannelMessageType.the-variants.{NoteOff, NoteOn, PolyphonicKeyPressure, ControlChange, ProgramChange, ChannelPressure, PitchBendChange}
@@ -82,3 +85,13 @@ isKept Bend m = isBendMessage m
 
 abbrev pub toAll : TuningKind → List ℕ → ChannelMessageType → List Message
 toAll kind channels m = cond (isKept kind m) [] (each (λ ch. meant ch m ∷ []) channels)
+
+-- ---- calls of both tuners
+
+-- "Planned presses, all releases and pressures: 8, 10, with 8 also for unknown keys"
+abbrev pub keyRule : NoteMessage → List ℕ → ℕ → Option Place → Answer
+keyRule kind channels v place = refuse dataByteOver127 unless isData v then sent (bytesOf (keyMessages kind channels v place))
+
+-- "`global_attr` tests 8 and 9 even when nothing is sent"
+abbrev pub toAllRule : TuningKind → List ℕ → ChannelMessageType → Answer
+toAllRule kind channels m = checked m (sent (bytesOf (toAll kind channels m)))

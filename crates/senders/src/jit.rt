@@ -10,16 +10,15 @@ ghost use Rattle.senders.specs.Answers.{sentAnswer, pressAnswer};
 ghost use Rattle.senders.specs.Midi.{bytesOf};
 ghost use Rattle.senders.specs.Jit.{tuner, opened, startRule, noteOnRule, noteOffRule, notePitchRule, noteAttrRule, globalAttrRule, releaseMessages, stopRule};
 use crate::midi::ChannelMessageType;
-use crate::midi::Check;
 use crate::midi::HIGHEST_DATA_BYTE;
 use crate::midi::Sent;
-use crate::midi::check_message;
 use crate::tuner::NoteMessage;
 use crate::tuner::key_len;
 use crate::tuner::put_key;
+use crate::tuner::send_checked_key;
+use crate::tuner::send_checked_to_all;
 use crate::tuner::send_key;
 use crate::tuner::send_press;
-use crate::tuner::send_to_all;
 use crate::tuner::send_tuning;
 use crate::tuner::sent_as;
 use models::Pitch;
@@ -183,26 +182,18 @@ impl JitTuner {
     pub fn note_attr(self, key: u8, pressure: u8, out: &mut [u8]) -> Sent
         ensures { λ r. ⌜ Answers (noteAttrRule (tuner self) key pressure) (now (out .entry)) (sentAnswer r) (now (out .exit)) ⌝ }
     {
-        if HIGHEST_DATA_BYTE < pressure {
-            return Sent::Refused(DATA_BYTE_OVER_127);
-        }
         let found = self.model.access_key(key);
         let channels = self.model.channel_list();
-        send_key(channels, found, NoteMessage::Pressure, pressure, out)
+        send_checked_key(channels, found, NoteMessage::Pressure, pressure, out)
     }
 
     // A message to every channel, except bends of a tuner that tunes by bends. Refuses 8 from left, 9, also where nothing is sent, and 10.
     pub fn global_attr(self, message: ChannelMessageType, out: &mut [u8]) -> Sent
         ensures { λ r. ⌜ Answers (globalAttrRule (tuner self) message) (now (out .entry)) (sentAnswer r) (now (out .exit)) ⌝ }
     {
-        match check_message(message) {
-            Check::Passed => {
-                let kind = self.kind;
-                let channels = self.model.channel_list();
-                send_to_all(kind, channels, message, out)
-            }
-            Check::Refused(number) => Sent::Refused(number),
-        }
+        let kind = self.kind;
+        let channels = self.model.channel_list();
+        send_checked_to_all(kind, channels, message, out)
     }
 
     // Every key that is found is released with velocity 0, by rising key. Refuses 10.

@@ -14,9 +14,12 @@ ghost use Rattle.senders.specs.Mts.{tuningMessages};
 ghost use Rattle.models.specs.ChannelList.{entries};
 ghost use Rattle.models.specs.Steps.{InSteps, sentAs};
 ghost use Rattle.models.specs.JitModel.{stoppedNote, place};
-ghost use Rattle.senders.specs.Tuner.{numberOf, noteType, noteMessages, stopMessages, pressMessages, each, onChannel, keyMessages, isKept, toAll};
+ghost use Rattle.senders.specs.Tuner.{numberOf, noteType, noteMessages, stopMessages, pressMessages, each, onChannel, keyMessages, isKept, toAll, keyRule, toAllRule};
 use crate::midi::ChannelMessageType;
+use crate::midi::Check;
+use crate::midi::HIGHEST_DATA_BYTE;
 use crate::midi::Sent;
+use crate::midi::check_message;
 use crate::midi::message_len;
 use crate::midi::put_message;
 use crate::mts::put_tuning;
@@ -27,6 +30,7 @@ use models::channels::EntryAnswer;
 use models::jit::StoppedNote;
 use models::keys::AccessKeyResult;
 use models::refusal::BUFFER_TOO_SHORT;
+use models::refusal::DATA_BYTE_OVER_127;
 use models::steps::Tuning;
 use models::steps::TuningAnswer;
 use models::steps::TuningKind;
@@ -46,6 +50,22 @@ pub(crate) enum NoteMessage {
 enum NoteNumber {
     Number(u8),
     Unnumbered,
+}
+
+// Writes a message of a key's note as `send_key` does, and tests its value. Refuses 8, also for a key that is not found, and 10.
+pub(crate) fn send_checked_key(
+    channels: ChannelList,
+    found: AccessKeyResult,
+    kind: NoteMessage,
+    value: u8,
+    out: &mut [u8],
+) -> Sent
+    ensures { λ r. ⌜ Answers (keyRule kind (entries channels) value (place found)) (now (out .entry)) (sentAnswer r) (now (out .exit)) ⌝ }
+{
+    if HIGHEST_DATA_BYTE < value {
+        return Sent::Refused(DATA_BYTE_OVER_127);
+    }
+    send_key(channels, found, kind, value, out)
 }
 
 // Writes a message of a key's note on its channel to the buffer's start: nothing for a key that is not found. Refuses 10.
@@ -134,6 +154,21 @@ pub(crate) fn send_press(
     }
     let end = put_press(out, 0, channel, stopped, tuning, note, velocity);
     Sent::Written(end)
+}
+
+// Writes a message to every channel as `send_to_all` does, and tests it. Refuses 8 from left, 9, also where nothing is sent, and 10.
+pub(crate) fn send_checked_to_all(
+    kind: TuningKind,
+    channels: ChannelList,
+    message: ChannelMessageType,
+    out: &mut [u8],
+) -> Sent
+    ensures { λ r. ⌜ Answers (toAllRule kind (entries channels) message) (now (out .entry)) (sentAnswer r) (now (out .exit)) ⌝ }
+{
+    match check_message(message) {
+        Check::Passed => send_to_all(kind, channels, message, out),
+        Check::Refused(number) => Sent::Refused(number),
+    }
 }
 
 // Writes a message to every channel of a list to the buffer's start, unless the tuner keeps such messages to itself. Refuses 10.
