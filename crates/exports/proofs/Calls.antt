@@ -14,7 +14,6 @@ use borrow.Rule.Slice.PartMut.{putMid}
 use Rattle.arithmetic.specs.Outcome.{Outcome, value, refused}
 use Rattle.models.specs.Refusal.{bufferTooShort}
 use Rattle.senders.specs.Lent.{Effect, fitted, left, written}
-use Rattle.senders.specs.Jit.{Pressed}
 use Rattle.senders.specs.Passage.{settled}
 use Rattle.exports.specs.declared.message.Heard.{Heard}
 use Rattle.exports.specs.Calls.{Call, heard, Called, Went, begun, sentBy, then, callIn, wentBefore, heardAt}

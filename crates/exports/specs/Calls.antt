@@ -5,45 +5,45 @@ use mathlib.Core.List.{List, [], _++_}
 use lib.ListN.{length}
 use Rattle.arithmetic.specs.Outcome.{Outcome, value, refused}
 use Rattle.senders.specs.Lent.{Effect, Answer, fitted, left}
-use Rattle.senders.specs.Jit.{Pressed, sounds, rejects}
 use Rattle.senders.specs.Passage.{settled}
+use Rattle.exports.specs.Messages.{refusedBy}
 use Rattle.exports.specs.declared.message.Heard.{Heard}
 
--- ---- one call, whose answer is a press's: every other call is one that is not rejected
+-- ---- one call
+
+-- the numbers of an answer that is no refusal: its kind, and how many channels a plan needs
+pub record Said : Type 0 where
+  pub kind : ℕ
+  pub channels : ℕ
 
 abbrev pub Call : Type 0 → Type 0
-Call S = Outcome (Effect Pressed S)
+Call S = Outcome (Effect Said S)
 
--- a call that counts its bytes, in a larger state
-abbrev pub counting : {S S′ : Type 0} → (S → S′) → Outcome (Effect ℕ S) → Call S′
-counting whole (value e) = value (record { says = sounds (e .says); bytes = e .bytes; next = whole (e .next) })
-counting whole (refused n) = refused n
+-- a tuner's call, its answer in numbers, in a larger state
+abbrev pub saying : {R S S′ : Type 0} → (R → Said) → (S → S′) → Outcome (Effect R S) → Call S′
+saying said whole (value e) = value (record { says = said (e .says); bytes = e .bytes; next = whole (e .next) })
+saying said whole (refused n) = refused n
 
--- one that hands the tuner back
+abbrev pub sentSaid : ℕ → Said
+sentSaid n = record { kind = 0; channels = 0 }
+
+-- a call that counts its bytes and hands the tuner back
 abbrev pub moving : {S : Type 0} → Outcome (Effect ℕ S) → Call S
-moving = counting (λ s. s)
+moving = saying sentSaid (λ s. s)
 
--- one that does not
+-- one that hands no tuner back
 abbrev pub keeping : {S : Type 0} → S → Answer → Call S
-keeping s = counting (λ u. s)
+keeping s = saying sentSaid (λ u. s)
 
 -- ---- the numbers of its answer
 
--- 0 for bytes that were sent, 20 for a press that was rejected
-unfoldable pub answerKind : Pressed → ℕ
-answerKind (sounds n) = 0
-answerKind rejects = 20
+-- the kind, or the number of a refusal; how many bytes were sent; how many channels a plan needs
+abbrev pub numbers : Said → List ℕ → Heard
+numbers said bs = record { kind = said .kind; count = length bs; channels = said .channels }
 
--- the kind, or the number of a refusal; and how many bytes were sent
 unfoldable pub heard : {S : Type 0} → Call S → Heard
-heard (value e) = record { kind = answerKind (e .says); count = length (e .bytes) }
-heard (refused n) = record { kind = n; count = 0 }
-
--- the same of a press's answer
-unfoldable pub pressHeard : Outcome Pressed → Heard
-pressHeard (value (sounds n)) = record { kind = 0; count = n }
-pressHeard (value rejects) = record { kind = 20; count = 0 }
-pressHeard (refused n) = record { kind = n; count = 0 }
+heard (value e) = numbers (e .says) (e .bytes)
+heard (refused n) = refusedBy n
 
 -- a call from the state `s` with the lent buffer `old`: its answer, the state handed back, and the buffer at exit
 pub record Called {S : Type 0} (call : Call S) (s : S) (old : List ℕ) (answer : Heard) (back : S) (new : List ℕ) : Type 0 where

@@ -6,3 +6,4 @@ pub mod Plans
 pub mod Messages
 pub mod Calls
 pub mod PoolTuner
+pub mod PlanTuner

@@ -24,7 +24,11 @@ messageOf kind first second bend =
     (cond (eqb kind 0xc) (ProgramChange first)
     (cond (eqb kind 0xd) (ChannelPressure first) (PitchBendChange bend))))))
 
--- a call that counts its bytes: of kind 0, or the number of its refusal
+-- a call that is refused
+abbrev pub refusedBy : ℕ → Heard
+refusedBy n = record { kind = n; count = 0; channels = 0 }
+
+-- a call that counts its bytes
 unfoldable pub sentHeard : Outcome ℕ → Heard
-sentHeard (value n) = record { kind = 0; count = n }
-sentHeard (refused n) = record { kind = n; count = 0 }
+sentHeard (value n) = record { kind = 0; count = n; channels = 0 }
+sentHeard (refused n) = refusedBy n

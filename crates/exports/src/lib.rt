@@ -4,5 +4,6 @@ mod lent;
 pub mod message;
 pub mod nearest;
 pub mod plan;
+pub mod plan_tuner;
 pub mod pool;
 pub mod pool_tuner;

@@ -15,7 +15,7 @@ use senders::mts::channel_fine_tuning;
 use senders::mts::channel_pitch_bend;
 
 // The kind of an answer with bytes; 1 to 13 are refusals.
-const SENT: u8 = 0;
+pub(crate) const SENT: u8 = 0;
 
 // The kinds of message, by the high four bits of their status bytes; any other is a bend.
 const NOTE_OFF: u8 = 0x8;
@@ -30,10 +30,11 @@ const PROGRAM_CHANGE: u8 = 0xc;
 
 const CHANNEL_PRESSURE: u8 = 0xd;
 
-// What a call answered: its kind, and how many bytes it sent.
+// What a call answered: its kind, how many bytes it sent, and how many channels a plan needs, 0 of other calls.
 pub(crate) struct Heard {
     pub(crate) kind: u8,
     pub(crate) count: usize,
+    pub(crate) channels: u16,
 }
 
 // Writes a message on a channel to the buffer's start: its data bytes are `first` and `second`, or it is a bend. Writes the refusal, 0 where there
@@ -141,10 +142,15 @@ pub(crate) fn sent_heard(sent: Sent) -> Heard
     ensures { λ r. ⌜ r ≡ sentHeard (sentAnswer sent) ⌝ }
 {
     match sent {
-        Sent::Written(count) => Heard { kind: SENT, count },
+        Sent::Written(count) => Heard {
+            kind: SENT,
+            count,
+            channels: 0,
+        },
         Sent::Refused(number) => Heard {
             kind: number,
             count: 0,
+            channels: 0,
         },
     }
 }

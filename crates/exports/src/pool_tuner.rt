@@ -8,14 +8,15 @@ ghost use Rattle.senders.specs.Answers.{pressAnswer};
 ghost use Rattle.exports.specs.Lent.{filled};
 ghost use Rattle.exports.specs.Events.{modeOf, listRefusal};
 ghost use Rattle.exports.specs.Messages.{kindOf};
-ghost use Rattle.exports.specs.Calls.{Called, pressHeard, begun, wentBefore, heardAt};
-ghost use Rattle.exports.specs.PoolTuner.{happens, eventIn};
+ghost use Rattle.exports.specs.Calls.{Called, begun, wentBefore, heardAt};
+ghost use Rattle.exports.specs.PoolTuner.{pressHeard, happens, eventIn};
 use crate::lent::bend_at;
 use crate::lent::byte_at;
 use crate::lent::float_at;
 use crate::lent::put_byte;
 use crate::lent::put_count;
 use crate::message::Heard;
+use crate::message::SENT;
 use crate::message::kind_of;
 use crate::message::message_of;
 use crate::message::sent_heard;
@@ -25,9 +26,7 @@ use models::Pitch;
 use senders::jit::JitTuner;
 use senders::jit::PressAnswer;
 
-// The kinds of an answer without a refusal, which are 1 to 13: bytes were sent, or the press was rejected.
-const SENT: u8 = 0;
-
+// The kind of the answer to a press that is rejected.
 const REJECTED: u8 = 20;
 
 // The kinds of event; any other is a message of that kind to all channels.
@@ -190,14 +189,20 @@ fn press_heard(answer: PressAnswer) -> Heard
     ensures { λ r. ⌜ r ≡ pressHeard (pressAnswer answer) ⌝ }
 {
     match answer {
-        PressAnswer::Written(count) => Heard { kind: SENT, count },
+        PressAnswer::Written(count) => Heard {
+            kind: SENT,
+            count,
+            channels: 0,
+        },
         PressAnswer::Rejected => Heard {
             kind: REJECTED,
             count: 0,
+            channels: 0,
         },
         PressAnswer::Refused(number) => Heard {
             kind: number,
             count: 0,
+            channels: 0,
         },
     }
 }

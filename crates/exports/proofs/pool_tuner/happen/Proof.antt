@@ -2,10 +2,10 @@
 use mathlib.Core.Path.{sym, ap, _∙_}
 use borrow.Author.Tests.{eq-eqb, ne-eqb}
 use mir.Facts.{toZ-ofZ}
-use Rattle.senders.specs.Jit.{Tuner, tuner, noteOnRule, noteOffRule, stopRule, notePitchRule, noteAttrRule, globalAttrRule}
+use Rattle.senders.specs.Jit.{Tuner, tuner, noteOffRule, stopRule, notePitchRule, noteAttrRule, globalAttrRule}
 use Rattle.exports.specs.Messages.{messageOf}
 use Rattle.exports.specs.PoolTuner.{happens}
-use Rattle.exports.proofs.Counts.{press-call, counted-call, note-on-honest, note-off-counts, stop-counts, note-pitch-counts, note-attr-counts, global-attr-counts}
+use Rattle.exports.proofs.Counts.{press-call, counted-call, note-off-counts, stop-counts, note-pitch-counts, note-attr-counts, global-attr-counts}
 use borrow.Author.Needs.{needs}
 use Rattle.exports.proofs.pool_tuner.happen.Statement.{statement}
 use Rattle.exports.proofs.pool_tuner.happen.Tie as tie
@@ -28,7 +28,7 @@ returns c =
     let a = c .before .before .before .before .before .before .before .before .before .args in
     let t = tuner (a .state) in
     rw (eq-eqb _ _ (c .before .before .before .before .before .before .before .if1 .taken), c .press-heard .ensures, sym (c .before .before .before .before .before .before .from-hz .ensures))
-    (press-call tuner (a .state) _ (noteOnRule t (a .key) (c .before .before .before .before .before .before .from-hz .result .hz) (a .value)) (note-on-honest t (a .key) (c .before .before .before .before .before .before .from-hz .result .hz) (a .value)) (c .before .before .before .before .note-on .ensures))
+    (press-call tuner (a .state) _ (a .key) (c .before .before .before .before .before .before .from-hz .result .hz) (a .value) (c .before .before .before .before .note-on .ensures))
 
 note-off-requires : tie.Need-note-off-requires
 note-off-requires c κs = search needs
@@ -45,7 +45,7 @@ returns-2 c =
     let a = c .before .before .before .before .before .before .before .before .before .args in
     let t = tuner (a .state) in
     rw (ne-eqb _ _ (c .before .before .before .before .before .before .before .if1 .left), eq-eqb _ _ (c .before .before .before .before .before .before .if2 .taken), c .sent-heard .ensures)
-    (counted-call tuner (λ x. x) (a .state) _ _ (noteOffRule t (a .key) (a .value)) (note-off-counts t (a .key) (a .value)) (c .before .before .before .before .note-off .ensures))
+    (counted-call tuner (λ x. x) (a .state) _ (noteOffRule t (a .key) (a .value)) (note-off-counts t (a .key) (a .value)) (c .before .before .before .before .note-off .ensures))
 
 stop-requires : tie.Need-stop-requires
 stop-requires c κs = search needs
@@ -62,7 +62,7 @@ returns-3 c =
     let a = c .before .before .before .before .before .before .before .before .before .before .args in
     let t = tuner (a .state) in
     rw (ne-eqb _ _ (c .before .before .before .before .before .before .before .before .if1 .left), ne-eqb _ _ (c .before .before .before .before .before .before .before .if2 .left), eq-eqb _ _ (c .before .before .before .before .before .before .if3 .taken), c .sent-heard2 .ensures)
-    (counted-call tuner (λ x. x) (a .state) _ _ (stopRule t) (stop-counts t) (c .before .before .before .before .stop .ensures))
+    (counted-call tuner (λ x. x) (a .state) _ (stopRule t) (stop-counts t) (c .before .before .before .before .stop .ensures))
 
 from-hz-requires-2 : tie.Need-from-hz-requires-2
 from-hz-requires-2 c κs = search needs
@@ -82,7 +82,7 @@ returns-4 c =
     let a = c .before .before .before .before .before .before .before .before .before .before .before .args in
     let t = tuner (a .state) in
     rw (ne-eqb _ _ (c .before .before .before .before .before .before .before .before .before .if1 .left), ne-eqb _ _ (c .before .before .before .before .before .before .before .before .if2 .left), ne-eqb _ _ (c .before .before .before .before .before .before .before .if3 .left), eq-eqb _ _ (c .before .before .before .before .before .before .if4 .taken), c .sent-heard3 .ensures, sym (c .before .before .before .before .before .from-hz2 .ensures))
-    (counted-call (λ x. x) (λ x. t) tt tt _ (notePitchRule t (a .key) (c .before .before .before .before .before .from-hz2 .result .hz)) (note-pitch-counts t (a .key) (c .before .before .before .before .before .from-hz2 .result .hz)) (c .before .before .before .note-pitch .ensures))
+    (counted-call (λ x. x) (λ x. t) tt tt (notePitchRule t (a .key) (c .before .before .before .before .before .from-hz2 .result .hz)) (note-pitch-counts t (a .key) (c .before .before .before .before .before .from-hz2 .result .hz)) (c .before .before .before .note-pitch .ensures))
 
 note-attr-requires : tie.Need-note-attr-requires
 note-attr-requires c κs = search needs
@@ -99,7 +99,7 @@ returns-5 c =
     let a = c .before .before .before .before .before .before .before .before .before .before .before .args in
     let t = tuner (a .state) in
     rw (ne-eqb _ _ (c .before .before .before .before .before .before .before .before .before .if1 .left), ne-eqb _ _ (c .before .before .before .before .before .before .before .before .if2 .left), ne-eqb _ _ (c .before .before .before .before .before .before .before .if3 .left), ne-eqb _ _ (c .before .before .before .before .before .before .if4 .left), eq-eqb _ _ (c .before .before .before .before .before .if5 .taken), c .sent-heard4 .ensures)
-    (counted-call (λ x. x) (λ x. t) tt tt _ (noteAttrRule t (a .key) (a .value)) (note-attr-counts t (a .key) (a .value)) (c .before .before .before .note-attr .ensures))
+    (counted-call (λ x. x) (λ x. t) tt tt (noteAttrRule t (a .key) (a .value)) (note-attr-counts t (a .key) (a .value)) (c .before .before .before .note-attr .ensures))
 
 message-of-requires : tie.Need-message-of-requires
 message-of-requires c κs = search needs
@@ -120,7 +120,7 @@ returns-6 c =
     let t = tuner (a .state) in
     let m = c .before .before .before .before .before .message-of .ensures ∙ ap (messageOf (a .kind) (a .key) (a .value)) (toZ-ofZ (c .before .before .before .before .before .before .before .before .before .before .before .before .fits .bend)) in
     rw (ne-eqb _ _ (c .before .before .before .before .before .before .before .before .before .before .if1 .left), ne-eqb _ _ (c .before .before .before .before .before .before .before .before .before .if2 .left), ne-eqb _ _ (c .before .before .before .before .before .before .before .before .if3 .left), ne-eqb _ _ (c .before .before .before .before .before .before .before .if4 .left), ne-eqb _ _ (c .before .before .before .before .before .before .if5 .left), c .sent-heard5 .ensures, sym m)
-    (counted-call (λ x. x) (λ x. t) tt tt _ (globalAttrRule t (c .before .before .before .before .before .message-of .result)) (global-attr-counts t (c .before .before .before .before .before .message-of .result)) (c .before .before .before .global-attr .ensures))
+    (counted-call (λ x. x) (λ x. t) tt tt (globalAttrRule t (c .before .before .before .before .before .message-of .result)) (global-attr-counts t (c .before .before .before .before .before .message-of .result)) (c .before .before .before .global-attr .ensures))
 
 pub happen-spec : {M : Type 1} → statement M
 happen-spec =

@@ -1,5 +1,5 @@
 -- `pool_tuner::press_heard` meets its contract, by the answer's cases. Assumes nothing.
-use Rattle.exports.specs.Calls.{pressHeard}
+use Rattle.exports.specs.PoolTuner.{pressHeard}
 use borrow.Author.Needs.{needs}
 use Rattle.exports.proofs.pool_tuner.press_heard.Statement.{statement}
 use Rattle.exports.proofs.pool_tuner.press_heard.Tie as tie
