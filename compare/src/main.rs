@@ -7,12 +7,14 @@ mod inputs;
 mod lists;
 mod nearest;
 mod ours;
+mod plan_tuners;
 mod plans;
 mod pool_tuners;
 mod pools;
 mod report;
 mod speed;
 mod steps;
+mod tuners;
 
 use inputs::Chance;
 use report::Row;
@@ -27,6 +29,7 @@ fn compare(seed: u64) -> u64 {
     pools::run(&mut chance, &mut rows);
     bytes::run(&mut chance, &mut rows);
     pool_tuners::run(&mut chance, &mut rows);
+    plan_tuners::run(&mut chance, &mut rows);
     report::summary(&rows)
 }
 

@@ -9,8 +9,6 @@ use tune::tuner::TunableMidi;
 
 use crate::bytes::Handler;
 use crate::bytes::Written;
-use crate::bytes::difference;
-use crate::bytes::hex;
 use crate::bytes::judge_message;
 use crate::bytes::rust_message;
 use crate::bytes::sender;
@@ -21,7 +19,6 @@ use crate::nearest;
 use crate::ours;
 use crate::ours::Calls;
 use crate::ours::Event;
-use crate::ours::FILL;
 use crate::ours::Message;
 use crate::pools::rust_group;
 use crate::pools::rust_mode;
@@ -29,12 +26,13 @@ use crate::pools::sure;
 use crate::report::Kind;
 use crate::report::Row;
 use crate::report::progress;
-
-/// What a call answers: its kind in the port's numbers, and its bytes.
-struct Answer {
-    kind: u8,
-    bytes: Vec<u8>,
-}
+use crate::tuners::Answer;
+use crate::tuners::Played;
+use crate::tuners::any_message;
+use crate::tuners::channel_list;
+use crate::tuners::hold;
+use crate::tuners::room;
+use crate::tuners::short_buffers;
 
 struct Sequence {
     channels: Vec<u8>,
@@ -105,64 +103,26 @@ impl Sequence {
                     }
                 }
                 Event::All(message) => self.tuner.global_attr(rust_message(message)),
+                Event::TuneByPitches | Event::TuneByNotes => unreachable!("of a plan tuner"),
             }
         }
         self.events.push(event);
-        self.answers.push(Answer { kind, bytes: self.written.take() });
+        self.answers.push(Answer { kind, bytes: self.written.take(), ..Answer::default() });
     }
 
     /// Plays the port's tuner, and compares every call; at the end `stop`, whose releases may stand in another order.
     fn compare(mut self, row: &mut Row) {
         self.tuner.stop();
         self.events.push(Event::Stop);
-        self.answers.push(Answer { kind: 0, bytes: self.written.take() });
+        self.answers.push(Answer { bytes: self.written.take(), ..Answer::default() });
         let last = self.answers.len() - 1;
-        let room: usize = self.answers.iter().map(|a| a.bytes.len()).sum();
-        let mut calls = Calls::new(&self.events, room + 2);
-        let refusal = calls.play_pool(&self.channels, self.bends, self.mode);
-        let told = |i: usize, what: String| {
-            let upto = &self.events[i.saturating_sub(20)..=i];
-            format!("channels {:?}, bends {}, mode {}, {upto:?} (from {}): {what}", self.channels, self.bends, self.mode, i.saturating_sub(20))
-        };
-        if refusal != 0 || calls.out[room..] != [FILL; 2] {
-            row.differs(Kind::Unexpected, 0, || told(last, format!("refusal {refusal}, or written past the end")));
-            return;
-        }
-        let mut at = 0;
-        for (i, rust) in self.answers.iter().enumerate() {
-            row.cases += 1;
-            row.meets(name(self.events[i]));
-            let bytes = &calls.out[at..(at + calls.counts[i]).min(room)];
-            at += calls.counts[i];
-            let told = || told(i, format!("{} {}; the Rust: {} {}", calls.answers[i], hex(bytes), rust.kind, hex(&rust.bytes)));
-            if calls.answers[i] != rust.kind || calls.counts[i] != rust.bytes.len() {
-                row.differs(Kind::Unexpected, i, told);
-                return;
-            }
-            if (1..=13).contains(&rust.kind) {
-                row.differs(Kind::Refusal, i, told);
-                continue;
-            }
-            if rust.kind == ours::NOTHING {
-                row.meets("presses rejected");
-            }
-            match difference(bytes, &rust.bytes) {
-                Some(Kind::Unexpected) if i == last && same_releases(bytes, &rust.bytes) => row.differs(Kind::StopOrder, i, told),
-                Some(kind) => row.differs(kind, i, told),
-                None => {}
-            }
-        }
-    }
-}
-
-fn name(event: Event) -> &'static str {
-    match event {
-        Event::Press(..) => "presses",
-        Event::Release(..) => "releases",
-        Event::Repitch(..) => "repitches",
-        Event::Pressure(..) => "pressures",
-        Event::Stop => "stops",
-        Event::All(_) => "messages to all channels",
+        let mut calls = Calls::new(&self.events, room(&self.answers));
+        calls.play_pool(&self.channels, self.bends, self.mode);
+        let setting = format!("channels {:?}, bends {}, mode {}", self.channels, self.bends, self.mode);
+        let played = Played { setting, lines: 0, events: &self.events, answers: &self.answers };
+        hold(row, &played, &calls, |i, bytes| {
+            (i == last && same_releases(bytes, &self.answers[i].bytes)).then_some(Kind::StopOrder)
+        });
     }
 }
 
@@ -205,15 +165,6 @@ fn exhaustive(row: &mut Row, length: u32, channels: &[u8], bends: bool, mode: u8
     }
 }
 
-pub fn any_message(chance: &mut Chance) -> Message {
-    Message {
-        kind: 0x8 + chance.below(7) as u8,
-        first: chance.below(128) as u8,
-        second: chance.below(128) as u8,
-        bend: chance.below(16384) as i16 - 8192,
-    }
-}
-
 fn damaged(chance: &mut Chance, key: u8) -> Event {
     let over = 128 + chance.below(128) as u8;
     let hz = chance.pick(&[0.0, -1.0, f64::NAN, f64::INFINITY, 1e300, 1e-7]);
@@ -227,11 +178,6 @@ fn damaged(chance: &mut Chance, key: u8) -> Event {
         6 => Event::All(Message { first: over, ..any_message(chance) }),
         _ => Event::All(Message { kind: 0xe, first: over, second: over, bend: chance.pick(&[-8193, 8192, i16::MIN, i16::MAX]) }),
     }
-}
-
-/// A list of so many channels, in an order of chance.
-pub fn channel_list(chance: &mut Chance, n: usize) -> Vec<u8> {
-    chance.keys().into_iter().filter(|&c| c < 16).take(n).collect()
 }
 
 /// A call of a pool tuner by chance.
@@ -252,38 +198,6 @@ fn any_call(chance: &mut Chance, keys: usize) -> Event {
         18 if chance.below(40) == 0 => Event::Stop,
         18 if chance.below(4) == 0 => damaged(chance, key),
         _ => Event::Release(key, value),
-    }
-}
-
-/// Document 01 is the judge of buffers that are too short: the call that meets the end is refused by 10 and leaves the tuner as it was.
-fn short_buffers(chance: &mut Chance, row: &mut Row, bends: bool, mode: u8) {
-    let n = chance.below(4);
-    let channels = channel_list(chance, n);
-    let before: Vec<Event> = (0..chance.below(12)).map(|_| any_call(chance, 6)).collect();
-    let last = any_call(chance, 6);
-    let after: Vec<Event> = (0..6).map(|key| Event::Pressure(key, 100)).collect();
-    let play = |events: &[&[Event]], room: usize| {
-        let mut calls = Calls::new(&events.concat(), room);
-        calls.play_pool(&channels, bends, mode);
-        calls
-    };
-    let k = before.len();
-    let full = play(&[&before, &[last]], 4096);
-    let (start, need): (usize, usize) = (full.counts[..k].iter().sum(), full.counts[k]);
-    // The pressures show which keys are found, and where.
-    let expected = play(&[&before, &after], 4096);
-    for room in 0..need {
-        row.cases += 1;
-        let calls = play(&[&before, &[last], &after], start + room);
-        let fit = room / 3 * 3;
-        let shown: usize = expected.counts[k..].iter().sum();
-        let pressures = &expected.out[start..start + shown.min(fit)];
-        let same = (calls.answers[k], calls.counts[k]) == (10, 0)
-            && calls.out[..start] == full.out[..start]
-            && calls.out[start..start + pressures.len()] == *pressures
-            && calls.out[start + pressures.len()..].iter().all(|&b| b == FILL);
-        let told = || format!("channels {channels:?}, bends {bends}, mode {mode}, {before:?} and then {last:?} in {room} bytes: {}", calls.answers[k]);
-        row.differs(if same { Kind::Refusal } else { Kind::Unexpected }, k, told);
     }
 }
 
@@ -368,7 +282,13 @@ pub fn run(chance: &mut Chance, rows: &mut Vec<Row>) {
         for mode in 0..3 {
             progress(&format!("pool tuners: buffers too short, bends {bends}, mode {mode}"));
             for _ in 0..2000 {
-                short_buffers(chance, &mut row, bends, mode);
+                let n = chance.below(4);
+                let channels = channel_list(chance, n);
+                let before: Vec<Event> = (0..chance.below(12)).map(|_| any_call(chance, 6)).collect();
+                let setting = format!("channels {channels:?}, bends {bends}, mode {mode}");
+                short_buffers(&mut row, &setting, &before, any_call(chance, 6), 0..=5, |calls| {
+                    calls.play_pool(&channels, bends, mode);
+                });
             }
         }
     }
