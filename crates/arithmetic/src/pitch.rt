@@ -33,7 +33,8 @@ impl Pitch {
     pub fn as_hz(self) -> f64
         ensures { λ r. ⌜ r ≡ self .hz ⌝ }
     {
-        self.hz
+        let Pitch { hz } = self;
+        hz
     }
 
     // At most as high as the other. No comparison with a NaN holds.
@@ -106,7 +107,8 @@ impl Ratio {
     pub fn as_float(self) -> f64
         ensures { λ r. ⌜ r ≡ self .«float_value» ⌝ }
     {
-        self.float_value
+        let Ratio { float_value } = self;
+        float_value
     }
 
     // At most as large as the other. No comparison with a NaN holds.

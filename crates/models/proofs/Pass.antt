@@ -167,9 +167,9 @@ module _ (by : GroupBy) (all : List Line) (records : List KeyRecord) (latest : L
     }
 
     -- the same of the code's numbers
-    pub pass-next : x .key < 256 → (m : ℕ) → m ≡ max n (suc c) → (z : ℤ) (r ch slot : ℕ) → z ≡ x .note → r ≡ suc c → ch ≡ c → slot ≡ at
-        → Pass by all (set records (x .key) (record { note = z; channel = ch; detuning = x .detuning })) (set latest slot (x .detuning)) (set used slot r) m (i + 1) rest
-    pass-next byte m counts z r ch slot a b d e = rw (a, b, d, e) (pass-one byte m counts)
+    pub pass-next : x .key < 256 → (m : ℕ) → m ≡ max n (suc c) → (z : ℤ) (v : Float) (r ch slot : ℕ) → z ≡ x .note → v ≡ x .detuning → r ≡ suc c → ch ≡ c → slot ≡ at
+        → Pass by all (set records (x .key) (record { note = z; channel = ch; detuning = x .detuning })) (set latest slot v) (set used slot r) m (i + 1) rest
+    pass-next byte m counts z v r ch slot a f b d e = rw (a, f, b, d, e) (pass-one byte m counts)
 
 -- ---- the end
 

@@ -1,10 +1,11 @@
 -- Document 01's examples 9 and 10, computed from the rules that the contracts cite. Assumes nothing.
 use mathlib.Core.Path.{_≡_, refl}
 use mathlib.Core.Bool.{false}
-use mathlib.Core.List.{[], _∷_}
+use mathlib.Core.List.{List, [], _∷_, map}
 use mathlib.Core.Option.{some}
+use Prim.Native.Nat.{ℕ}
 use lib.IntN.{pos}
-use lib.Ieee.{binary64, ofBits, round, div, le, lt}
+use lib.Ieee.{Float, binary64, round, div, le, lt}
 use Rattle.arithmetic.specs.Pitch.{negligible, negligibleFrom, negligibleBelow}
 use Rattle.models.specs.declared.aot.GroupBy.the-variants.{Channel}
 use Rattle.models.specs.Line.{group, ofGroup, insert, rising, joins}
@@ -12,31 +13,28 @@ use Rattle.models.specs.Walk.{latest, accepts, takes, next, here, later,
 use Rattle.models.specs.PlanLists.{isPlanned, noteLine, noteLines, lineByLine, noteLists}
 use Rattle.models.specs.AotModel.{Model, Answer, tuned, empty, planned, setTuning}
 
--- a model of channel groups with four channels
-abbrev model : Model
-model = empty (0 ∷ 1 ∷ 2 ∷ 3 ∷ []) Channel
+-- "Decimal fractions in all these papers mean the nearest f64": that of n / d
+abbrev pub f64 : ℕ → ℕ → Float
+f64 n d = round binary64 false n d
 
--- 1 and 1.000001 on one note
+-- keys on one note, in channel groups with four channels
+abbrev planOf : List ℕ → List Float → Model × Answer
+planOf ks ds = setTuning (empty (0 ∷ 1 ∷ 2 ∷ 3 ∷ []) Channel) ks (map (λ (k : ℕ). pos 69) ks) ds
+
 abbrev nine : Model × Answer
-nine = setTuning model (1 ∷ 2 ∷ []) (pos 69 ∷ pos 69 ∷ []) (ofBits binary64 0x3ff0000000000000 ∷ ofBits binary64 0x3ff000010c6f7a0b ∷ [])
+nine = planOf (1 ∷ 2 ∷ []) (f64 1 1 ∷ f64 1000001 1000000 ∷ [])
 
--- 1, 1.0000005 and 1.0000015
 abbrev ten : Model × Answer
-ten =
-    setTuning model (1 ∷ 2 ∷ 3 ∷ []) (pos 69 ∷ pos 69 ∷ pos 69 ∷ [])
-    (ofBits binary64 0x3ff0000000000000 ∷ ofBits binary64 0x3ff000008637bd06 ∷ ofBits binary64 0x3ff0000192a73711 ∷ [])
+ten = planOf (1 ∷ 2 ∷ 3 ∷ []) (f64 1 1 ∷ f64 10000005 10000000 ∷ f64 10000015 10000000 ∷ [])
 
 -- 9: "One group, 1 and 1.000001: two channels"
-pub example-9 : (nine .1 ≡ tuned 2) × (nine .0 .keys 1 ≡ some (0, pos 69)) × (nine .0 .keys 2 ≡ some (1, pos 69))
-unfolding planned count walk channels here later next takes latest accepts joins negligible negligibleFrom negligibleBelow round ofBits div le lt rising insert ofGroup group isPlanned noteLine noteLines lineByLine noteLists noteOf seatFrom seat replaced entryFrom entry
-example-9 = (refl, refl, refl)
+abbrev pub Nine : Type 0
+Nine = (nine .1 ≡ tuned 2) × (nine .0 .keys 1 ≡ some (0, pos 69)) × (nine .0 .keys 2 ≡ some (1, pos 69))
 
 -- 10: "1, 1.0000005, 1.0000015: one channel, detuning 1.0000015"
-pub example-10 : (ten .1 ≡ tuned 1) × (ten .0 .keys 3 ≡ some (0, pos 69)) × (ten .0 .detunings 0 (pos 0) ≡ some (ofBits binary64 0x3ff0000192a73711))
-unfolding planned count walk channels here later next takes latest accepts joins negligible negligibleFrom negligibleBelow round ofBits div le lt rising insert ofGroup group isPlanned noteLine noteLines lineByLine noteLists noteOf seatFrom seat replaced entryFrom entry
-example-10 = (refl, refl, refl)
+abbrev pub Ten : Type 0
+Ten = (ten .1 ≡ tuned 1) × (ten .0 .keys 3 ≡ some (0, pos 69)) × (ten .0 .detunings 0 (pos 0) ≡ some (f64 10000015 10000000))
 
--- the bits are the nearest f64 of each decimal fraction
-pub decimals : (ofBits binary64 0x3ff000010c6f7a0b ≡ round binary64 false 1000001 1000000) × (ofBits binary64 0x3ff000008637bd06 ≡ round binary64 false 10000005 10000000) × (ofBits binary64 0x3ff0000192a73711 ≡ round binary64 false 10000015 10000000)
-unfolding ofBits round
-decimals = (refl, refl, refl)
+pub example-9-10 : Nine × Ten
+unfolding planned count walk channels here later next takes latest accepts joins negligible negligibleFrom negligibleBelow round div le lt rising insert ofGroup group isPlanned noteLine noteLines lineByLine noteLists noteOf seatFrom seat replaced entryFrom entry
+example-9-10 = ((refl, refl, refl), (refl, refl, refl))

@@ -66,9 +66,12 @@ module _ (a b c : ℤ) (d e f : Float) where
   unfolding two without upward first listFrom listRule poolCount poolOf pool found fresh openRule withPool withKey behind takenIn taken freedIn freed forgotten released releasedFrom heldAt oldestOf oldest madeRoom roomBy roomFor pressedOn pressed
   third-press = (refl, refl)
 
--- 11. "Two channels, press 1, release 1, press 2: channels 0 then 1."
-pub example-11 : (mode : PoolingMode) (x y : Float) → isPitch x ≡ true → isPitch y ≡ true
+-- 11: "Two channels, press 1, release 1, press 2: channels 0 then 1"
+abbrev pub Eleven : Type 0
+Eleven = (mode : PoolingMode) (x y : Float) → isPitch x ≡ true → isPitch y ≡ true
     → (answer (two mode) 1 x ≡ accepted-on 0 x) × (answer (released (next (two mode) 1 x) 1) 2 y ≡ accepted-on 1 y)
+
+pub example-11 : Eleven
 unfolding accepted-on
 example-11 mode x y p q =
     let one = first-press mode (nearestNote x) (nearestNote y) (detuningOf x (nearestNote x)) (detuningOf y (nearestNote y)) in
@@ -77,10 +80,13 @@ example-11 mode x y p q =
       rw (next-is (two mode) 1 x p (one .0)) (answer-is _ 2 y q (other .0) ∙ ap value (other .1)),
     )
 
--- 12. "Two channels, Stop, presses 1, 2, 3: the third steals key 1 on channel 0; a release of 1 finds nothing."
-pub example-12 : (x y z : Float) → isPitch x ≡ true → isPitch y ≡ true → isPitch z ≡ true
+-- 12: "Two channels, Stop, presses 1, 2, 3: the third steals key 1 on channel 0; a release of 1 finds nothing"
+abbrev pub Twelve : Type 0
+Twelve = (x y z : Float) → isPitch x ≡ true → isPitch y ≡ true → isPitch z ≡ true
     → let s = next (next (two Stop) 1 x) 2 y in
     (answer s 3 z ≡ value (accepted 0 (some (nearestNote x)) (nearestNote z) (detuningOf z (nearestNote z)))) × (found (next s 3 z) 1 ≡ none)
+
+pub example-12 : Twelve
 example-12 x y z p q r =
     let one = first-press Stop (nearestNote x) (nearestNote y) (detuningOf x (nearestNote x)) (detuningOf y (nearestNote y)) in
     let held = two-held (nearestNote x) (nearestNote y) (nearestNote z) (detuningOf x (nearestNote x)) (detuningOf y (nearestNote y)) (detuningOf z (nearestNote z)) in

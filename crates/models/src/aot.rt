@@ -287,18 +287,32 @@ fn joins(before: f64, detuning: f64) -> bool
         .is_negligible()
 }
 
-// How many channels a group uses with one key more, where it used so many and its last detuning is `before`.
-fn channels_with(used: u16, before: f64, detuning: f64) -> u16
+// A group so far: how many channels it uses, and the detuning that its next key is compared with.
+struct Run {
+    used: u16,
+    latest: f64,
+}
+
+// A group with one key more, where it used so many channels and its last detuning is `before`.
+fn with_key(used: u16, before: f64, detuning: f64) -> Run
     requires { ⌜ used < 65535 ⌝ }
-    ensures { λ r. ⌜ r ≡ channelsWith used before detuning ⌝ }
+    ensures { λ r. ⌜ (r .used ≡ channelsWith used before detuning) × (r .latest ≡ detuning) ⌝ }
 {
     if used == 0 {
-        return 1;
+        return Run {
+            used: 1,
+            latest: detuning,
+        };
     }
     if joins(before, detuning) {
-        return used;
+        let latest = detuning;
+        return Run { used, latest };
     }
-    used + 1
+    let one_more = used + 1;
+    Run {
+        used: one_more,
+        latest: detuning,
+    }
 }
 
 // The keys on their channels, by key, and how many channels that takes.
@@ -330,9 +344,10 @@ fn place_keys(waiting: Waiting, by: GroupBy) -> Plan
         let note = notes[key];
         let detuning = detunings[key];
         let at = slot(group_of(by, note));
-        let channels = channels_with(used[at], latest[at], detuning);
+        let run = with_key(used[at], latest[at], detuning);
+        let channels = run.used;
         used[at] = channels;
-        latest[at] = detuning;
+        latest[at] = run.latest;
         let channel = (channels - 1) as u8;
         records[key] = KeyRecord {
             note: note,

@@ -17,6 +17,9 @@ pub mod Stops
 pub mod Calls
 pub mod Passages
 pub mod Conveyed
+pub mod BothTuners
+pub mod PlanTuner
 pub mod PoolTuner
 pub mod Refusals
+pub mod Demand1
 pub mod Examples

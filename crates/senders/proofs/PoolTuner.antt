@@ -1,5 +1,5 @@
--- What the calls of a pool tuner wrote, as a reader and a receiver by the Specification take it, from any state they were in: a press, a release, a
--- pressure, a repitch, a message to all, and `stop`. Assumes nothing.
+-- What the calls of a pool tuner wrote, as a receiver by the Specification takes it, from any state it was in: a press, a release, a repitch and `stop`.
+-- BothTuners has pressures and messages to all. Assumes nothing.
 use mathlib.Core.Path.{_≡_, refl, sym, ap, _∙_}
 use mathlib.Core.Bool.{Bool, true, false, cond}
 use mathlib.Core.Option.{Option, some, none}
@@ -93,24 +93,6 @@ module _ (other : Other) (st : State) (r : Receiver) (self : JitTuner) where
         sent-conveyed other st (releaseMessages (tuner self)) r c refl p
 
   module _ {old new : List ℕ} {n : ℕ} where
-    -- A pressure changes nothing of what is kept here.
-    pub pressure-received : (key v : ℕ) → Answers (noteAttrRule (tuner self) key v) old (value n) new → hearBytes other st (take n new) r ≡ r
-    unfolding view
-    pressure-received key v p =
-        let low = ltb-true v 128 (test-held 8 (ltb v 128) _ (done p .rule-is) .0) in
-        let o = found (tuner self .pool) key in
-        let ms = keyMessages Pressure channels v o in
-        let e : noteAttrRule (tuner self) key v ≡ sent (bytesOf ms) = rw (lt-ltb v 128 low) in
-        sent-conveyed other st ms r (conveys-key other (self .model .channels) Pressure v o low) e p ∙ nothing v o
-      where
-        at : (o : Option ℕ) → onListed o (λ x. x) r ≡ r
-        at (some c) = sym (on-none c r)
-        at none = refl
-
-        nothing : (v : ℕ) (o : Option Place) → keyMeant Pressure channels v o r ≡ r
-        nothing v (some q) = at (getElem? channels (q .channel))
-        nothing v none = refl
-
     -- After a repitch of a found key its channel is tuned; that of an unknown key changes nothing.
     pub repitch-received :
         (key : ℕ) (hz : Float) (p : Place) (d : Float) → repitchRule (tuner self .pool) key hz ≡ value (some (p, d))
@@ -128,41 +110,6 @@ module _ (other : Other) (st : State) (r : Receiver) (self : JitTuner) where
     repitch-unknown key hz e a =
         let s : notePitchRule (tuner self) key hz ≡ sent [] = rw e in
         sent-conveyed other st [] r (conveys-none other) s a
-
-    -- ---- a message to all, whose kinds C and D have a padding
-
-    module _ (m : ChannelMessageType) (a : Answers (globalAttrRule (tuner self) m) old (value n) new) where
-      abbrev all : List Message
-      all = toAll (self .kind) channels m
-
-      valid : Valid (meant 0 m)
-      valid = checked-valid m (sent (bytesOf all)) (done a .rule-is) 0 (omega arith)
-
-      sent-is : globalAttrRule (tuner self) m ≡ sent (bytesOf all)
-      sent-is = valid-checked 0 m (sent (bytesOf all)) valid
-
-      valid-all : AllValid all
-      unfolding view
-      valid-all = all-valid (self .kind) (self .model .channels) m valid
-
-      -- The padding dropped, a reader finds the message on each channel; with it, what `heardAs` says.
-      pub global-read : read st (unpadded (take n new)) ≡ all
-      global-read = sent-read st all sent-is a valid-all
-
-      pub global-read-padded : read st (take n new) ≡ allHeardAs all
-      global-read-padded =
-          let starts : take n new ≡ bytesOf all = starts-with {bs = bytesOf all} sent-is a in
-          ap (read st) starts ∙ read-padded st all valid-all
-
-      -- Every channel hears it, or, of a bend by a tuner that tunes by bends, none: the padding changes nothing of what is kept here.
-      pub global-received :
-          hearBytes other st (unpadded (take n new)) r ≡ cond (isKept (self .kind) m) r (inTurn (λ ch. hear other (meant ch m)) channels r)
-      global-received = ap (λ (l : List Message). hearAll other l r) global-read ∙ all-hear other (self .kind) channels m r
-
-      pub global-received-padded :
-          hearBytes other st (take n new) r ≡ cond (isKept (self .kind) m) r (inTurn (λ ch. hear other (meant ch m)) channels r)
-      global-received-padded =
-          ap (λ (l : List Message). hearAll other l r) global-read-padded ∙ echoes-heard other all r ∙ all-hear other (self .kind) channels m r
 
 -- ---- what `stop` comes to: silence
 

@@ -14,6 +14,7 @@ use lib.Ieee.{Float}
 use lib.Ieee.Positive.{positive}
 use Rattle.models.specs.Outcome.{Outcome, value, refused, refuse_unless_then_}
 use Rattle.models.specs.Refusal.{channelOver15, bufferTooShort}
+use Rattle.models.specs.AotModel.{Model, untuned, planned}
 use Rattle.models.specs.Pool.{State, Place, Press, rejected, fresh, found, registerRule, repitchRule}
 use Rattle.models.specs.Steps.{sentAs, tuningRule}
 use Rattle.models.specs.declared.steps.Tuning.{Tuning}
@@ -24,11 +25,14 @@ use Rattle.models.proofs.PoolPresses.{repitch-unknown}
 use Rattle.models.proofs.PoolRefusals.{open-refused, register-refused, repitch-refused}
 use Rattle.senders.specs.Lent.{Effect, sent, fitted, told, Moved, left, Steps}
 use Rattle.senders.specs.Mts.{tuningSent, channelTuningRule}
-use Rattle.senders.specs.Jit.{Tuner, withPool, rejects, pressEffect, startRule, noteOnRule, noteOffRule, noteAttrRule, repitchEffect, notePitchRule, globalAttrRule, stopRule}
+use Rattle.senders.specs.Tuner.{keyRule, toAllRule}
+use Rattle.senders.specs.Jit.{Tuner, withPool, rejects, pressEffect, startRule, noteOnRule, noteOffRule, repitchEffect, notePitchRule, stopRule}
+use Rattle.senders.specs.Aot as Plan
 use Rattle.senders.specs.Message.{Valid, isChannel, isData, isBend}
 use Rattle.senders.specs.Midi.{bytes, meant, checked, messageRule}
 use Rattle.senders.specs.declared.midi.ChannelMessageType.{ChannelMessageType}
 use Rattle.senders.specs.declared.midi.ChannelMessageType.the-variants.{NoteOff, NoteOn, PolyphonicKeyPressure, ControlChange, ProgramChange, ChannelPressure, PitchBendChange}
+use Rattle.senders.specs.declared.tuner.NoteMessage.{NoteMessage}
 use Rattle.senders.proofs.Messages.{message-accepted, checked-valid, checked-refused}
 
 -- ---- nothing is altered
@@ -47,7 +51,7 @@ refused-untouched {view = view} {rule = rule} {s = s} {back = back} {old = old} 
 
 -- ---- which numbers
 
-abbrev has : List ℕ → ℕ → Bool
+abbrev pub has : List ℕ → ℕ → Bool
 has [] n = false
 has (m ∷ ms) n = cond (eqb n m) true (has ms n)
 
@@ -98,7 +102,7 @@ tuning-refusals kind ch v room =
     among-fitted ns room (channelTuningRule kind ch v) refl
     (among-test ns 6 (ltb ch 16) (tuningSent ch (tuningRule kind v)) refl (tuning-among ns ch (positive v) (sentAs kind v) refl))
 
--- ---- the pool tuner's calls
+-- ---- the tuners' calls
 
 -- starting: 6, 7; a tuner without channels then
 pub start-refusals :
@@ -123,14 +127,15 @@ press-refusals t key hz v room =
     by (value r) e = tt
     by (refused n) e = among-register (t .pool) key hz n e
 
--- releases and pressures: 8, 10
+-- releases: 8, 10
 pub release-refusals : (t : Tuner) (key v room : ℕ) → Among (8 ∷ 10 ∷ []) (fitted room (noteOffRule t key v))
 release-refusals t key v room =
     among-fitted (8 ∷ 10 ∷ []) room (noteOffRule t key v) refl (among-test (8 ∷ 10 ∷ []) 8 (ltb v 128) _ refl tt)
 
-pub pressure-refusals : (t : Tuner) (key v room : ℕ) → Among (8 ∷ 10 ∷ []) (fitted room (noteAttrRule t key v))
-pressure-refusals t key v room =
-    among-fitted (8 ∷ 10 ∷ []) room (noteAttrRule t key v) refl (among-test (8 ∷ 10 ∷ []) 8 (ltb v 128) _ refl tt)
+-- presses, releases and pressures of keys that keep their place: 8, 10
+pub key-refusals : (kind : NoteMessage) (channels : List ℕ) (v : ℕ) (o : Option Place) (room : ℕ) → Among (8 ∷ 10 ∷ []) (fitted room (keyRule kind channels v o))
+key-refusals kind channels v o room =
+    among-fitted (8 ∷ 10 ∷ []) room (keyRule kind channels v o) refl (among-test (8 ∷ 10 ∷ []) 8 (ltb v 128) _ refl tt)
 
 -- a repitch: 1, 10, and 1 only of an unknown key
 among-repitch : (ns : List ℕ) (t : Tuner) (key : ℕ) (hz : Float) → has ns 1 ≡ true → Among ns (notePitchRule t key hz)
@@ -152,9 +157,9 @@ repitch-unknown-refusals t key hz room e = by (repitchRule (t .pool) key hz) ref
     by (refused n) h = ap (has (1 ∷ [])) (repitch-refused (t .pool) key hz n .0 h .1)
 
 -- a message to all: 8, 9, 10, also where nothing is sent
-pub global-refusals : (t : Tuner) (m : ChannelMessageType) (room : ℕ) → Among (8 ∷ 9 ∷ 10 ∷ []) (fitted room (globalAttrRule t m))
-global-refusals t m room =
-    among-fitted (8 ∷ 9 ∷ 10 ∷ []) room (globalAttrRule t m) refl (among-checked (8 ∷ 9 ∷ 10 ∷ []) m _ refl refl tt)
+pub global-refusals : (kind : TuningKind) (channels : List ℕ) (m : ChannelMessageType) (room : ℕ) → Among (8 ∷ 9 ∷ 10 ∷ []) (fitted room (toAllRule kind channels m))
+global-refusals kind channels m room =
+    among-fitted (8 ∷ 9 ∷ 10 ∷ []) room (toAllRule kind channels m) refl (among-checked (8 ∷ 9 ∷ 10 ∷ []) m _ refl refl tt)
 
 -- `stop`: 10 only
 pub stop-refusals : (t : Tuner) (room : ℕ) → Among (10 ∷ []) (fitted room (stopRule t))
@@ -188,6 +193,17 @@ press-order t key hz v room = test-first room 8 (ltb v 128) (pressEffect t v (re
 pub rejected-fits :
     (t : Tuner) (v room : ℕ) (u : State) → fitted room (pressEffect t v (value (rejected, u))) ≡ value (record { says = rejects; bytes = []; next = withPool t u })
 rejected-fits t v room u = rw (le-leb 0 room (omega arith))
+
+-- A plan: what its lists are refused with comes before the room.
+pub plan-order : (t : Plan.Tuner) (room n : ℕ) → fitted room (Plan.planEffect t (planned (t .plan) (refused n))) ≡ refused n
+unfolding planned
+plan-order t room n = refl
+
+-- A plan for which there are too few channels never meets 10.
+pub untuned-fits :
+    (t : Plan.Tuner) (room n : ℕ) (m : Model)
+    → fitted room (Plan.planEffect t (m, untuned n)) ≡ value (record { says = Plan.cannot n; bytes = []; next = Plan.withPlan t m })
+untuned-fits t room n m = rw (le-leb 0 room (omega arith))
 
 module _ (ch : ℕ) (m : ChannelMessageType) (room : ℕ) where
   -- a channel over 15 is refused before all else

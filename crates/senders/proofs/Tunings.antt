@@ -3,32 +3,40 @@ use mathlib.Core.Path.{_≡_, refl, sym, ap, _∙_}
 use mathlib.Core.Option.{Option, some, none}
 use mathlib.Core.List.{List, [], _∷_, _++_, append-nil}
 use Prim.Native.Nat.{ℕ, zero, suc, _+_, _-_, _*_, _≤_, _<_}
+use native.Mathlib.Nat.{add-zero, zero-add}
 use native.Mathlib.Numerals.{add-one}
 use native.Mathlib.Omega.{arith}
 use lib.Ieee.{Float}
 use lib.ListN.{length, getElem?, length-append}
+use Rattle.models.specs.Lists.{upward}
 use Rattle.models.specs.Steps.{sentAs}
 use Rattle.models.specs.declared.steps.TuningKind.{TuningKind}
 use Rattle.senders.specs.Message.{Message}
 use Rattle.senders.specs.Midi.{bytesOf}
 use Rattle.senders.specs.Mts.{tuningMessages}
 use Rattle.senders.specs.Tuner.{each, onEntry}
-use Rattle.senders.specs.Aot.{firsts, channelMessages}
+use Rattle.senders.specs.Aot.{channelMessages}
 use Rattle.senders.proofs.Each.{each-append}
 use Rattle.senders.proofs.Messages.{bytes-append}
 use Rattle.senders.proofs.Sizes.{tuning-small}
 
+-- one number more
+pub upward-more : (a n : ℕ) → upward a (suc n) ≡ upward a n ++ ((a + n) ∷ [])
+unfolding upward
+upward-more a zero = ap (λ (k : ℕ). k ∷ []) (sym (add-zero a))
+upward-more a (suc n) = let e : suc a + n ≡ a + suc n = omega arith in ap (λ (l : List ℕ). a ∷ l) (upward-more (suc a) n ∙ ap (λ (k : ℕ). upward (suc a) n ++ (k ∷ [])) e)
+
 module _ (messages : ℕ → List Message) where
   abbrev pub upTo : ℕ → List ℕ
-  upTo i = bytesOf (each messages (firsts i))
+  upTo i = bytesOf (each messages (upward 0 i))
 
   -- one channel more
   pub first-more : (i : ℕ) → upTo (i + 1) ≡ upTo i ++ bytesOf (messages i)
-  unfolding firsts
   first-more i =
       ap upTo (add-one i)
-      ∙ ap bytesOf (each-append messages (firsts i) (i ∷ []))
-      ∙ bytes-append (each messages (firsts i)) (messages i ++ [])
+      ∙ ap (λ (l : List ℕ). bytesOf (each messages l)) (upward-more 0 i ∙ ap (λ (k : ℕ). upward 0 i ++ (k ∷ [])) (zero-add i))
+      ∙ ap bytesOf (each-append messages (upward 0 i) (i ∷ []))
+      ∙ bytes-append (each messages (upward 0 i)) (messages i ++ [])
       ∙ ap (λ (l : List Message). upTo i ++ bytesOf l) (append-nil (messages i))
 
   more-size : (i : ℕ) → length (upTo (i + 1)) ≡ length (upTo i) + length (bytesOf (messages i))
@@ -47,7 +55,7 @@ module _ (messages : ℕ → List Message) where
   behind i n h = let e : n ≡ i + 1 + (n - (i + 1)) = omega arith in rw e (first-room i (n - (i + 1)))
 
   pub first-small : ((i : ℕ) → length (bytesOf (messages i)) ≤ 64) → (i : ℕ) → length (upTo i) ≤ i * 64
-  unfolding firsts
+  unfolding upward
   first-small h zero = omega arith
   first-small h (suc i) =
       let e : length (upTo (suc i)) ≡ length (upTo (i + 1)) = ap (λ (k : ℕ). length (upTo k)) (sym (add-one i)) in

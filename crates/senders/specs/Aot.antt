@@ -2,9 +2,9 @@
 -- Assumes nothing.
 use mathlib.Core.Path.{_≡_}
 use mathlib.Core.Bool.{true, false}
-use mathlib.Core.List.{List, [], _∷_, _++_}
+use mathlib.Core.List.{List, []}
 use mathlib.Core.Option.{Option, some, none}
-use Prim.Native.Nat.{ℕ, zero, suc}
+use Prim.Native.Nat.{ℕ}
 use lib.IntN.{ℤ, pos}
 use lib.Ieee.{Float}
 use lib.Ieee.Positive.{positive}
@@ -12,6 +12,7 @@ use lib.ListN.{length}
 use Rattle.models.specs.Outcome.{Outcome, value, refused}
 use Rattle.models.specs.Refusal.{bufferTooShort}
 use Rattle.models.specs.ChannelList.{channelsAnswer}
+use Rattle.models.specs.Lists.{upward}
 use Rattle.models.specs.Line.{Line}
 use Rattle.models.specs.Pool.{Place}
 use Rattle.models.specs.Placing.{Placing, InOrder, Fits, Demand3}
@@ -57,11 +58,6 @@ pub data Planned : Type 0 where
   tunes : (channels bytes : ℕ) → Planned
   cannot : (channels : ℕ) → Planned
 
--- 0 and upward, n of them
-unfoldable pub firsts : ℕ → List ℕ
-firsts zero = []
-firsts (suc n) = firsts n ++ (n ∷ [])
-
 -- the tuning of channel i, by its detuning
 abbrev pub channelMessages : TuningKind → List ℕ → ℕ → Option Float → List Message
 channelMessages kind channels i (some d) = onChannel channels i (λ ch. tuningMessages ch (sentAs kind d))
@@ -69,7 +65,7 @@ channelMessages kind channels i none = []
 
 -- the tuning of each channel used, in order; in channel groups all notes are of group 0
 abbrev pub planMessages : TuningKind → Model → List Message
-planMessages kind m = each (λ i. channelMessages kind (m .channels) i (m .detunings i (pos 0))) (firsts (m .numChannels))
+planMessages kind m = each (λ i. channelMessages kind (m .channels) i (m .detunings i (pos 0))) (upward 0 (m .numChannels))
 
 -- the tunings of a plan are sent; nothing is when there are too few channels
 abbrev pub planEffect : Tuner → Model × M.Answer → Outcome (Effect Planned Tuner)

@@ -8,6 +8,7 @@ pub mod Aot
 pub mod Jit
 pub mod Passage
 pub mod Answers
+pub mod Entries
 pub mod Reader
 pub mod Padding
 pub mod Receiver

@@ -5,10 +5,15 @@ use mathlib.Core.Option.{Option, some, none}
 use Prim.Native.Nat.{ℕ}
 use lib.Dec.{ltb}
 use lib.IntN.{ℤ, pos, negsuc, _-ℤ_}
+use lib.Ieee.{Float}
 use lib.ListN.{getElem?}
+use Rattle.models.specs.AotModel.{Model}
+use Rattle.models.specs.Lists.{upward}
 use Rattle.models.specs.Pool.{Place}
+use Rattle.models.specs.Steps.{sentAs}
 use Rattle.senders.specs.Message.{isData}
 use Rattle.senders.specs.Receiver.{Channel, Receiver, on, withChoice, withFine, withBend, withNote, parameter, fineShift, bendShift, sensitivityCents}
+use Rattle.models.specs.declared.steps.TuningKind.{TuningKind}
 use Rattle.models.specs.declared.steps.Tuning.{Tuning}
 use Rattle.models.specs.declared.steps.Tuning.the-variants.{Fine, Bend}
 use Rattle.senders.specs.declared.tuner.NoteMessage.{NoteMessage}
@@ -72,3 +77,13 @@ stepSize (Bend b) x = sensitivityCents (x .sensitivity)
 abbrev pub shift : Tuning → Channel → ℤ
 shift (Fine v) x = fineShift x
 shift (Bend b) x = bendShift x
+
+-- ---- the tunings of a plan
+
+-- channel i is tuned by its detuning
+abbrev pub channelMeant : TuningKind → List ℕ → ℕ → Option Float → Receiver → Receiver
+channelMeant kind channels i (some d) r = onListed (getElem? channels i) (tuned (sentAs kind d)) r
+channelMeant kind channels i none r = r
+
+abbrev pub planMeant : TuningKind → Model → Receiver → Receiver
+planMeant kind m r = inTurn (λ i. channelMeant kind (m .channels) i (m .detunings i (pos 0))) (upward 0 (m .numChannels)) r

@@ -40,7 +40,7 @@ sub-steps : tie.Need-sub-steps
 sub-steps c =
     let s = c .before .before .before .before in
     rw (toZ-ofZ w32 (s .args .other) (s .fits .other), toZ-ofZ w32 (s .args .note) (s .fits .note))
-    (before-fits (s .args .note) (s .args .other) (first (c .before .before)) (second c))
+    (search (before-fits, first (c .before .before), second c))
 
 returns-3 : tie.Need-returns-3
 unfolding beforeRule

@@ -42,7 +42,9 @@ back c =
     rw (c .nearest-note .ensures) (toZ-ofZ w32 note (note-fits note (is-note c)))
 
 note-pitch-requires : tie.Need-note-pitch-requires
-note-pitch-requires c κs = rw (back c) (is-note c)
+note-pitch-requires c κs =
+    let h : isNote (toZ w32 (ofZ w32 (c .nearest-note .result))) ≡ true = rw (back c) (is-note c) in
+    search (needs, h)
 
 between-pitches-requires : tie.Need-between-pitches-requires
 between-pitches-requires c κs = search needs
@@ -57,7 +59,7 @@ returns-2 c =
     let hz = n .before .before .before .args .pitch .hz in
     let deviation = c .as-float .ensures ∙ c .before .between-pitches .ensures
     ∙ ap (λ (x : Float). div binary64 hz x) (c .before .before .note-pitch .ensures ∙ ap pitchOf (back n)) in
-    passes pitchOutOfRange _ (is-pitch (n .before)) (rw (back n, deviation))
+    passes pitchOutOfRange _ (is-pitch (n .before)) (ap (λ (z : ℤ). value (z, c .as-float .result)) (back n) ∙ ap (λ (x : Float). value (nearestNote hz, x)) deviation)
 
 pub find-by-pitch-spec : {M : Type 1} → statement M
 find-by-pitch-spec =

@@ -24,7 +24,7 @@ is-note : (c : tie.Else1) → isNote (c .before .before .args .note) ≡ true
 is-note c = let s = c .before .before in a-note (s .args .note) (s .fits .note) (c .before .is-note .ensures) (c .if1 .left)
 
 note-pitch-requires : tie.Need-note-pitch-requires
-note-pitch-requires c κs = let s = c .before .before in rw (toZ-ofZ w32 (s .args .note) (s .fits .note)) (is-note c)
+note-pitch-requires c κs = search (needs, is-note c)
 
 as-hz-requires : tie.Need-as-hz-requires
 as-hz-requires c κs = search needs

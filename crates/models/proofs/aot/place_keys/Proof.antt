@@ -157,20 +157,20 @@ module _ (c : tie.After-slot Inv-loop μ-loop) where
   in-table : c .slot .result < 801
   in-table = omega (arith, slot-at, slot-below (group (by t) (x t .note)) (group-note (by t) (x t .note) (a-note t)))
 
-mul-channels-with : tie.Need-mul-channels-with Inv-loop μ-loop
-mul-channels-with c = record { fits = omega (arith, in-table c) }
+mul-with-key : tie.Need-mul-with-key Inv-loop μ-loop
+mul-with-key c = record { fits = omega (arith, in-table c) }
 
-array-read-channels-with : tie.Need-array-read-channels-with Inv-loop μ-loop
-array-read-channels-with c = in-table c
+array-read-with-key : tie.Need-array-read-with-key Inv-loop μ-loop
+array-read-with-key c = in-table c
 
-mul-channels-with-2 : tie.Need-mul-channels-with-2 Inv-loop μ-loop
-mul-channels-with-2 c = record { fits = omega (arith, in-table c) }
+mul-with-key-2 : tie.Need-mul-with-key-2 Inv-loop μ-loop
+mul-with-key-2 c = record { fits = omega (arith, in-table c) }
 
-array-read-channels-with-2 : tie.Need-array-read-channels-with-2 Inv-loop μ-loop
-array-read-channels-with-2 c = in-table c
+array-read-with-key-2 : tie.Need-array-read-with-key-2 Inv-loop μ-loop
+array-read-with-key-2 c = in-table c
 
-channels-with-requires : tie.Need-channels-with-requires Inv-loop μ-loop
-channels-with-requires c κs =
+with-key-requires : tie.Need-with-key-requires Inv-loop μ-loop
+with-key-requires c κs =
     let u = used-few (by (t c)) (all (t c)) (t c .before .loop .records) (t c .before .loop .latest) (t c .before .loop .used) (t c .before .loop .count) (i (t c)) (x (t c)) (rest (t c)) (pass (t c)) (a-note (t c)) in
     rw (slot-at c) (omega (arith, u, t c .loop-test .taken, s (t c) .pre .0))
 
@@ -186,16 +186,16 @@ mul-latest c = record { fits = omega (arith, in-table (c .before)) }
 array-write-latest : tie.Need-array-write-latest Inv-loop μ-loop
 array-write-latest c = in-table (c .before)
 
-module _ (c : tie.After-channels-with Inv-loop μ-loop) where
+module _ (c : tie.After-with-key Inv-loop μ-loop) where
   abbrev e : tie.After-slot Inv-loop μ-loop
   e = c .before
 
   abbrev number : ℕ
   number = numberOfNext (by (t e)) (pass (t e) .done) (x (t e))
 
-  channels : c .channels-with .result ≡ suc number
+  channels : c .with-key .result .used ≡ suc number
   channels =
-      c .channels-with .ensures
+      c .with-key .ensures .0
       ∙ ap (λ (j : ℕ). channelsWith (getD (t e .before .loop .used) j 0) (getD (t e .before .loop .latest) j nan) (x (t e) .detuning)) (slot-at e)
       ∙ next-is (by (t e)) (all (t e)) (t e .before .loop .records) (t e .before .loop .latest) (t e .before .loop .used) (t e .before .loop .count) (i (t e)) (x (t e)) (rest (t e)) (pass (t e)) (a-note (t e))
 
@@ -226,11 +226,11 @@ loop-again c =
     let d = c .before in
     let u = t (e d) in
     let l = u .before .loop in
-    let one : d .channels-with .result - 1 ≡ number d = omega (arith, channels d) in
+    let one : d .with-key .result .used - 1 ≡ number d = omega (arith, channels d) in
     let grown : c .if1 .count ≡ max (l .count) (suc (number d)) = ⊎-elim (λ w. omega (arith, channels d)) (λ w. omega (arith, channels d)) (c .if1 .came) in (
       omega arith,
       pass-next (by u) (all u) (l .records) (l .latest) (l .used) (l .count) (i u) (x u) (rest u) (pass u) (a-note u) (small u) (c .if1 .count) grown
-          (toZ w32 (ofZ w32 (x u .note))) (d .channels-with .result) (d .channels-with .result - 1) (e d .slot .result) (read u) (channels d) one (slot-at (e d)),
+          (toZ w32 (ofZ w32 (x u .note))) (d .with-key .result .latest) (d .with-key .result .used) (d .with-key .result .used - 1) (e d .slot .result) (read u) (d .with-key .ensures .1) (channels d) one (slot-at (e d)),
     )
 
 returns : tie.Need-returns Inv-loop μ-loop
@@ -258,11 +258,11 @@ place-keys-spec =
     array-read-detuning
     group-of-requires
     slot-requires
-    mul-channels-with
-    array-read-channels-with
-    mul-channels-with-2
-    array-read-channels-with-2
-    channels-with-requires
+    mul-with-key
+    array-read-with-key
+    mul-with-key-2
+    array-read-with-key-2
+    with-key-requires
     mul-used
     array-write-used
     mul-latest

@@ -25,8 +25,8 @@ module _ (s : tie.Start) where
   unfolding bendStep
   step = rw (times, toZ-ofZ w64 (l *ℤ pos 3) (times-fits l (s .pre)))
 
-  back : toZ w64 (ofZ w64 (bendStep l)) ≡ bendStep l
-  back = toZ-ofZ w64 (bendStep l) (bend-fits l (s .pre))
+  back : toZ w64 (ofZ w64 (quotZ (toZ w64 (ofZ w64 (toZ w64 (ofZ w64 l) *ℤ pos 3))) (pos 1024))) ≡ bendStep l
+  back = rw step (toZ-ofZ w64 (bendStep l) (bend-fits l (s .pre)))
 
   small : SFits w16 (bendValue l)
   unfolding bendValue
@@ -35,14 +35,11 @@ module _ (s : tie.Start) where
 mul-clamped : tie.Need-mul-clamped
 mul-clamped c = rw (times c) (times-fits (l c) (c .pre))
 
-div-clamped : tie.Need-div-clamped
-div-clamped c = (omega arith, rw (step c) (bend-fits (l c) (c .pre)))
-
 clamped-requires : tie.Need-clamped-requires
 clamped-requires c κs = search needs
 
 result : (c : tie.After-clamped) → c .clamped .result ≡ clamp (negsuc 8191) (pos 8191) (bendStep (l (c .before)))
-result c = c .clamped .ensures ∙ ap (λ (z : ℤ). clamp (negsuc 8191) (pos 8191) z) (rw (step (c .before)) (back (c .before)))
+result c = c .clamped .ensures ∙ ap (λ (z : ℤ). clamp (negsuc 8191) (pos 8191) z) (back (c .before))
 
 value : (c : tie.After-clamped) → toZ w64 (ofZ w64 (c .clamped .result)) ≡ bendValue (l (c .before))
 unfolding bendValue
@@ -53,6 +50,9 @@ cast-result c = rw (value c) (small (c .before))
 
 returns : tie.Need-returns
 returns c = rw (value c) (toZ-ofZ w16 (bendValue (l (c .before))) (small (c .before)))
+
+div-clamped : tie.Need-div-clamped
+div-clamped c = (omega arith, rw (step c) (bend-fits (l c) (c .pre)))
 
 pub bend-value-spec : {M : Type 1} → statement M
 bend-value-spec = tie.close (tie.spec mul-clamped div-clamped clamped-requires cast-result returns)

@@ -5,13 +5,13 @@ use Prim.Native.Nat.{ℕ, _-_, _≤_}
 use native.Mathlib.Omega.{arith}
 use lib.IntN.{pos}
 use lib.ListN.{length, length-append}
-use Rattle.models.specs.ChannelList.{entries}
+use Rattle.models.specs.Lists.{upward}
 use Rattle.models.specs.AotModel.{modelOf}
 use Rattle.models.specs.declared.aot.AotTuningModel.{AotTuningModel}
 use Rattle.models.specs.declared.steps.TuningKind.{TuningKind}
 use Rattle.senders.specs.Message.{Message}
 use Rattle.senders.specs.Midi.{bytesOf}
-use Rattle.senders.specs.Aot.{firsts, channelMessages}
+use Rattle.senders.specs.Aot.{channelMessages}
 use Rattle.senders.proofs.Tunings.{upTo, first-more, first-small, channel-small}
 use borrow.Author.Needs.{needs}
 use Rattle.senders.proofs.aot.tunings_len.Statement.{statement}
@@ -42,7 +42,7 @@ num-channels-requires : tie.Need-num-channels-requires Inv-loop μ-loop
 num-channels-requires c κs = search needs
 
 loop-holds : tie.Need-loop-holds Inv-loop μ-loop
-unfolding firsts
+unfolding upward
 loop-holds c = (omega arith, refl)
 
 detuning-requires : tie.Need-detuning-requires Inv-loop μ-loop

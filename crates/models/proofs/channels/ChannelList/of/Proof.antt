@@ -27,7 +27,7 @@ returns : tie.Need-returns Inv-loop μ-loop
 unfolding channelsAnswer
 returns c =
     let l = c .before .before in
-    over-at _ _ (l .before .loop .inv .1) (l .loop-test .taken) (c .if1 .taken)
+    over-at _ _ (l .before .loop .inv .1) (l .loop-test .taken) (omega arith)
 
 listed-requires : tie.Need-listed-requires Inv-loop μ-loop
 listed-requires c κs = search needs

@@ -38,7 +38,7 @@ returns c =
     let made = sym (room .ensures ∙ ap (roomFor (view (a .self))) note) in
     let front-pool = sym (c .before .before .before .before .before .before .pool .ensures ∙ ap (pool _) note) in
     let free = ap (λ (p : Pool). first (p .free)) front-pool ∙ sym (c .before .before .before .before .front .ensures) ∙ ap front (c .before .before .channel .given .1) in
-    rw (pressed-free (view (a .self)) (a .key) (a .note) (a .detuning) (roomView (room .result)) made _ free, c .taken .ensures, note)
+    simp (pressed-free (view (a .self)) (a .key) (a .note) (a .detuning) (roomView (room .result)) made _ free, c .taken .ensures, note)
 
 returns-2 : tie.Need-returns-2
 unfolding told press replied roomView front poolView

@@ -1,9 +1,9 @@
--- `tuners_test::try_short` is safe: the part that it lends is as long as it says. Assumes nothing.
+-- `tuners_test::pool::try_short` is safe: the part that it lends is as long as it says. Assumes nothing.
 use mathlib.Core.Path.{sym}
 use lib.Seq.{length-take-le}
 use borrow.Author.Needs.{needs}
-use Rattle.tuners_test.proofs.try_short.Statement.{statement}
-use Rattle.tuners_test.proofs.try_short.Tie as tie
+use Rattle.tuners_test.proofs.pool.try_short.Statement.{statement}
+use Rattle.tuners_test.proofs.pool.try_short.Tie as tie
 
 array-borrow-prefix-buffer : tie.Need-array-borrow-prefix-buffer
 array-borrow-prefix-buffer c = search needs

@@ -1,9 +1,9 @@
--- `tuners_test::bytes` is safe: it reads the bytes that there are. Assumes nothing.
+-- `tuners_test::shown::bytes` is safe: it reads the bytes that there are. Assumes nothing.
 use Prim.Native.Nat.{_-_}
 use native.Mathlib.Omega.{arith}
 use borrow.Author.Needs.{needs}
-use Rattle.tuners_test.proofs.bytes.Statement.{statement}
-use Rattle.tuners_test.proofs.bytes.Tie as tie
+use Rattle.tuners_test.proofs.shown.bytes.Statement.{statement}
+use Rattle.tuners_test.proofs.shown.bytes.Tie as tie
 
 abbrev Inv-loop : tie.InvT-loop
 Inv-loop buffer count n i₀ i = Unit {0}

@@ -1,4 +1,4 @@
--- `models::aot::channels_with` meets its contract, by its two tests. Assumes nothing.
+-- `models::aot::with_key` meets its contract, by its two tests; the key that comes last is the one to compare with. Assumes nothing.
 use mathlib.Core.Path.{_≡_, refl, sym, _∙_}
 use mathlib.Core.Bool.{true, false}
 use Prim.Native.Nat.{ℕ, zero, suc, _+_}
@@ -7,8 +7,8 @@ use lib.Ieee.{Float}
 use Rattle.models.specs.Line.{joins}
 use Rattle.models.specs.PlanInside.{channelsWith}
 use borrow.Author.Needs.{needs}
-use Rattle.models.proofs.aot.channels_with.Statement.{statement}
-use Rattle.models.proofs.aot.channels_with.Tie as tie
+use Rattle.models.proofs.aot.with_key.Statement.{statement}
+use Rattle.models.proofs.aot.with_key.Tie as tie
 
 joined : (n : ℕ) (b d : Float) → (n ≡ 0 → ⊥) → joins b d ≡ true → n ≡ channelsWith n b d
 unfolding channelsWith
@@ -22,19 +22,19 @@ parted (suc n) b d h e = rw (e, add-one)
 
 returns : tie.Need-returns
 unfolding channelsWith
-returns c = rw (c .if1 .taken)
+returns c = (rw (c .if1 .taken), refl)
 
 joins-requires : tie.Need-joins-requires
 joins-requires c κs = search needs
 
 returns-2 : tie.Need-returns-2
-returns-2 c = joined _ _ _ (c .before .before .if1 .left) (sym (c .before .joins .ensures) ∙ c .if2 .taken)
+returns-2 c = (joined _ _ _ (c .before .before .if1 .left) (sym (c .before .joins .ensures) ∙ c .if2 .taken), refl)
 
-add-result : tie.Need-add-result
-add-result c = search needs
+add-one-more : tie.Need-add-one-more
+add-one-more c = search needs
 
 returns-3 : tie.Need-returns-3
-returns-3 c = parted _ _ _ (c .before .before .if1 .left) (sym (c .before .joins .ensures) ∙ c .if2 .left)
+returns-3 c = (parted _ _ _ (c .before .before .if1 .left) (sym (c .before .joins .ensures) ∙ c .if2 .left), refl)
 
-pub channels-with-spec : {M : Type 1} → statement M
-channels-with-spec = tie.close (tie.spec returns joins-requires returns-2 add-result returns-3)
+pub with-key-spec : {M : Type 1} → statement M
+with-key-spec = tie.close (tie.spec returns joins-requires returns-2 add-one-more returns-3)
