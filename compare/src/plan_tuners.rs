@@ -29,14 +29,15 @@ use crate::tuners::Answer;
 use crate::tuners::Played;
 use crate::tuners::any_message;
 use crate::tuners::channel_list;
+use crate::tuners::exact;
 use crate::tuners::hold;
 use crate::tuners::room;
 use crate::tuners::short_buffers;
 
 /// Keys with their pitches.
-type Lines = Vec<(u8, f64)>;
+pub type Lines = Vec<(u8, f64)>;
 
-struct Sequence {
+pub struct Sequence {
     channels: Vec<u8>,
     bends: bool,
     tuner: AotTuner<u8, TunableMidi<Handler>>,
@@ -58,7 +59,7 @@ fn lists(by_pitches: &Lines, by_notes: &Lines) -> Lists {
 }
 
 impl Sequence {
-    fn new(channels: &[u8], bends: bool, by_pitches: Lines, by_notes: Lines) -> Sequence {
+    pub fn new(channels: &[u8], bends: bool, by_pitches: Lines, by_notes: Lines) -> Sequence {
         let (sender, written) = sender(bends, channels);
         Sequence {
             channels: channels.to_vec(),
@@ -91,7 +92,7 @@ impl Sequence {
         (if self.tuner.tuned() { 0 } else { ours::NOTHING }, count as u16)
     }
 
-    fn call(&mut self, event: Event) {
+    pub fn call(&mut self, event: Event) {
         let mut kind = self.judge(event);
         let mut channels = 0;
         if kind == 0 {
@@ -109,6 +110,13 @@ impl Sequence {
         }
         self.events.push(event);
         self.answers.push(Answer { kind, bytes: self.written.take(), channels });
+    }
+
+    /// The answers, if the port's are the Rust's to the last bit.
+    pub fn stored(self) -> Option<Vec<Answer>> {
+        let mut calls = Calls::new(&self.events, room(&self.answers));
+        calls.play_plan(&self.channels, self.bends, &self.lists);
+        exact(&self.answers, &calls).then_some(self.answers)
     }
 
     /// A press, a pressure and a release of every key.

@@ -30,11 +30,12 @@ use crate::tuners::Answer;
 use crate::tuners::Played;
 use crate::tuners::any_message;
 use crate::tuners::channel_list;
+use crate::tuners::exact;
 use crate::tuners::hold;
 use crate::tuners::room;
 use crate::tuners::short_buffers;
 
-struct Sequence {
+pub struct Sequence {
     channels: Vec<u8>,
     bends: bool,
     mode: u8,
@@ -47,7 +48,7 @@ struct Sequence {
 }
 
 impl Sequence {
-    fn new(channels: &[u8], bends: bool, mode: u8) -> Sequence {
+    pub fn new(channels: &[u8], bends: bool, mode: u8) -> Sequence {
         let (sender, written) = sender(bends, channels);
         Sequence {
             channels: channels.to_vec(),
@@ -61,7 +62,7 @@ impl Sequence {
         }
     }
 
-    fn held(&self) -> Vec<u8> {
+    pub fn held(&self) -> Vec<u8> {
         let mut keys: Vec<u8> = self.pool.active_keys().collect();
         keys.sort();
         keys
@@ -79,7 +80,7 @@ impl Sequence {
         }
     }
 
-    fn call(&mut self, event: Event) {
+    pub fn call(&mut self, event: Event) {
         let mut kind = self.judge(event);
         if kind == 0 {
             match event {
@@ -108,6 +109,13 @@ impl Sequence {
         }
         self.events.push(event);
         self.answers.push(Answer { kind, bytes: self.written.take(), ..Answer::default() });
+    }
+
+    /// The answers, if the port's are the Rust's to the last bit.
+    pub fn stored(self) -> Option<Vec<Answer>> {
+        let mut calls = Calls::new(&self.events, room(&self.answers));
+        calls.play_pool(&self.channels, self.bends, self.mode);
+        exact(&self.answers, &calls).then_some(self.answers)
     }
 
     /// Plays the port's tuner, and compares every call; at the end `stop`, whose releases may stand in another order.

@@ -87,6 +87,13 @@ pub fn hold(row: &mut Row, played: &Played, calls: &Calls, excuse: impl Fn(usize
     }
 }
 
+/// Whether the port's answers and bytes are these to the last bit.
+pub fn exact(answers: &[Answer], calls: &Calls) -> bool {
+    let bytes: Vec<u8> = answers.iter().flat_map(|a| a.bytes.iter().copied()).collect();
+    let same = |(i, a): (usize, &Answer)| (a.kind, a.channels, a.bytes.len()) == (calls.answers[i], calls.channels[i], calls.counts[i]);
+    answers.iter().enumerate().all(same) && calls.out.starts_with(&bytes)
+}
+
 /// Plays calls in buffers that end within the last one: it is refused by 10, as document 01 says, and leaves the tuner as it was, which pressures of
 /// these keys show. In a buffer that just holds it, it is not refused.
 pub fn short_buffers(row: &mut Row, setting: &str, before: &[Event], last: Event, keys: std::ops::RangeInclusive<u8>, play: impl Fn(&mut Calls)) {
