@@ -17,11 +17,17 @@ use crate::inputs::Chance;
 use crate::inputs::REFERENCES;
 use crate::inputs::temperaments;
 use crate::nearest;
+use crate::ours;
+use crate::ours::Event;
 use crate::ours::Values;
+use crate::plan_tuners;
+use crate::plan_tuners::Lines;
 use crate::plans;
 use crate::plans::GROUPS;
+use crate::pool_tuners;
 use crate::pools;
 use crate::steps;
+use crate::tuners::Answer;
 
 #[derive(Default)]
 struct List {
@@ -97,6 +103,61 @@ fn pool(list: &mut List, chance: &mut Chance, letters: bool, mode: u8, channels:
     list.push(&format!("4 {} {mode} {channels} {n}{events}", u8::from(letters)), &answers);
 }
 
+/// The bytes of a call, each behind a space, or `-` for none.
+fn bytes(answer: &Answer) -> String {
+    if answer.bytes.is_empty() {
+        return ", -".to_string();
+    }
+    format!(",{}", answer.bytes.iter().map(|b| format!(" {b:02x}")).collect::<String>())
+}
+
+fn pool_tuner(list: &mut List, chance: &mut Chance, bends: bool, mode: u8, channels: u8) {
+    let mut sequence = pool_tuners::Sequence::new(&(0..channels).collect::<Vec<u8>>(), bends, mode);
+    let mut calls = String::new();
+    let mut n = 0;
+    while n < 30 {
+        let key = chance.below(usize::from(channels) * 2 + 2) as u8;
+        let value = chance.below(128) as u8;
+        let pitch = chance.pitch();
+        let Some((millihertz, hz)) = sure(list, pitch) else { continue };
+        let (kind, event) = match chance.below(12) {
+            0..=5 if !sequence.held().contains(&key) => (0, Event::Press(key, hz, value)),
+            0..=7 => (1, Event::Release(key, value)),
+            8 | 9 => (2, Event::Repitch(key, hz)),
+            10 => (3, Event::Pressure(key, value)),
+            _ => (4, Event::Stop),
+        };
+        sequence.call(event);
+        let _ = write!(calls, " {kind} {key} {millihertz} {value}");
+        n += 1;
+    }
+    let Some(answers) = sequence.stored() else {
+        list.left_out += 1;
+        return;
+    };
+    let told = answers.iter().map(|a| if a.kind == ours::NOTHING { ", rejected".to_string() } else { bytes(a) });
+    list.push(&format!("5 {} {mode} {channels} {n}{calls}", u8::from(bends)), &format!("pool tuner{}", told.collect::<String>()));
+}
+
+fn plan_tuner(list: &mut List, bends: bool, channels: u8, lines: Lines) {
+    let n = lines.len();
+    let parts: String = lines.iter().map(|(key, hz)| format!(" {key} {}", millihertz(*hz))).collect();
+    let keys: Vec<u8> = lines.iter().map(|line| line.0).collect();
+    let mut sequence = plan_tuners::Sequence::new(&(0..channels).collect::<Vec<u8>>(), bends, lines, Lines::new());
+    sequence.call(Event::TuneByPitches);
+    for key in keys {
+        sequence.call(Event::Press(key, 0.0, 64));
+    }
+    let Some(answers) = sequence.stored() else {
+        list.left_out += 1;
+        return;
+    };
+    let tuning = &answers[0];
+    let tuned = if tuning.kind == ours::NOTHING { format!(" untuned {}", tuning.channels) } else { format!(" {}{}", tuning.channels, bytes(tuning)) };
+    let presses: String = answers[1..].iter().map(bytes).collect();
+    list.push(&format!("6 {} {channels} {n}{parts}", u8::from(bends)), &format!("plan tuner{tuned}{presses}"));
+}
+
 pub fn write(folder: &Path) {
     let mut chance = Chance(20261103);
     let mut list = List::default();
@@ -149,6 +210,22 @@ pub fn write(folder: &Path) {
         for mode in 0..3 {
             for channels in [0, 1, 2, 5, 16] {
                 pool(&mut list, &mut chance, letters, mode, channels);
+            }
+        }
+    }
+    for bends in [false, true] {
+        for mode in 0..3 {
+            for channels in [0, 2, 16] {
+                pool_tuner(&mut list, &mut chance, bends, mode, channels);
+            }
+        }
+        for temperament in temperaments().iter().step_by(8) {
+            let reference = chance.pick(&REFERENCES);
+            let present = chance.pick(&[1, 4, 16]);
+            let order = chance.keys();
+            let lines: Option<Lines> = (0..12).map(|i| sure(&mut list, temperament.pitch(reference, i - 6)).map(|(_, hz)| (order[i as usize], hz))).collect();
+            if let Some(lines) = lines {
+                plan_tuner(&mut list, bends, present, lines);
             }
         }
     }

@@ -2,15 +2,19 @@
 //!
 //! `compare/run` builds and runs it.
 
+mod bytes;
 mod inputs;
 mod lists;
 mod nearest;
 mod ours;
+mod plan_tuners;
 mod plans;
+mod pool_tuners;
 mod pools;
 mod report;
 mod speed;
 mod steps;
+mod tuners;
 
 use inputs::Chance;
 use report::Row;
@@ -23,6 +27,9 @@ fn compare(seed: u64) -> u64 {
     steps::run(&mut chance, &mut rows);
     plans::run(&mut chance, &mut rows);
     pools::run(&mut chance, &mut rows);
+    bytes::run(&mut chance, &mut rows);
+    pool_tuners::run(&mut chance, &mut rows);
+    plan_tuners::run(&mut chance, &mut rows);
     report::summary(&rows)
 }
 

@@ -59,6 +59,52 @@ unsafe extern "C" {
         stopped: *mut i32, n_stopped: usize,
         detunings: *mut f64, n_detunings: usize,
     ) -> u8;
+    fn tune_message(
+        kind: u8,
+        first: u8,
+        second: u8,
+        bend: i16,
+        channel: u8,
+        refusal: *mut u8, n_refusal: usize,
+        out: *mut u8, n_out: usize,
+    ) -> usize;
+    fn tune_channel_tuning(
+        bends: bool,
+        channel: u8,
+        detuning: f64,
+        refusal: *mut u8, n_refusal: usize,
+        out: *mut u8, n_out: usize,
+    ) -> usize;
+    fn tune_pool_tuner(
+        channels: *const u8, n_channels: usize,
+        bends: bool,
+        mode: u8,
+        kinds: *const u8, n_kinds: usize,
+        keys: *const u8, n_keys: usize,
+        values: *const u8, n_values: usize,
+        pitches: *const f64, n_pitches: usize,
+        bend_values: *const i16, n_bend_values: usize,
+        answer_kinds: *mut u8, n_answer_kinds: usize,
+        answer_counts: *mut usize, n_answer_counts: usize,
+        out: *mut u8, n_out: usize,
+    ) -> u8;
+    fn tune_plan_tuner(
+        channels: *const u8, n_channels: usize,
+        bends: bool,
+        pitch_keys: *const u8, n_pitch_keys: usize,
+        pitches: *const f64, n_pitches: usize,
+        note_keys: *const u8, n_note_keys: usize,
+        notes: *const i32, n_notes: usize,
+        detunings: *const f64, n_detunings: usize,
+        kinds: *const u8, n_kinds: usize,
+        keys: *const u8, n_keys: usize,
+        values: *const u8, n_values: usize,
+        bend_values: *const i16, n_bend_values: usize,
+        answer_kinds: *mut u8, n_answer_kinds: usize,
+        answer_counts: *mut usize, n_answer_counts: usize,
+        answer_channels: *mut u16, n_answer_channels: usize,
+        out: *mut u8, n_out: usize,
+    ) -> u8;
 }
 
 /// Nearest notes and their detunings, beside the refusals, which are 0 where there is none.
@@ -253,6 +299,141 @@ impl Events {
                 a.notes.as_mut_ptr(), a.notes.len(),
                 a.stopped.as_mut_ptr(), a.stopped.len(),
                 a.detunings.as_mut_ptr(), a.detunings.len(),
+            )
+        }
+    }
+}
+
+/// A message: its kind by the high four bits of its status byte, and its data bytes or its bend.
+#[derive(Clone, Copy, Debug, PartialEq)]
+pub struct Message {
+    pub kind: u8,
+    pub first: u8,
+    pub second: u8,
+    pub bend: i16,
+}
+
+/// Writes a message on a channel; the refusal, 0 where there is none, and how many bytes were written.
+pub fn message(message: Message, channel: u8, out: &mut [u8]) -> (u8, usize) {
+    let mut refusal = 99;
+    let Message { kind, first, second, bend } = message;
+    let count = unsafe { tune_message(kind, first, second, bend, channel, &mut refusal, 1, out.as_mut_ptr(), out.len()) };
+    (refusal, count)
+}
+
+/// Writes the tuning of a channel by a detuning.
+pub fn channel_tuning(bends: bool, channel: u8, detuning: f64, out: &mut [u8]) -> (u8, usize) {
+    let mut refusal = 99;
+    let count = unsafe { tune_channel_tuning(bends, channel, detuning, &mut refusal, 1, out.as_mut_ptr(), out.len()) };
+    (refusal, count)
+}
+
+/// What a tuner is called with.
+#[derive(Clone, Copy, Debug)]
+pub enum Event {
+    /// Key, pitch and velocity; a plan tuner looks at no pitch.
+    Press(u8, f64, u8),
+    Release(u8, u8),
+    Repitch(u8, f64),
+    Pressure(u8, u8),
+    Stop,
+    /// A message to all channels.
+    All(Message),
+    /// Of a plan tuner: a tuning of the keys with pitches, and of those with notes and detunings.
+    TuneByPitches,
+    TuneByNotes,
+}
+
+/// The lists that tunings are of.
+#[derive(Clone, Debug, Default)]
+pub struct Lists {
+    pub pitch_keys: Vec<u8>,
+    pub pitches: Vec<f64>,
+    pub note_keys: Vec<u8>,
+    pub notes: Vec<i32>,
+    pub detunings: Vec<f64>,
+}
+
+/// What stands in a buffer before it is lent.
+pub const FILL: u8 = 0xa5;
+
+/// The events of a tuner as the port takes them, and room for the answers and the bytes.
+#[derive(Default)]
+pub struct Calls {
+    kinds: Vec<u8>,
+    keys: Vec<u8>,
+    values: Vec<u8>,
+    pitches: Vec<f64>,
+    bends: Vec<i16>,
+    pub answers: Vec<u8>,
+    pub counts: Vec<usize>,
+    /// How many channels a tuning needs.
+    pub channels: Vec<u16>,
+    pub out: Vec<u8>,
+}
+
+impl Calls {
+    /// The events, with so many bytes of room.
+    pub fn new(events: &[Event], room: usize) -> Calls {
+        let n = events.len();
+        let mut calls = Calls { answers: vec![99; n], counts: vec![usize::MAX; n], channels: vec![0; n], out: vec![FILL; room], ..Calls::default() };
+        for &event in events {
+            let (kind, key, value, hz, bend) = match event {
+                Event::Press(key, hz, velocity) => (0, key, velocity, hz, 0),
+                Event::Release(key, velocity) => (1, key, velocity, 0.0, 0),
+                Event::Repitch(key, hz) => (2, key, 0, hz, 0),
+                Event::Pressure(key, pressure) => (3, key, pressure, 0.0, 0),
+                Event::Stop => (4, 0, 0, 0.0, 0),
+                Event::All(m) => (m.kind, m.first, m.second, 0.0, m.bend),
+                Event::TuneByPitches => (5, 0, 0, 0.0, 0),
+                Event::TuneByNotes => (6, 0, 0, 0.0, 0),
+            };
+            calls.kinds.push(kind);
+            calls.keys.push(key);
+            calls.values.push(value);
+            calls.pitches.push(hz);
+            calls.bends.push(bend);
+        }
+        calls
+    }
+
+    /// Plays them on a pool tuner; the refusal of the channel list, 0 where there is none.
+    pub fn play_pool(&mut self, channels: &[u8], bends: bool, mode: u8) -> u8 {
+        unsafe {
+            tune_pool_tuner(
+                channels.as_ptr(), channels.len(),
+                bends,
+                mode,
+                self.kinds.as_ptr(), self.kinds.len(),
+                self.keys.as_ptr(), self.keys.len(),
+                self.values.as_ptr(), self.values.len(),
+                self.pitches.as_ptr(), self.pitches.len(),
+                self.bends.as_ptr(), self.bends.len(),
+                self.answers.as_mut_ptr(), self.answers.len(),
+                self.counts.as_mut_ptr(), self.counts.len(),
+                self.out.as_mut_ptr(), self.out.len(),
+            )
+        }
+    }
+    /// Plays them on a plan tuner.
+    pub fn play_plan(&mut self, channels: &[u8], bends: bool, lists: &Lists) -> u8 {
+        unsafe {
+            tune_plan_tuner(
+                channels.as_ptr(), channels.len(),
+                bends,
+                lists.pitch_keys.as_ptr(), lists.pitch_keys.len(),
+                lists.pitches.as_ptr(), lists.pitches.len(),
+                lists.note_keys.as_ptr(), lists.note_keys.len(),
+                lists.notes.as_ptr(), lists.notes.len(),
+                lists.detunings.as_ptr(), lists.detunings.len(),
+                self.kinds.as_ptr(), self.kinds.len(),
+                self.keys.as_ptr(), self.keys.len(),
+                self.values.as_ptr(), self.values.len(),
+                self.bends.as_ptr(), self.bends.len(),
+                self.answers.as_mut_ptr(), self.answers.len(),
+                self.counts.as_mut_ptr(), self.counts.len(),
+                self.channels.as_mut_ptr(), self.channels.len(),
+                self.out.as_mut_ptr(), self.out.len(),
             )
         }
     }

@@ -133,7 +133,7 @@ fn same_places(plan: &Plan, at: &[u8], sounds: &[i32]) -> bool {
 }
 
 /// Whether a key's group has a pair of neighbours, by rising detuning, whose quotient is so near to the joining limit that last bits decide.
-fn at_limit(group: u8, notes: &[i32], detunings: &[f64]) -> bool {
+pub fn at_limit(group: u8, notes: &[i32], detunings: &[f64]) -> bool {
     let mut order: Vec<(i32, f64)> = notes
         .iter()
         .zip(detunings)
@@ -228,7 +228,7 @@ fn palette(notes: &[f64], detunings: &[f64]) -> Vec<f64> {
 }
 
 /// What document 01 answers to lists with a fault: 12; then line by line 4, 3, 5.
-fn judge_notes(keys: &[u8], notes: &[i32], detunings: &[f64]) -> Option<u8> {
+pub fn judge_notes(keys: &[u8], notes: &[i32], detunings: &[f64]) -> Option<u8> {
     if keys.len() != notes.len() || keys.len() != detunings.len() {
         return Some(12);
     }
@@ -246,7 +246,7 @@ fn judge_notes(keys: &[u8], notes: &[i32], detunings: &[f64]) -> Option<u8> {
 }
 
 /// The same where pitches are given: 12; then line by line 1, 5.
-fn judge_pitches(keys: &[u8], pitches: &[f64]) -> Option<u8> {
+pub fn judge_pitches(keys: &[u8], pitches: &[f64]) -> Option<u8> {
     if keys.len() != pitches.len() {
         return Some(12);
     }

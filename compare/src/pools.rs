@@ -172,7 +172,7 @@ fn exhaustive(row: &mut Row, length: u32, channels: usize, letters: bool, mode: 
 }
 
 /// A pitch whose note is the same on both sides.
-fn sure(chance: &mut Chance, from: impl Fn(&mut Chance) -> f64) -> f64 {
+pub fn sure(chance: &mut Chance, from: impl Fn(&mut Chance) -> f64) -> f64 {
     loop {
         let hz = from(chance);
         if nearest::from_boundary(hz) > nearest::NEAR {

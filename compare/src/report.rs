@@ -10,6 +10,7 @@ pub enum Kind {
     OneStep,
     BendClamp,
     JoinAtLimit,
+    StopOrder,
     Refusal,
     Unexpected,
 }
@@ -21,6 +22,7 @@ impl Kind {
             Kind::OneStep => "one step",
             Kind::BendClamp => "8191 where the Rust clamps at 8192",
             Kind::JoinAtLimit => "detunings that differ in their last bits meet the joining limit",
+            Kind::StopOrder => "the same releases by rising key, where the Rust's order is a HashMap's",
             Kind::Refusal => "refused, where the Rust answers or panics",
             Kind::Unexpected => "UNEXPECTED",
         }

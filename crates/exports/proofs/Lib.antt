@@ -1,3 +1,5 @@
--- Laws of the lists that answers are written to. Assumes nothing.
+-- Laws of the lists that answers are written to, and of calls one after the other. Assumes nothing.
 mod Elements
 mod Filled
+mod Calls
+mod Counts

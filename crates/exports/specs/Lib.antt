@@ -3,3 +3,7 @@ pub mod Lent
 pub mod Numbers
 pub mod Events
 pub mod Plans
+pub mod Messages
+pub mod Calls
+pub mod PoolTuner
+pub mod PlanTuner

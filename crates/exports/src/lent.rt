@@ -22,6 +22,15 @@ pub(crate) fn number_at(list: &[i32], i: usize) -> i32
     0
 }
 
+pub(crate) fn bend_at(list: &[i16], i: usize) -> i16
+    ensures { λ r. ⌜ r ≡ numberAt (now (list .entry)) i ⌝ }
+{
+    if i < list.len() {
+        return list[i];
+    }
+    0
+}
+
 pub(crate) fn float_at(list: &[f64], i: usize) -> f64
     ensures { λ r. ⌜ r ≡ floatAt (now (list .entry)) i ⌝ }
 {
@@ -40,6 +49,14 @@ pub(crate) fn put_byte(out: &mut [u8], i: usize, x: u8)
 }
 
 pub(crate) fn put_fine(out: &mut [u16], i: usize, x: u16)
+    ensures { λ _. ⌜ now (out .exit) ≡ set (now (out .entry)) i x ⌝ }
+{
+    if i < out.len() {
+        out[i] = x;
+    }
+}
+
+pub(crate) fn put_count(out: &mut [usize], i: usize, x: usize)
     ensures { λ _. ⌜ now (out .exit) ≡ set (now (out .entry)) i x ⌝ }
 {
     if i < out.len() {

@@ -103,7 +103,7 @@ pub extern "C" fn tune_pool(
     list_refusal(listed)
 }
 
-fn list_refusal(answer: ChannelsAnswer) -> u8
+pub(crate) fn list_refusal(answer: ChannelsAnswer) -> u8
     ensures { λ r. ⌜ r ≡ listRefusal (channelsAnswer answer) ⌝ }
 {
     match answer {
@@ -121,7 +121,7 @@ fn group_of(letters: bool) -> PoolGroupBy
     PoolGroupBy::Channel
 }
 
-fn mode_of(mode: u8) -> PoolingMode
+pub(crate) fn mode_of(mode: u8) -> PoolingMode
     ensures { λ r. ⌜ r ≡ modeOf mode ⌝ }
 {
     if mode == 0 {

@@ -1,7 +1,12 @@
 // Replays a stored list of what the Rust answered. Standard input has the inputs, which the comparison's driver wrote, as numbers: their count, and
-// for each its kind (1 to 4) and its parts. What is written is held to the file `stdout`, which has the Rust's answers.
+// for each its kind (1 to 6) and its parts. What is written is held to the file `stdout`, which has the Rust's answers.
 
 ghost use Prim.Native.Nat.{_≤_};
+
+mod tuners;
+
+use crate::tuners::plan_tuner;
+use crate::tuners::pool_tuner;
 use arithmetic::pitch::Pitch;
 use arithmetic::tuning::Approximation;
 use arithmetic::tuning::find_by_pitch;
@@ -69,7 +74,13 @@ fn replay_one(text: &[u8], at: usize) -> usize {
     if k == 3 {
         return plan(text, kind.at);
     }
-    pool(text, kind.at)
+    if k == 4 {
+        return pool(text, kind.at);
+    }
+    if k == 5 {
+        return pool_tuner(text, kind.at);
+    }
+    plan_tuner(text, kind.at)
 }
 
 // The next number: its digits, behind what is no digit.

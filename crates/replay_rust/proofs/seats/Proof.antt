@@ -23,8 +23,8 @@ shared-slice-read-access-key c = omega arith
 access-key-requires : tie.Need-access-key-requires Inv-loop μ-loop
 access-key-requires c κs = search needs
 
-seat-requires : tie.Need-seat-requires Inv-loop μ-loop
-seat-requires c κs = search needs
+accessed-requires : tie.Need-accessed-requires Inv-loop μ-loop
+accessed-requires c κs = search needs
 
 add-i : tie.Need-add-i Inv-loop μ-loop
 add-i c = omega arith
@@ -48,7 +48,7 @@ seats-spec =
     loop-holds
     shared-slice-read-access-key
     access-key-requires
-    seat-requires
+    accessed-requires
     add-i
     loop-less
     loop-again
