@@ -1,17 +1,22 @@
 -- A plan tuner that is played from lists of events, tunings among them. Assumes nothing.
-use Prim.Native.Nat.{ℕ}
+use Prim.Native.Nat.{ℕ, _-_}
 use mathlib.Core.Bool.{cond}
 use mathlib.Core.List.{List}
 use lib.Dec.{eqb}
 use lib.IntN.{ℤ}
 use lib.Ieee.{Float}
+use lib.ListN.{length}
 use Rattle.arithmetic.specs.Outcome.{Outcome, value, refused}
-use Rattle.senders.specs.Lent.{Answer}
-use Rattle.senders.specs.Aot.{Tuner, Planned, tunes, cannot, setTuningRule, setTuningOfPitchesRule, noteOnRule, noteOffRule, noteAttrRule, globalAttrRule, stopRule}
+use Rattle.models.specs.AotModel.{planned}
+use Rattle.models.specs.Line.{Line}
+use Rattle.models.specs.PlanLists.{noteLists, pitchLists}
+use Rattle.senders.specs.Lent.{Answer, fitted, told}
+use Rattle.senders.specs.Passage.{settled}
+use Rattle.senders.specs.Aot.{Tuner, Planned, tunes, cannot, planEffect, Smallest, setTuningRule, setTuningOfPitchesRule, noteOnRule, noteOffRule, noteAttrRule, globalAttrRule, stopRule}
 use Rattle.exports.specs.Lent.{byteAt, numberAt}
 use Rattle.exports.specs.Messages.{refusedBy, messageOf}
 use Rattle.exports.specs.declared.message.Heard.{Heard}
-use Rattle.exports.specs.Calls.{Said, Call, saying, keeping}
+use Rattle.exports.specs.Calls.{Said, Call, saying, keeping, Went, wentBefore}
 
 -- ---- the numbers of a tuning's answer: the count of channels, of kind 20 where there are too few
 
@@ -60,3 +65,16 @@ pub record Events : Type 0 where
 -- event i
 abbrev pub eventIn : Lists → Events → ℕ → Tuner → Call Tuner
 eventIn ls es i = happens ls (byteAt (es .kinds) i) (byteAt (es .keys) i) (byteAt (es .values) i) (numberAt (es .bends) i)
+
+-- ---- demand 3 of the tunings, wherever they stand among the events
+
+-- what a tuner answers to a tuning with so much room, and what it then is
+abbrev pub SmallestWith : Tuner → ℕ → Outcome (List Line) → Type 0
+SmallestWith t room lines = let f = fitted room (planEffect t (planned (t .plan) lines)) in Smallest t lines (told f) (settled t f)
+
+abbrev pub AllSmallest : ℕ → Lists → Events → Went Tuner → Type 0
+AllSmallest room ls es start =
+    (i : ℕ)
+    → let w = wentBefore room (eventIn ls es) start i in
+    let rest = room - length (w .bytes) in
+    SmallestWith (w .tuner) rest (pitchLists (ls .pitchKeys) (ls .pitches)) × SmallestWith (w .tuner) rest (noteLists (ls .noteKeys) (ls .notes) (ls .detunings))

@@ -9,7 +9,7 @@ ghost use Rattle.exports.specs.Lent.{filled};
 ghost use Rattle.exports.specs.Events.{listRefusal};
 ghost use Rattle.exports.specs.Messages.{kindOf};
 ghost use Rattle.exports.specs.Calls.{Called, begun, wentBefore, heardAt};
-ghost use Rattle.exports.specs.PlanTuner.{planHeard, sendRule, happens, eventIn};
+ghost use Rattle.exports.specs.PlanTuner.{planHeard, sendRule, happens, eventIn, AllSmallest};
 use crate::lent::bend_at;
 use crate::lent::byte_at;
 use crate::lent::put_byte;
@@ -79,6 +79,10 @@ pub extern "C" fn tune_plan_tuner(
         × (now («answer_counts» .exit) ≡ filled (λ i. heardAt room rules start i .count) n (now («answer_counts» .entry)))
         × (now («answer_channels» .exit) ≡ filled (λ i. heardAt room rules start i .channels) n (now («answer_channels» .entry)))
         × (now (out .exit) ≡ written (wentBefore room rules start n .bytes) (now (out .entry))) ⌝ }
+    ensures { λ r. ⌜ AllSmallest (length (now (out .entry)))
+        (record { pitchKeys = now («pitch_keys» .entry); pitches = now (pitches .entry); noteKeys = now («note_keys» .entry); notes = now (notes .entry); detunings = now (detunings .entry) })
+        (record { kinds = now (kinds .entry); keys = now (keys .entry); values = now (values .entry); bends = now («bend_values» .entry) })
+        (begun (startRule (now (channels .entry)) (kindOf bends) .1)) ⌝ }
 {
     let opened = AotTuner::start(channels, kind_of(bends));
     let listed = opened.answer;

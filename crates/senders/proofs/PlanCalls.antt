@@ -25,13 +25,16 @@ use Rattle.models.specs.declared.aot.GroupBy.{GroupBy}
 use Rattle.models.specs.declared.keys.AccessKeyResult.{AccessKeyResult}
 use Rattle.models.specs.declared.keys.AccessKeyResult.the-variants.{Found, NotFound}
 use Rattle.models.proofs.Accepted.{notes-accepted, pitches-accepted}
+use Rattle.models.proofs.Demand3.{demand-3}
 use Rattle.models.proofs.ListLaws.{T→true}
 use Rattle.models.proofs.PlanEntries.{planned-positive}
 use Rattle.senders.specs.Midi.{bytesOf}
-use Rattle.senders.specs.Lent.{Effect, told, Moved, Steps, Put}
+use Rattle.senders.specs.Lent.{Effect, fitted, told, Steps, Put}
+use Rattle.senders.specs.Passage.{settled}
 use Rattle.senders.specs.Aot.{Tuner, tuner, withPlan, Planned, tunes, cannot, planMessages, planEffect, SomeFits, Smallest, Measurable, Ready, placed}
 use Rattle.senders.specs.declared.aot.AotTuner.{AotTuner}
 use Rattle.senders.proofs.Lent.{ends-sent}
+use Rattle.senders.proofs.Passages.{handed-back}
 
 -- where a key is, in the words of a pool
 pub key-found : (r : AccessKeyResult) {o : Option (ℕ × ℤ)} → accessAnswer r ≡ o → place r ≡ placed o
@@ -94,31 +97,36 @@ some-fits by lines present {n = n} d = go (leb n present) refl
     go true e = let p = d .planned tt in (p .0, p .2 .inOrder, omega (arith, p .2 .exact, leb-true n present e))
     go false e = absurd (d .untuned .1 (λ q o f. let k = d .counted .1 .least q o in let z : ⊥ = omega (arith, leb-false n present e) in z))
 
-module _ (t : Tuner) (s back : AotTuner) (old new : List ℕ) (answer : Outcome Planned) where
+module _ (t : Tuner) (room : ℕ) where
   sent-smallest :
-      (lines : List Line) (m : Model) (n : ℕ) (bs : List ℕ) → Demand3 (t .plan .groupBy) lines (length (t .plan .channels)) (m .keys) true n
-      → (b : Bool) (e : Effect Planned Tuner) → e ≡ record { says = tunes n (length bs); bytes = bs; next = withPlan t m }
-      → answer ≡ told (cond b (value e) (refused bufferTooShort)) → Moved tuner (cond b (value e) (refused bufferTooShort)) s back
-      → Smallest t (value lines) answer (tuner back)
-  sent-smallest lines m n bs d true e is a moved = rw (a, moved, is) d
-  sent-smallest lines m n bs d false e is a moved = rw a (refl, some-fits (t .plan .groupBy) lines (length (t .plan .channels)) d)
+      (lines : List Line) (m : Model) (n : ℕ) (bs : List ℕ) → Demand3 (t .plan .groupBy) lines (length (t .plan .channels)) (m .keys) true n → (b : Bool)
+      → let f : Outcome (Effect Planned Tuner) = cond b (value (record { says = tunes n (length bs); bytes = bs; next = withPlan t m })) (refused bufferTooShort) in
+      Smallest t (value lines) (told f) (settled t f)
+  sent-smallest lines m n bs d true = d
+  sent-smallest lines m n bs d false = (refl, some-fits (t .plan .groupBy) lines (length (t .plan .channels)) d)
 
-  -- Demand 3 of a tuner, from that of its model.
   smallest :
-      (lines : Outcome (List Line)) (r : Model × M.Answer) → M.Smallest (t .plan) lines r → Steps tuner (planEffect t r) s old answer back new
-      → Smallest t lines answer (tuner back)
-  smallest (refused k) r d p = tt
-  smallest (value lines) (m, M.tuned n) d p =
-      sent-smallest lines m n (bytesOf (planMessages (t .kind) m)) d (leb (length (bytesOf (planMessages (t .kind) m))) (length old)) _ refl (p .told-is) (p .moved-is)
-  smallest (value lines) (m, M.untuned n) d p =
-      let room = le-leb 0 (length old) (omega arith) in
-      let back-is : tuner back ≡ withPlan t m = rw room at (p .moved-is) in
-      rw (rw room at (p .told-is)) (subst (λ (x : Tuner). Demand3 (t .plan .groupBy) lines (length (t .plan .channels)) (x .plan .keys) false n) (sym back-is) d)
-  smallest (value lines) (m, M.refused n) d p = absurd d
+      (lines : Outcome (List Line)) (r : Model × M.Answer) → M.Smallest (t .plan) lines r
+      → Smallest t lines (told (fitted room (planEffect t r))) (settled t (fitted room (planEffect t r)))
+  smallest (refused k) r d = tt
+  smallest (value lines) (m, M.tuned n) d =
+      sent-smallest lines m n (bytesOf (planMessages (t .kind) m)) d (leb (length (bytesOf (planMessages (t .kind) m))) room)
+  smallest (value lines) (m, M.untuned n) d = rw (le-leb 0 room (omega arith)) d
+  smallest (value lines) (m, M.refused n) d = absurd d
 
-  -- a tuning follows its rule, with demand 3, where the model did so
-  pub answers :
-      (lines : Outcome (List Line)) (r : Model × M.Answer) → r ≡ planned (t .plan) lines → M.Smallest (t .plan) lines r
-      → Steps tuner (planEffect t r) s old answer back new
-      → Steps tuner (planEffect t (planned (t .plan) lines)) s old answer back new × Smallest t lines answer (tuner back)
-  answers lines r e d p = (subst (λ (x : Model × M.Answer). Steps tuner (planEffect t x) s old answer back new) e p, smallest lines r d p)
+  -- Demand 3 of a tuner's rule, whatever room there is for the bytes.
+  pub rule-smallest :
+      (lines : Outcome (List Line)) → Fine lines
+      → Smallest t lines (told (fitted room (planEffect t (planned (t .plan) lines)))) (settled t (fitted room (planEffect t (planned (t .plan) lines))))
+  rule-smallest lines f = smallest lines (planned (t .plan) lines) (demand-3 (t .plan) lines (λ l e. subst Fine e f))
+
+-- A tuning follows its rule, with demand 3, where the model did so.
+pub answers :
+    (s back : AotTuner) (old new : List ℕ) (answer : Outcome Planned) (lines : Outcome (List Line)) (r : Model × M.Answer)
+    → r ≡ planned (tuner s .plan) lines → M.Smallest (tuner s .plan) lines r → Steps tuner (planEffect (tuner s) r) s old answer back new
+    → Steps tuner (planEffect (tuner s) (planned (tuner s .plan) lines)) s old answer back new × Smallest (tuner s) lines answer (tuner back)
+answers s back old new answer lines r e d p = (
+  subst (λ (x : Model × M.Answer). Steps tuner (planEffect (tuner s) x) s old answer back new) e p,
+  subst (λ (x : Outcome Planned). Smallest (tuner s) lines x (tuner back)) (sym (p .told-is))
+      (subst (λ (x : Tuner). Smallest (tuner s) lines (told (fitted (length old) (planEffect (tuner s) r))) x) (sym (handed-back p)) (smallest (tuner s) (length old) lines r d)),
+)

@@ -6,6 +6,7 @@ use Prim.Native.Nat.{ℕ, _≤_, _-_, _+_}
 use lib.ListN.{length}
 use native.Mathlib.Omega.{arith}
 use Rattle.models.specs.declared.steps.TuningKind.{TuningKind}
+use Rattle.models.specs.PlanLists.{noteLists, pitchLists}
 use Rattle.senders.specs.Lent.{written}
 use Rattle.senders.specs.Aot.{Tuner, tuner as view, startRule}
 use Rattle.exports.specs.Lent.{filled}
@@ -13,6 +14,7 @@ use Rattle.exports.specs.Events.{listRefusal}
 use Rattle.exports.specs.Calls.{begun, wentBefore, heardAt}
 use Rattle.exports.specs.PlanTuner.{Lists, Events, eventIn}
 use Rattle.exports.specs.declared.message.Heard.{Heard}
+use Rattle.senders.proofs.PlanCalls.{notes-fine, pitches-fine, rule-smallest}
 use Rattle.exports.proofs.Filled.{filled-turn, filled-all, length-filled}
 use Rattle.exports.proofs.Calls.{Going, none-sent, sent-length, going-none, going-heard, going-turn}
 use Rattle.exports.proofs.plan_tuner.tune_plan_tuner.Statement.{statement}
@@ -132,10 +134,16 @@ returns c =
     let state = ap (λ r. r .1) fresh in (
       c .list-refusal .ensures ∙ ap (λ r. listRefusal (r .0)) fresh,
       (
-        filled-all (λ k. heardAt room rules start k .kind) (a .answer-kinds .now) _ _ _ (l .inv .2) all ∙ ap (λ (t : Tuner). filled (λ k. heardAt room rules (begun t) k .kind) n (a .answer-kinds .now)) state,
-        filled-all (λ k. heardAt room rules start k .count) (a .answer-counts .now) _ _ _ (l .inv .3) all ∙ ap (λ (t : Tuner). filled (λ k. heardAt room rules (begun t) k .count) n (a .answer-counts .now)) state,
-        filled-all (λ k. heardAt room rules start k .channels) (a .answer-channels .now) _ _ _ (l .inv .4) all ∙ ap (λ (t : Tuner). filled (λ k. heardAt room rules (begun t) k .channels) n (a .answer-channels .now)) state,
-        l .inv .1 .sent .out-is ∙ ap (λ (k : ℕ). written (wentBefore room rules start k .bytes) (a .out .now)) all ∙ ap (λ (t : Tuner). written (wentBefore room rules (begun t) n .bytes) (a .out .now)) state,
+        (
+          filled-all (λ k. heardAt room rules start k .kind) (a .answer-kinds .now) _ _ _ (l .inv .2) all ∙ ap (λ (t : Tuner). filled (λ k. heardAt room rules (begun t) k .kind) n (a .answer-kinds .now)) state,
+          filled-all (λ k. heardAt room rules start k .count) (a .answer-counts .now) _ _ _ (l .inv .3) all ∙ ap (λ (t : Tuner). filled (λ k. heardAt room rules (begun t) k .count) n (a .answer-counts .now)) state,
+          filled-all (λ k. heardAt room rules start k .channels) (a .answer-channels .now) _ _ _ (l .inv .4) all ∙ ap (λ (t : Tuner). filled (λ k. heardAt room rules (begun t) k .channels) n (a .answer-channels .now)) state,
+          l .inv .1 .sent .out-is ∙ ap (λ (k : ℕ). written (wentBefore room rules start k .bytes) (a .out .now)) all ∙ ap (λ (t : Tuner). written (wentBefore room rules (begun t) n .bytes) (a .out .now)) state,
+        ),
+        λ i. (
+          rule-smallest _ _ (pitchLists (a .pitch-keys .now) (a .pitches .now)) (pitches-fine (a .pitch-keys .now) (a .pitches .now) (λ j. c .before .before .before .before .before .before .before .before .before .before .before .before .before .before .before .before .shared-slice-known2 .given j .fits)),
+          rule-smallest _ _ (noteLists (a .note-keys .now) (a .notes .now) (a .detunings .now)) (notes-fine (a .note-keys .now) (a .notes .now) (a .detunings .now) (λ j. c .before .before .before .before .before .before .before .before .before .before .before .before .before .before .shared-slice-known4 .given j .fits) (λ j. c .before .before .before .before .before .before .before .before .before .before .before .before .before .shared-slice-known5 .given j)),
+        ),
       ),
     )
 

@@ -1,7 +1,6 @@
 -- `senders::aot::AotTuner::set_tuning` meets its contract, demand 3 included. Assumes nothing.
 use Rattle.models.specs.AotModel.{modelOf, outcomeOf}
 use Rattle.models.specs.PlanLists.{noteLists}
-use Rattle.senders.specs.Aot.{tuner}
 use Rattle.senders.proofs.PlanCalls.{notes-fine, ready, answers}
 use borrow.Author.Needs.{needs}
 use Rattle.senders.proofs.aot.AotTuner.set_tuning.Statement.{statement}
@@ -26,7 +25,7 @@ returns c =
     let m = p .before .before in
     let s = m .before .before .before .before in
     let a = s .args in
-    answers (tuner (a .self)) (a .self) _ _ _ _ (noteLists (a .keys .now) (a .notes .now) (a .detunings .now)) (outcomeOf (m .set-tuning .result)) (m .set-tuning .ensures .0) (m .set-tuning .ensures .1) (p .send .ensures)
+    answers (a .self) _ _ _ _ (noteLists (a .keys .now) (a .notes .now) (a .detunings .now)) (outcomeOf (m .set-tuning .result)) (m .set-tuning .ensures .0) (m .set-tuning .ensures .1) (p .send .ensures)
 
 pub set-tuning-spec : {M : Type 1} → statement M
 set-tuning-spec = tie.close (tie.spec set-tuning-requires send-requires same-length returns)

@@ -1,7 +1,6 @@
 -- `senders::aot::AotTuner::set_tuning_of_pitches` meets its contract, demand 3 included. Assumes nothing.
 use Rattle.models.specs.AotModel.{modelOf, outcomeOf}
 use Rattle.models.specs.PlanLists.{pitchLists}
-use Rattle.senders.specs.Aot.{tuner}
 use Rattle.senders.proofs.PlanCalls.{pitches-fine, ready, answers}
 use borrow.Author.Needs.{needs}
 use Rattle.senders.proofs.aot.AotTuner.set_tuning_of_pitches.Statement.{statement}
@@ -26,7 +25,7 @@ returns c =
     let m = p .before .before in
     let s = m .before .before .before .before in
     let a = s .args in
-    answers (tuner (a .self)) (a .self) _ _ _ _ (pitchLists (a .keys .now) (a .pitches .now)) (outcomeOf (m .set-tuning-of-pitches .result)) (m .set-tuning-of-pitches .ensures .0) (m .set-tuning-of-pitches .ensures .1) (p .send .ensures)
+    answers (a .self) _ _ _ _ (pitchLists (a .keys .now) (a .pitches .now)) (outcomeOf (m .set-tuning-of-pitches .result)) (m .set-tuning-of-pitches .ensures .0) (m .set-tuning-of-pitches .ensures .1) (p .send .ensures)
 
 pub set-tuning-of-pitches-spec : {M : Type 1} → statement M
 set-tuning-of-pitches-spec =
