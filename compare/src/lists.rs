@@ -199,7 +199,7 @@ pub fn write(folder: &Path) {
                     Some((channel, note)) => {
                         let _ = write!(answer, ", {channel} {}", note.midi_number());
                     }
-                    None => answer += " -",
+                    None => answer += ", -",
                 }
             }
             let parts: String = lines.iter().map(|(key, m, _)| format!(" {key} {m}")).collect();

@@ -1,29 +1,22 @@
 -- Calls one after the other into one lent buffer: a call more. Assumes nothing.
 use Prim.Native.Nat.{ℕ, suc, _+_, _-_, _≤_}
-use native.Mathlib.Nat.{le-of-eq}
 use native.Mathlib.Numerals.{add-one}
 use native.Mathlib.Omega.{arith}
 use mathlib.Core.Path.{_≡_, refl, sym, ap, _∙_, subst}
 use mathlib.Core.Bool.{Bool, true, false, cond}
-use mathlib.Core.List.{List, [], _++_, append-assoc, append-nil}
+use mathlib.Core.List.{List, [], _++_, append-assoc}
 use lib.Dec.{leb}
-use lib.ListN.{length, take, drop, length-append, length-drop, drop-of-length-le}
-use lib.Seq.{take-all, drop-drop, take-at, drop-at}
+use lib.ListN.{length, take, drop, length-append, length-drop}
+use lib.Seq.{drop-drop, take-at, drop-at}
 use borrow.Author.Tests.{leb-true}
 use borrow.Rule.Slice.PartMut.{putMid}
 use Rattle.arithmetic.specs.Outcome.{Outcome, value, refused}
 use Rattle.models.specs.Refusal.{bufferTooShort}
 use Rattle.senders.specs.Lent.{Effect, fitted, left, written}
 use Rattle.senders.specs.Passage.{settled}
+use Rattle.senders.proofs.Lent.{tail-part, tail-back}
 use Rattle.exports.specs.declared.message.Heard.{Heard}
 use Rattle.exports.specs.Calls.{Call, heard, Called, Went, begun, sentBy, then, callIn, wentBefore, heardAt}
-
--- the part `&mut s[at..]`, and a buffer whose part has come back
-tail-part : (l : List ℕ) (at : ℕ) → take (length l - at) (drop at l) ≡ drop at l
-tail-part l at = take-all (length l - at) (drop at l) (le-of-eq (length-drop at l))
-
-tail-back : (l ys : List ℕ) (at : ℕ) → take at l ++ (ys ++ drop (length l - at) (drop at l)) ≡ take at l ++ ys
-tail-back l ys at = rw (drop-of-length-le (drop at l) {i = length l - at} (le-of-eq (length-drop at l)), append-nil)
 
 -- ---- what a call does with the rest of a buffer
 

@@ -1,23 +1,15 @@
 -- Output that is put into a buffer behind earlier output, through a part of the buffer that runs to its end. Assumes nothing.
-use Prim.Native.Nat.{ℕ, _+_, _-_, _≤_, _<_}
-use native.Mathlib.Nat.{le-of-eq}
+use Prim.Native.Nat.{ℕ, _+_, _≤_, _<_}
 use native.Mathlib.Omega.{arith}
 use mathlib.Core.Path.{_≡_, refl, sym, _∙_, ap}
 use mathlib.Core.Bool.{Bool, true, false}
-use mathlib.Core.List.{List, _++_, append-assoc, append-nil}
-use lib.ListN.{length, take, drop, length-append, length-drop, drop-of-length-le, take-append-drop}
-use lib.Seq.{take-all, length-take-le, drop-drop, take-at, drop-at}
+use mathlib.Core.List.{List, _++_, append-assoc}
+use lib.ListN.{length, take, drop, length-append, length-drop, take-append-drop}
+use lib.Seq.{length-take-le, drop-drop, take-at, drop-at}
 use lib.Dec.{leb}
 use borrow.Author.Tests.{leb-true, leb-false}
 use Rattle.models.specs.Outcome.{value, refused}
 use Rattle.senders.specs.Lent.{written, Answers, sent}
-
--- the part `&s[w..]`, and a buffer whose part `&mut s[w..]` has come back
-pub tail-part : (l : List ℕ) (w : ℕ) → take (length l - w) (drop w l) ≡ drop w l
-tail-part l w = take-all (length l - w) (drop w l) (le-of-eq (length-drop w l))
-
-pub tail-back : (l ys : List ℕ) (w : ℕ) → take w l ++ (ys ++ drop (length l - w) (drop w l)) ≡ take w l ++ ys
-tail-back l ys w = rw (drop-of-length-le (drop w l) {i = length l - w} (le-of-eq (length-drop w l)), append-nil)
 
 -- w bytes of output at the start of a buffer, the rest kept
 pub record Filled (w : ℕ) (old new : List ℕ) : Type 0 where

@@ -11,6 +11,7 @@ use Rattle.models.specs.Outcome.{value}
 use Rattle.senders.specs.Lent.{Answers, sent, written}
 use Rattle.senders.specs.Answers.{sentAnswer}
 use Rattle.senders.specs.Jit.{Tuner, after}
+use Rattle.senders.proofs.Lent.{tail-part, tail-back}
 use Rattle.senders.specs.declared.midi.Sent.{Sent}
 use Rattle.senders.specs.declared.midi.Sent.the-variants.{Written, Refused}
 use Rattle.lines.specs.Split.{feed, First}
@@ -19,7 +20,7 @@ use Rattle.lines.specs.Session.{Session, session, Taken, nothing, stepRu
 use Rattle.lines.specs.Inner.{endedBy, longerBy, EndedBy}
 use Rattle.lines.specs.declared.step.Console.{Console}
 use Rattle.lines.specs.declared.answer.Reply.{Reply}
-use Rattle.lines.proofs.Fills.{Filled, unfilled, filled-is, tail-part, tail-back, put-length, put-refused, fill, fill-text}
+use Rattle.lines.proofs.Fills.{Filled, unfilled, filled-is, put-length, put-refused, fill, fill-text}
 use Rattle.lines.proofs.Stepping.{behind, behind-behind, Small, no-feed, no-room, line-ends}
 
 -- `at` bytes of the piece are taken and w bytes written: what a call does is that, and then what it does with the rest

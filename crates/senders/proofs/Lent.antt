@@ -1,13 +1,13 @@
--- Laws of `Put`, bytes put into a lent buffer one behind the other, and of `Steps`: the three ways a call ends. Assumes nothing.
+-- Laws of `Put`, bytes put into a lent buffer one behind the other, of a buffer's rest, and of `Steps`: the three ways a call ends. Assumes nothing.
 use mathlib.Core.Path.{_≡_, refl, sym, ap, _∙_}
 use mathlib.Core.List.{List, [], _∷_, _++_, append-assoc, append-nil}
-use Prim.Native.Nat.{ℕ, suc, _+_, _≤_, _<_}
-use native.Mathlib.Nat.{add-assoc, zero-add, add-zero}
+use Prim.Native.Nat.{ℕ, suc, _+_, _-_, _≤_, _<_}
+use native.Mathlib.Nat.{add-assoc, zero-add, add-zero, le-of-eq}
 use native.Mathlib.Numerals.{add-one}
 use native.Mathlib.Omega.{arith}
 use lib.Dec.{leb}
-use lib.ListN.{length, take, drop, getD, set, length-append, take-append-drop}
-use lib.Seq.{sets-eq, length-take-le, take-at, drop-at, drop-drop}
+use lib.ListN.{length, take, drop, getD, set, length-append, length-drop, drop-of-length-le, take-append-drop}
+use lib.Seq.{sets-eq, take-all, length-take-le, take-at, drop-at, drop-drop}
 use borrow.Author.Tests.{lt-leb, le-leb}
 use mathlib.Core.Bool.{Bool, true, false, cond}
 use Rattle.models.specs.Outcome.{Outcome, value, refused}
@@ -62,6 +62,14 @@ put-then {at} {r} {s} {xs} {ys} {l} {m} {n} p q h =
           ∙ ap (λ (x : List ℕ). placed (at + length xs) ys x) (p .new-is)
           ∙ placed-then at xs ys l h;
     }
+
+-- ---- the part `&s[w..]`, and a buffer whose part `&mut s[w..]` has come back
+
+pub tail-part : (l : List ℕ) (w : ℕ) → take (length l - w) (drop w l) ≡ drop w l
+tail-part l w = take-all (length l - w) (drop w l) (le-of-eq (length-drop w l))
+
+pub tail-back : (l ys : List ℕ) (w : ℕ) → take w l ++ (ys ++ drop (length l - w) (drop w l)) ≡ take w l ++ ys
+tail-back l ys w = rw (drop-of-length-le (drop w l) {i = length l - w} (le-of-eq (length-drop w l)), append-nil)
 
 -- ---- the three ways a call ends
 
