@@ -17,8 +17,7 @@ gaining-requires c κs = search needs
 returns : tie.Need-returns
 unfolding changed
 returns c =
-    let a = c .before .before .args in
-    (
+    let a = c .before .before .args in (
       c .gaining .ensures .0 ∙ ap (λ (s : State). gaining s (a .change .gained)) (c .before .losing .ensures .0),
       λ h. c .gaining .ensures .1 (ap (λ (x : Change). x .gained) h) ∙ c .before .losing .ensures .1 (ap (λ (x : Change). x .lost) h),
     )

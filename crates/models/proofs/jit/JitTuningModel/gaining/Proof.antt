@@ -77,10 +77,9 @@ returns c =
     let g = given c in
     let m = g .before .before .before .before .before .before .before .args .self in
     let l = g .before .gained .given in
-    let is = noted (c .before .before .before) in
-    (
+    let is = noted (c .before .before .before) in (
       rw (read-narrower (l .0 .1 .0) (note-fits (l .0 .1 .0) is))
-      (gaining-view m (l .0 .1 .0) (c .before .before .pool-of .result) (at c) (c .before .before .pool-of .ensures .1) (l .0 .0) (l .0 .1 .1 .0) (c .taken .result) (front c) is
+          (gaining-view m (l .0 .1 .0) (c .before .before .pool-of .result) (at c) (c .before .before .pool-of .ensures .1) (l .0 .0) (l .0 .1 .1 .0) (c .taken .result) (front c) is
           ∙ sym (gaining-note (view m) (l .0 .0) (l .0 .1 .0) (l .0 .1 .1 .0) is)
           ∙ ap (gaining (view m)) (sym (l .1))),
       λ h. gained-clash (sym (l .1) ∙ h),

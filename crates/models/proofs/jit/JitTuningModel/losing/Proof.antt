@@ -73,8 +73,7 @@ returns c =
     let f = c .before in
     let g = given f in
     let m = g .before .before .before .before .before .before .before .args .self in
-    let l = g .before .lost .given in
-    (
+    let l = g .before .lost .given in (
       forgetting-view m (l .0 .1 .0) (f .before .before .pool-of .result) (at f) (f .before .before .pool-of .ensures .1) (l .0 .0) (l .0 .1 .1 .0) (f .freed .result) (back f)
           ∙ sym (losing-gone (view m) (l .0 .0) (l .0 .1 .0) (l .0 .1 .1 .0) (noted (f .before .before .before)) (c .if2 .taken))
           ∙ ap (losing (view m)) (sym (l .1)),
@@ -86,8 +85,7 @@ returns-2 c =
     let f = c .before in
     let g = given f in
     let m = g .before .before .before .before .before .before .before .args .self in
-    let l = g .before .lost .given in
-    (
+    let l = g .before .lost .given in (
       losing-view m (l .0 .1 .0) (f .before .before .pool-of .result) (at f) (f .before .before .pool-of .ensures .1) (l .0 .0) (l .0 .1 .1 .0) (f .freed .result) (back f)
           ∙ sym (losing-kept (view m) (l .0 .0) (l .0 .1 .0) (l .0 .1 .1 .0) (noted (f .before .before .before)) (c .if2 .left))
           ∙ ap (losing (view m)) (sym (l .1)),

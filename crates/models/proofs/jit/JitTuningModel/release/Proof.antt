@@ -41,8 +41,7 @@ unfolding place changed gaining
 returns c =
     let a = c .before .before .before .before .args in
     let s = view (a .self) in
-    let p = at c in
-    (
+    let p = at c in (
       sym (was c),
       rw (plain c) (losing-gone s (a .key) (p .note) (p .channel) (found-note (a .self) (a .key) p (was c)) refl ∙ sym (released-found s (a .key) p (was c))),
     )

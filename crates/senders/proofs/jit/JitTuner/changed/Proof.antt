@@ -12,8 +12,7 @@ changed-requires c κs = search needs
 
 returns : tie.Need-returns
 returns c =
-    let a = c .before .args in
-    (
+    let a = c .before .args in (
       ap (withPool (tuner (a .self))) (c .changed .ensures .0),
       λ h. ap (λ (m : JitTuningModel). let t : JitTuner = record { model = m; kind = a .self .kind } in t) (c .changed .ensures .1 h),
     )
