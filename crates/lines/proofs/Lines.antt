@@ -6,17 +6,18 @@ use native.Mathlib.Omega.{arith}
 use mathlib.Core.Path.{_≡_, refl, sym, _∙_, ap}
 use mathlib.Core.Bool.{Bool, true, false, and-false}
 use mathlib.Core.List.{List, [], _∷_}
-use mathlib.Core.Option.{some, none}
+use mathlib.Core.Option.{Option, some, none}
 use lib.ListN.{length, take, drop, getD, drop-of-length-le, length-take}
 use lib.Seq.{take-all}
 use lib.Dec.{eqb, leb, lit<}
-use borrow.Author.Tests.{eq-eqb, ne-eqb, le-leb, lt-leb, leb-true, leb-false}
+use borrow.Author.Tests.{eq-eqb, ne-eqb, eqb-true, eqb-false, le-leb, lt-leb, leb-true, leb-false}
 use Rattle.models.specs.Outcome.{value, refused}
+use Rattle.models.proofs.ListLaws.{passed, failed, outcome}
 use Rattle.lines.specs.Grammar.{digits, decimal, allowed, zeros}
-use Rattle.lines.specs.Line.{same, number, event, eventOf, ofFields, meaning}
+use Rattle.lines.specs.Line.{same, kindOf, number, event, eventOf, ofFields, meaning}
 use Rattle.lines.specs.Split.{into, split}
 use Rattle.lines.specs.declared.line.Kind.{Kind}
-use Rattle.lines.proofs.Splits.{drop-step, into-none}
+use Rattle.lines.proofs.Splits.{drop-step, into-none, split-sep, split-other}
 
 -- lists of different lengths are not the same
 pub same-apart : (s t : List ℕ) → (length s ≡ length t → ⊥) → same s t ≡ false
@@ -124,6 +125,42 @@ five-fields k a m v s = rw (← into-none 44 s) (go (split 44 s))
     go : (x : List (List ℕ)) → ofFields (k ∷ a ∷ m ∷ v ∷ into [] x) ≡ refused 13
     go [] = refl
     go (f ∷ fs) = refl
+
+-- The last field with what follows it: either it is all, or there is a comma in it, and it is no number.
+data Last (l : List ℕ) : Type 0 where
+  whole : split 44 l ≡ l ∷ [] → Last l
+  parted : (f s : List ℕ) → split 44 l ≡ f ∷ split 44 s → digits l ≡ false → Last l
+
+last-of : (l : List ℕ) → Last l
+unfolding split into digits
+last-of [] = whole refl
+last-of (b ∷ l) =
+    elim (outcome (eqb b 44)) [
+      | passed e ↦ let is : b ≡ 44 = eqb-true b 44 e in parted [] l (split-sep 44 b l is) (rw is refl)
+      | failed e ↦ more (last-of l) (split-other 44 b l (eqb-false b 44 e))
+    ]
+  where
+    more : Last l → split 44 (b ∷ l) ≡ into (b ∷ []) (split 44 l) → Last (b ∷ l)
+    more (whole w) e = whole (e ∙ ap (into (b ∷ [])) w)
+    more (parted f s w d) e = parted (b ∷ f) s (e ∙ ap (into (b ∷ [])) w) (rw (d, and-false))
+
+event-unread : (k : Option Kind) (a m : Option ℕ) → eventOf k a m none ≡ refused 13
+unfolding eventOf
+event-unread none a m = refl
+event-unread (some k) none m = refl
+event-unread (some k) (some a) none = refl
+event-unread (some k) (some a) (some m) = refl
+
+pub last-field : (k a m l : List ℕ) → ofFields (k ∷ a ∷ m ∷ split 44 l) ≡ eventOf (kindOf k) (number 3 a) (number 9 m) (number 3 l)
+unfolding ofFields
+last-field k a m l = go (last-of l)
+  where
+    go : Last l → ofFields (k ∷ a ∷ m ∷ split 44 l) ≡ eventOf (kindOf k) (number 3 a) (number 9 m) (number 3 l)
+    go (whole w) = ap (λ (x : List (List ℕ)). ofFields (k ∷ a ∷ m ∷ x)) w
+    go (parted f s w d) =
+        ap (λ (x : List (List ℕ)). ofFields (k ∷ a ∷ m ∷ x)) w
+        ∙ five-fields k a m f s
+        ∙ sym (ap (eventOf (kindOf k) (number 3 a) (number 9 m)) (number-other 3 l d) ∙ event-unread (kindOf k) (number 3 a) (number 9 m))
 
 -- 65 bytes of a line decide what it means
 pub meaning-clip : (s : List ℕ) → meaning (take 65 s) ≡ meaning s

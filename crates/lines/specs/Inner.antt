@@ -27,11 +27,11 @@ unfoldable pub counted : Outcome Pressed → Outcome ℕ
 counted (value p) = value (count p)
 counted (refused n) = refused n
 
--- `step::Console::longer_by`: more bytes of a line that has begun
+-- more bytes of a line that has begun
 abbrev pub longerBy : Session → List ℕ → Session
 longerBy s more = record { tuner = s .tuner; begun = clip (s .begun ++ more) }
 
--- `step::Console::reply_behind`: a line that ends behind more bytes
+-- a line that ends behind more bytes
 abbrev pub endedBy : Session → List ℕ → Session
 endedBy s more = record { tuner = next (s .tuner) (s .begun ++ more); begun = [] }
 
@@ -41,5 +41,6 @@ pub record EndedBy (s : Session) (more old new : List ℕ) (r : Reply) : Type 0 
 
 -- `step::hold`: bytes put behind the bytes of a line that has begun, as many as there is room for
 pub record Holds (held : List ℕ) (n : ℕ) (more new : List ℕ) (r : ℕ) : Type 0 where
+  pub size : length new ≡ length held
   pub within : r ≤ length new
   pub bytes : take r new ≡ take (length held) (take n held ++ more)

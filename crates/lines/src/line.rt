@@ -48,11 +48,8 @@ pub fn parse(line: &[u8]) -> Line
     if c == tail.len() {
         return Line::Malformed;
     }
+    // A fifth field would leave a comma in the last, which is then no number.
     let last = &tail[c + 1..];
-    let d = find(last, b',');
-    if d < last.len() {
-        return Line::Malformed;
-    }
     let kind = kind_of(&line[..a]);
     let key = digits(&rest[..b], BYTE_DIGITS);
     let millihertz = digits(&tail[..c], PITCH_DIGITS);

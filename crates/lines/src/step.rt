@@ -1,18 +1,14 @@
 // Lines of the input answered as they come, whatever pieces they come in.
 
 ghost use mathlib.Core.Path.{_≡_};
-ghost use mathlib.Core.List.{[]};
 ghost use Prim.Native.Nat.{min};
 ghost use Rattle.senders.specs.Lent.{Answers};
 ghost use Rattle.senders.specs.Answers.{sentAnswer};
-ghost use Rattle.senders.specs.Jit.{after};
 ghost use Rattle.lines.specs.Session.{session, start, finishRule, Stepped};
-ghost use Rattle.lines.specs.Inner.{longerBy, EndedBy, Holds};
-use crate::answer::Reply;
+ghost use Rattle.lines.specs.Inner.{Holds};
 use crate::answer::open;
 use crate::answer::reply_to;
 use crate::line::find;
-use models::jit::Change;
 use models::refusal::BUFFER_TOO_SHORT;
 use senders::jit::JitTuner;
 use senders::midi::Sent;
@@ -51,36 +47,40 @@ impl Console {
     pub fn step(self, piece: &[u8], out: &mut [u8]) -> Step
         ensures { λ r. ⌜ Stepped (session self) (now (piece .entry)) (now (out .entry)) (now (out .exit)) r ⌝ }
     {
-        let mut console = self;
+        let mut tuner = self.tuner;
+        let mut held = self.held;
+        let mut len = self.len;
         let mut at: usize = 0;
         let mut end: usize = 0;
         while at < piece.len() {
             let rest = &piece[at..];
             let n = find(rest, b'\n');
+            len = hold(&mut held, len, &rest[..n]);
             if n == rest.len() {
                 return Step {
-                    console: console.longer_by(rest),
+                    console: Console { tuner, held, len },
                     used: at + n,
                     written: end,
                 };
             }
-            let line = &rest[..n];
-            let reply = console.reply_behind(line, &mut out[end..]);
+            let reply = reply_to(tuner, &held[..len], &mut out[end..]);
             let answer = reply.answer;
             let Sent::Written(written) = answer else {
                 return Step {
-                    console: console.longer_by(line),
+                    console: Console { tuner, held, len },
                     used: at + n,
                     written: end,
                 };
             };
             let change = reply.change;
-            console = console.ended(change);
+            let next = tuner.changed(change);
+            tuner = next;
+            len = 0;
             end += written;
             at += n + 1;
         }
         Step {
-            console,
+            console: Console { tuner, held, len },
             used: at,
             written: end,
         }
@@ -98,41 +98,6 @@ impl Console {
             return Sent::Refused(BUFFER_TOO_SHORT);
         }
         Sent::Written(step.written)
-    }
-
-    // A line ends behind more bytes: its answer, and what it changes. Refuses 10.
-    fn reply_behind(self, more: &[u8], out: &mut [u8]) -> Reply
-        ensures { λ r. ⌜ EndedBy (session self) (now (more .entry)) (now (out .entry)) (now (out .exit)) r ⌝ }
-    {
-        let tuner = self.tuner;
-        let mut held = self.held;
-        let n = self.len;
-        let len = hold(&mut held, n, more);
-        reply_to(tuner, &held[..len], out)
-    }
-
-    // The console behind a line that has ended.
-    fn ended(self, change: Change) -> Console
-        ensures { λ r. ⌜ session r ≡ record { tuner = after (session self .tuner) change; begun = [] } ⌝ }
-    {
-        let tuner = self.tuner.changed(change);
-        let held = self.held;
-        Console {
-            tuner,
-            held,
-            len: 0,
-        }
-    }
-
-    // The line that has begun has more bytes.
-    fn longer_by(self, more: &[u8]) -> Console
-        ensures { λ r. ⌜ session r ≡ longerBy (session self) (now (more .entry)) ⌝ }
-    {
-        let tuner = self.tuner;
-        let mut held = self.held;
-        let n = self.len;
-        let len = hold(&mut held, n, more);
-        Console { tuner, held, len }
     }
 }
 

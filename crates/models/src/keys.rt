@@ -1,10 +1,8 @@
 // The records of all keys: which are found, on which channel and note.
 
 ghost use mathlib.Core.Path.{_≡_};
-ghost use mathlib.Core.Bool.{true};
-ghost use mathlib.Core.Option.{some, none};
-ghost use lib.ListN.{getD, set, replicate, drop};
-ghost use Rattle.arithmetic.specs.Note.{isNote};
+ghost use mathlib.Core.Option.{none};
+ghost use lib.ListN.{getD, replicate, drop};
 ghost use Rattle.models.specs.Lists.{first};
 ghost use Rattle.models.specs.Pool.{keyCount, heldFrom};
 ghost use Rattle.models.specs.JitModel.{records, place, nextHeld};
@@ -66,33 +64,6 @@ impl Keys {
             };
         }
         AccessKeyResult::NotFound
-    }
-
-    // The key is found on this channel and note.
-    pub(crate) fn store(self, key: u8, channel: u8, note: i32) -> Keys
-        requires { ⌜ isNote note ≡ true ⌝ }
-        ensures { λ r. ⌜ records r ≡ set (records self) key (some (record { channel = channel; note = note })) ⌝ }
-    {
-        let at = key as usize;
-        let mut slots = self.slots;
-        let low = note as i16;
-        let slot = Slot { channel, note: low };
-        slots[at] = slot;
-        Keys { slots }
-    }
-
-    // The key is not found any more.
-    pub(crate) fn clear(self, key: u8) -> Keys
-        ensures { λ r. ⌜ records r ≡ set (records self) key none ⌝ }
-    {
-        let at = key as usize;
-        let mut slots = self.slots;
-        let slot = Slot {
-            channel: 0,
-            note: NO_NOTE,
-        };
-        slots[at] = slot;
-        Keys { slots }
     }
 
     // The first found key from a number on.

@@ -1,13 +1,12 @@
 -- `lines::line::parse` meets its contract: each comma found parts off one field. Assumes nothing.
 use mathlib.Core.Path.{_≡_, sym, _∙_}
 use mathlib.Core.List.{[], _∷_}
-use native.Mathlib.Nat.{le-antisymm}
 use native.Mathlib.Omega.{arith}
 use lib.ListN.{length, take}
 use lib.Seq.{length-take-le}
 use Rattle.lines.specs.Line.{meant, ofFields}
 use Rattle.lines.specs.Split.{split}
-use Rattle.lines.proofs.Lines.{meaning-long, meaning-fields, five-fields}
+use Rattle.lines.proofs.Lines.{meaning-long, meaning-fields, last-field}
 use Rattle.lines.proofs.Splits.{rest, parts-more, parts-last}
 use borrow.Author.Needs.{needs}
 use Rattle.lines.proofs.line.parse.Statement.{statement}
@@ -89,41 +88,20 @@ part-last-start c = search needs
 part-last-end : tie.Need-part-last-end
 part-last-end c = search needs
 
-find-requires-4 : tie.Need-find-requires-4
-find-requires-4 c κs = search needs
-
-returns-5 : tie.Need-returns-5
-unfolding meant
-returns-5 c =
-    let line = c .before .before .before .before .before .before .before .before .before .before .before .before .before .args .line .now in
-    let a = c .before .before .before .before .before .before .before .before .before .before .find .result in
-    let b = c .before .before .before .before .before .before .before .find2 .result in
-    let d = c .before .before .before .before .find3 .result in
-    let tail = rest (rest line a) b in
-    let last = rest tail d in
-    let e1 = parts-more (c .before .before .before .before .before .before .before .before .before .before .find .ensures) (omega arith) in
-    let e2 = parts-more (c .before .before .before .before .before .before .before .find2 .ensures) (omega arith) in
-    let e3 = parts-more (c .before .before .before .before .find3 .ensures) (omega arith) in
-    let e = c .before .find4 .result in
-    let e4 = parts-more (c .before .find4 .ensures) (c .if5 .taken) in
-    sym
-    (meaning-fields line (take a line ∷ take b (rest line a) ∷ take d tail ∷ take e last ∷ split 44 (rest last e)) (omega arith) (cc (e1, e2, e3, e4))
-    ∙ five-fields _ _ _ _ (rest last e))
-
 slice-aggregate-kind-of : tie.Need-slice-aggregate-kind-of
-slice-aggregate-kind-of c = sym (length-take-le _ _ (c .before .before .before .before .before .before .before .before .before .before .before .find .ensures .within))
+slice-aggregate-kind-of c = sym (length-take-le _ _ (c .before .before .before .before .before .before .before .before .before .find .ensures .within))
 
 kind-of-requires : tie.Need-kind-of-requires
 kind-of-requires c κs = search needs
 
 slice-aggregate-digits : tie.Need-slice-aggregate-digits
-slice-aggregate-digits c = sym (length-take-le _ _ (c .before .before .before .before .before .before .before .before .before .before .find2 .ensures .within))
+slice-aggregate-digits c = sym (length-take-le _ _ (c .before .before .before .before .before .before .before .before .find2 .ensures .within))
 
 digits-requires : tie.Need-digits-requires
 digits-requires c κs = search needs
 
 slice-aggregate-digits-2 : tie.Need-slice-aggregate-digits-2
-slice-aggregate-digits-2 c = sym (length-take-le _ _ (c .before .before .before .before .before .before .before .before .before .find3 .ensures .within))
+slice-aggregate-digits-2 c = sym (length-take-le _ _ (c .before .before .before .before .before .before .before .find3 .ensures .within))
 
 digits-requires-2 : tie.Need-digits-requires-2
 digits-requires-2 c κs = search needs
@@ -134,22 +112,20 @@ digits-requires-3 c κs = search needs
 event-requires : tie.Need-event-requires
 event-requires c κs = search needs
 
-returns-6 : tie.Need-returns-6
-unfolding ofFields
-returns-6 c =
-    let line = c .before .before .before .before .before .before .before .before .before .before .before .before .before .before .before .before .before .before .before .before .before .args .line .now in
-    let a = c .before .before .before .before .before .before .before .before .before .before .before .before .before .before .before .before .before .before .find .result in
-    let b = c .before .before .before .before .before .before .before .before .before .before .before .before .before .before .before .find2 .result in
-    let d = c .before .before .before .before .before .before .before .before .before .before .before .before .find3 .result in
+returns-5 : tie.Need-returns-5
+returns-5 c =
+    let line = c .before .before .before .before .before .before .before .before .before .before .before .before .before .before .before .before .before .before .before .args .line .now in
+    let a = c .before .before .before .before .before .before .before .before .before .before .before .before .before .before .before .before .find .result in
+    let b = c .before .before .before .before .before .before .before .before .before .before .before .before .before .find2 .result in
+    let d = c .before .before .before .before .before .before .before .before .before .before .find3 .result in
     let tail = rest (rest line a) b in
     let last = rest tail d in
-    let e1 = parts-more (c .before .before .before .before .before .before .before .before .before .before .before .before .before .before .before .before .before .before .find .ensures) (omega arith) in
-    let e2 = parts-more (c .before .before .before .before .before .before .before .before .before .before .before .before .before .before .before .find2 .ensures) (omega arith) in
-    let e3 = parts-more (c .before .before .before .before .before .before .before .before .before .before .before .before .find3 .ensures) (omega arith) in
-    let end : c .before .before .before .before .before .before .before .before .before .find4 .result ≡ length last = le-antisymm (c .before .before .before .before .before .before .before .before .before .find4 .ensures .within) (c .before .before .before .before .before .before .before .before .if5 .left) in
-    let e4 = parts-last (c .before .before .before .before .before .before .before .before .before .find4 .ensures) end in
-    let fields = meaning-fields line (take a line ∷ take b (rest line a) ∷ take d tail ∷ last ∷ []) (omega arith) (cc (e1, e2, e3, e4)) in
-    cc (fields, c .event .ensures, c .before .before .before .before .before .before .kind-of .ensures, c .before .before .before .before .digits .ensures, c .before .before .digits2 .ensures, c .before .digits3 .ensures)
+    let e1 = parts-more (c .before .before .before .before .before .before .before .before .before .before .before .before .before .before .before .before .find .ensures) (omega arith) in
+    let e2 = parts-more (c .before .before .before .before .before .before .before .before .before .before .before .before .before .find2 .ensures) (omega arith) in
+    let e3 = parts-more (c .before .before .before .before .before .before .before .before .before .before .find3 .ensures) (omega arith) in
+    let fields = meaning-fields line (take a line ∷ take b (rest line a) ∷ take d tail ∷ split 44 last) (omega arith) (cc (e1, e2, e3)) in
+    let four = last-field (take a line) (take b (rest line a)) (take d tail) last in
+    cc (fields, four, c .event .ensures, c .before .before .before .before .before .before .kind-of .ensures, c .before .before .before .before .digits .ensures, c .before .before .digits2 .ensures, c .before .digits3 .ensures)
 
 pub parse-spec : {M : Type 1} → statement M
 parse-spec =
@@ -174,8 +150,6 @@ parse-spec =
     sub-last
     part-last-start
     part-last-end
-    find-requires-4
-    returns-5
     slice-aggregate-kind-of
     kind-of-requires
     slice-aggregate-digits
@@ -184,4 +158,4 @@ parse-spec =
     digits-requires-2
     digits-requires-3
     event-requires
-    returns-6)
+    returns-5)

@@ -1,28 +1,65 @@
 -- `lines::step::Console::step` meets its contract. The invariant: what the call does is what it has taken and written, and then what it does with
 -- the rest of the piece. Assumes nothing.
-use Prim.Native.Nat.{_+_, _-_}
+use Prim.Native.Nat.{ℕ, _+_, _-_}
 use native.Mathlib.Omega.{arith}
 use mathlib.Core.Path.{_≡_, sym, _∙_, ap}
-use lib.ListN.{length, length-map, length-take, length-drop}
-use lib.Seq.{length-take-le}
+use mathlib.Core.List.{List, [], _++_}
+use lib.ListN.{length, take, drop, length-map, length-take, length-drop}
+use lib.Seq.{length-take-le, take-length}
 use borrow.Rule.Slice.PartMut.{putMid}
-use Rattle.lines.specs.Session.{session}
+use Rattle.senders.specs.Jit.{Tuner, tuner}
+use Rattle.senders.specs.declared.jit.JitTuner.{JitTuner}
+use Rattle.lines.specs.Session.{Session, session, clip}
+use Rattle.lines.specs.Inner.{longerBy, EndedBy}
+use Rattle.lines.specs.declared.step.Console.{Console}
+use Rattle.lines.proofs.Clips.{clip-clip}
+use Rattle.lines.proofs.Holds.{held-more}
+use Rattle.lines.proofs.Ends.{ended-by}
 use Rattle.lines.proofs.Progress.{Progress, starting, stopped, below, unchanged, held-up, turn, ended}
 use borrow.Author.Needs.{needs}
 use Rattle.lines.proofs.step.Console.step.Statement.{statement}
 use Rattle.lines.proofs.step.Console.step.Tie as tie
 
+-- the console of a turn
+abbrev con : JitTuner → List ℕ → ℕ → Console
+con t held len = record { tuner = t; held = held; len = len }
+
 abbrev Inv-loop : tie.InvT-loop
-Inv-loop piece out₀ console₀ at₀ end₀ out console at end = Progress (session console₀) piece out₀ (session console) at end out
+Inv-loop piece out₀ tuner₀ held₀ len₀ at₀ end₀ out tuner held len at end =
+    Progress (session (con tuner₀ held₀ len₀)) piece out₀ (session (con tuner held len)) at end out × (length held ≡ 65)
 
 abbrev μ-loop : tie.MeasureT-loop
-μ-loop piece out₀ console₀ at₀ end₀ out console at end = length piece - at
+μ-loop piece out₀ tuner₀ held₀ len₀ at₀ end₀ out tuner held len at end = length piece - at
+
+-- the rest of the piece up to its feed is held behind the line that has begun
+module _ (c : tie.After-hold Inv-loop μ-loop) where
+  abbrev old : Console
+  old = con (c .before .before .before .before .before .before .loop .tuner) (c .before .before .before .before .before .before .loop .held) (c .before .before .before .before .before .before .loop .len)
+
+  abbrev more : List ℕ
+  more = take (c .before .before .before .find .result) (take (length (c .before .before .before .before .before .before .before .before .before .before .before .args .piece .now) - c .before .before .before .before .before .before .loop .at) (drop (c .before .before .before .before .before .before .loop .at) (c .before .before .before .before .before .before .before .before .before .before .before .args .piece .now)))
+
+  abbrev new : Console
+  new = con (c .before .before .before .before .before .before .loop .tuner) (c .hold .last .0) (c .hold .result)
+
+  kept : take (c .hold .result) (c .hold .last .0) ≡ clip (take (old .len) (old .held) ++ more)
+  kept = held-more (c .before .before .before .before .before .before .loop .inv .1) (c .hold .ensures)
+
+  longer : session new ≡ longerBy (session old) more
+  longer = ap (λ (l : List ℕ). let s : Session = record { tuner = tuner (old .tuner); begun = l } in s) kept
+
+-- the line is answered
+ends : (c : tie.After-reply-to Inv-loop μ-loop) → let h = c .before .before .before .before .before in
+    EndedBy (session (old h)) (more h) (take (length (h .before .before .before .before .before .before .loop .out) - h .before .before .before .before .before .before .loop .«end») (drop (h .before .before .before .before .before .before .loop .«end») (h .before .before .before .before .before .before .loop .out))) (c .reply-to .last .1 .1 .0) (c .reply-to .result)
+ends c =
+    let h = c .before .before .before .before .before in
+    ended-by (old h) (take (h .hold .result) (h .hold .last .0)) (more h) (c .reply-to .result) (ap clip (kept h) ∙ clip-clip (take (old h .len) (old h .held) ++ more h)) (c .reply-to .ensures)
 
 loop-holds : tie.Need-loop-holds Inv-loop μ-loop
 loop-holds c =
-    let con = c .before .before .args .self in
-    let full : length (con .held) ≡ 65 = sym (length-map (con .held) (λ v. v)) ∙ c .before .before .good .0 .1 .1 .1 .0 .1 .0 .1 in
-    starting (session con) (c .before .before .args .piece .now) (c .before .before .args .out .now) (omega (arith, length-take (con .len) (con .held)))
+    let a = c .before .before .before .before .args in
+    let full : length (a .self .held) ≡ 65 = sym (length-map (a .self .held) (λ v. v)) ∙ c .before .before .before .before .good .0 .1 .1 .1 .0 .1 .0 .1 in
+    (starting (session (a .self)) (a .piece .now) (a .out .now) (omega (arith, length-take (a .self .len) (a .self .held))), full)
 
 sub-rest : tie.Need-sub-rest Inv-loop μ-loop
 sub-rest c = omega arith
@@ -36,32 +73,46 @@ part-rest-end c = omega arith
 find-requires : tie.Need-find-requires Inv-loop μ-loop
 find-requires c κs = tt
 
-longer-by-requires : tie.Need-longer-by-requires Inv-loop μ-loop
-longer-by-requires c κs = tt
+slice-aggregate-hold : tie.Need-slice-aggregate-hold Inv-loop μ-loop
+slice-aggregate-hold c = sym (c .before .before .before .before .loop .inv .1)
 
-add-t19 : tie.Need-add-t19 Inv-loop μ-loop
-add-t19 c = omega (arith, c .before .before .find .ensures .within)
+slice-aggregate-hold-2 : tie.Need-slice-aggregate-hold-2 Inv-loop μ-loop
+slice-aggregate-hold-2 c = sym (length-take-le _ _ (c .before .before .find .ensures .within))
+
+hold-requires : tie.Need-hold-requires Inv-loop μ-loop
+hold-requires c κs = tt
+
+add-t26 : tie.Need-add-t26 Inv-loop μ-loop
+add-t26 c = omega (arith, c .before .before .before .before .before .find .ensures .within, c .before .before .before .before .before .before .before .before .before .before .before .before .before .good)
 
 same-length : tie.Need-same-length Inv-loop μ-loop
-same-length c = c .before .before .before .before .before .loop .inv .buffer .size
+same-length c = c .before .before .before .before .before .before .before .before .loop .inv .0 .buffer .size
 
 returns : tie.Need-returns Inv-loop μ-loop
-returns c = stopped (c .before .before .before .before .before .loop .console) (c .before .before .before .before .before .loop .inv) (c .before .before .find .ensures) (c .longer-by .result) (c .before .if1 .taken) (c .longer-by .ensures)
+returns c =
+    let h = c .before .before in
+    let l = c .before .before .before .before .before .before .before .before in
+    let rest = take (length (c .before .before .before .before .before .before .before .before .before .before .before .before .before .args .piece .now) - l .loop .at) (drop (l .loop .at) (c .before .before .before .before .before .before .before .before .before .before .before .before .before .args .piece .now)) in
+    let all : more h ≡ rest = ap (λ (k : ℕ). take k rest) (c .if1 .taken) ∙ take-length rest in
+    stopped (old h) (l .loop .inv .0) (c .before .before .before .before .before .find .ensures) (new h) (c .if1 .taken) (longer h ∙ ap (longerBy (session (old h))) all)
 
-slice-aggregate-line : tie.Need-slice-aggregate-line Inv-loop μ-loop
-slice-aggregate-line c = sym (length-take-le _ _ (c .before .before .find .ensures .within))
+array-share-prefix-held : tie.Need-array-share-prefix-held Inv-loop μ-loop
+array-share-prefix-held c = search needs
 
-sub-reply-behind : tie.Need-sub-reply-behind Inv-loop μ-loop
-sub-reply-behind c = c .before .before .before .before .before .loop .inv .buffer .within
+slice-aggregate-reply-to : tie.Need-slice-aggregate-reply-to Inv-loop μ-loop
+slice-aggregate-reply-to c = sym (length-take-le _ _ (c .before .before .before .hold .ensures .within))
 
-part-reply-behind-start : tie.Need-part-reply-behind-start Inv-loop μ-loop
-part-reply-behind-start c = c .before .before .before .before .before .loop .inv .buffer .within
+sub-reply-to : tie.Need-sub-reply-to Inv-loop μ-loop
+sub-reply-to c = c .before .before .before .before .before .before .before .before .before .loop .inv .0 .buffer .within
 
-part-reply-behind-end : tie.Need-part-reply-behind-end Inv-loop μ-loop
-part-reply-behind-end c = omega arith
+part-reply-to-start : tie.Need-part-reply-to-start Inv-loop μ-loop
+part-reply-to-start c = c .before .before .before .before .before .before .before .before .before .loop .inv .0 .buffer .within
 
-reply-behind-requires : tie.Need-reply-behind-requires Inv-loop μ-loop
-reply-behind-requires c κs = tt
+part-reply-to-end : tie.Need-part-reply-to-end Inv-loop μ-loop
+part-reply-to-end c = omega arith
+
+reply-to-requires : tie.Need-reply-to-requires Inv-loop μ-loop
+reply-to-requires c κs = tt
 
 enum-known-answer : tie.Need-enum-known-answer Inv-loop μ-loop
 enum-known-answer c = search needs
@@ -69,52 +120,57 @@ enum-known-answer c = search needs
 enum-told : tie.Need-enum-told Inv-loop μ-loop
 enum-told c = search needs
 
-longer-by-requires-2 : tie.Need-longer-by-requires-2 Inv-loop μ-loop
-longer-by-requires-2 c κs = tt
-
-add-t25 : tie.Need-add-t25 Inv-loop μ-loop
-add-t25 c = omega (arith, below (c .before .before .before .before .before .before .before .before .before .before .before .before .loop .console) (c .before .before .before .before .before .before .before .before .before .before .before .before .loop .inv) (c .before .before .before .before .before .before .before .before .before .find .ensures) (c .before .before .before .before .before .before .before .before .if1 .left) (c .before .before .before .before .before .reply-behind .ensures), length-drop (c .before .before .before .before .before .before .before .before .before .before .before .before .loop .at) (c .before .before .before .before .before .before .before .before .before .before .before .before .before .before .before .args .piece .now), c .before .before .before .before .before .before .before .before .before .before .before .before .loop .inv .within, c .before .before .before .before .before .before .before .before .before .before .before .before .before .before .before .good)
+add-t34 : tie.Need-add-t34 Inv-loop μ-loop
+add-t34 c =
+    let l = c .before .before .before .before .before .before .before .before .before .before .before .before .before .before .before in
+    omega (arith, below (old (c .before .before .before .before .before .before .before .before .before)) (l .loop .inv .0) (c .before .before .before .before .before .before .before .before .before .before .before .before .find .ensures) (c .before .before .before .before .before .before .before .if1 .left) (ends (c .before .before .before .before)), length-drop (l .loop .at) (c .before .before .before .before .before .before .before .before .before .before .before .before .before .before .before .before .before .before .before .before .args .piece .now), l .loop .inv .0 .within, c .before .before .before .before .before .before .before .before .before .before .before .before .before .before .before .before .before .before .before .before .good)
 
 same-length-2 : tie.Need-same-length-2 Inv-loop μ-loop
-same-length-2 c = ap length (unchanged (c .before .before .before .before .before .before .before .before .before .before .before .before .loop .console) (c .before .before .before .before .before .before .before .before .before .before .before .before .loop .inv) (c .before .before .before .before .before .before .before .before .before .find .ensures) (c .before .before .before .before .before .before .before .before .if1 .left) (c .before .before .before .before .before .reply-behind .ensures) (c .before .enum-told .given .1)) ∙ c .before .before .before .before .before .before .before .before .before .before .before .before .loop .inv .buffer .size
+same-length-2 c =
+    let l = c .before .before .before .before .before .before .before .before .before .before .before .before .before .before .before in
+    ap length (unchanged (old (c .before .before .before .before .before .before .before .before .before)) (l .loop .inv .0) (c .before .before .before .before .before .before .before .before .before .before .before .before .find .ensures) (c .before .before .before .before .before .before .before .if1 .left) (ends (c .before .before .before .before)) (c .enum-told .given .1)) ∙ l .loop .inv .0 .buffer .size
 
 returns-2 : tie.Need-returns-2 Inv-loop μ-loop
-returns-2 c = held-up (c .before .before .before .before .before .before .before .before .before .before .before .before .loop .console) (c .before .before .before .before .before .before .before .before .before .before .before .before .loop .inv) (c .before .before .before .before .before .before .before .before .before .find .ensures) (c .before .before .before .before .before .before .before .before .if1 .left) (c .before .before .before .before .before .reply-behind .ensures) (c .longer-by2 .result) (c .before .enum-told .given .1) (c .longer-by2 .ensures)
+returns-2 c =
+    let h = c .before .before .before .before .before .before .before .before .before in
+    held-up (old h) (c .before .before .before .before .before .before .before .before .before .before .before .before .before .before .before .loop .inv .0) (c .before .before .before .before .before .before .before .before .before .before .before .before .find .ensures) (c .before .before .before .before .before .before .before .if1 .left) (ends (c .before .before .before .before)) (new h) (c .enum-told .given .1) (longer h)
 
-ended-requires : tie.Need-ended-requires Inv-loop μ-loop
-ended-requires c κs = tt
+changed-requires : tie.Need-changed-requires Inv-loop μ-loop
+changed-requires c κs = tt
 
-turned : (c : tie.After-ended Inv-loop μ-loop)
-    → let at-loop = c .before .before .before .before .before .before .before .before .before .before .before .before .before .before in
-    let a = c .before .before .before .before .before .before .before .before .before .before .before .before .before .before .before .before .before .args in
-    let w = at-loop .loop .«end» in
+turned : (c : tie.After-changed Inv-loop μ-loop)
+    → let l = c .before .before .before .before .before .before .before .before .before .before .before .before .before .before .before .before .before .before in
+    let a = c .before .before .before .before .before .before .before .before .before .before .before .before .before .before .before .before .before .before .before .before .before .before .before .args in
+    let w = l .loop .«end» in
     Progress (session (a .self)) (a .piece .now) (a .out .now)
-    (session (c .ended .result))
-    (at-loop .loop .at + (c .before .before .before .before .before .before .before .before .before .before .before .find .result + 1))
+    (session (con (c .changed .result) (c .before .before .before .before .before .before .before .before .before .before .before .before .hold .last .0) 0))
+    (l .loop .at + (c .before .before .before .before .before .before .before .before .before .before .before .before .before .before .before .find .result + 1))
     (w + c .before .before .before .answer .given .0 .0)
-    (putMid w (length (at-loop .loop .out) - w) (at-loop .loop .out) (c .before .before .before .before .before .before .before .reply-behind .last .1 .1 .0))
-turned c = turn (c .before .before .before .before .before .before .before .before .before .before .before .before .before .before .loop .console) (c .before .before .before .before .before .before .before .before .before .before .before .before .before .before .loop .inv) (c .before .before .before .before .before .before .before .before .before .before .before .find .ensures) (c .before .before .before .before .before .before .before .before .before .before .if1 .left) (c .before .before .before .before .before .before .before .reply-behind .ensures) (c .ended .result) (c .before .before .before .answer .given .1) (c .ended .ensures)
+    (putMid w (length (l .loop .out) - w) (l .loop .out) (c .before .before .before .before .before .before .before .reply-to .last .1 .1 .0))
+turned c =
+    turn (old (c .before .before .before .before .before .before .before .before .before .before .before .before)) (c .before .before .before .before .before .before .before .before .before .before .before .before .before .before .before .before .before .before .loop .inv .0) (c .before .before .before .before .before .before .before .before .before .before .before .before .before .before .before .find .ensures) (c .before .before .before .before .before .before .before .before .before .before .if1 .left) (ends (c .before .before .before .before .before .before .before)) (con (c .changed .result) (c .before .before .before .before .before .before .before .before .before .before .before .before .hold .last .0) 0) (c .before .before .before .answer .given .1)
+    (ap (λ (t : Tuner). let s : Session = record { tuner = t; begun = [] } in s) (c .changed .ensures .0))
 
 add-end : tie.Need-add-end Inv-loop μ-loop
-add-end c = omega (arith, turned c .buffer .within, turned c .buffer .size, c .before .before .before .before .before .before .before .before .before .before .before .before .before .before .before .before .before .good)
+add-end c = omega (arith, turned c .buffer .within, turned c .buffer .size, c .before .before .before .before .before .before .before .before .before .before .before .before .before .before .before .before .before .before .before .before .before .before .before .good)
 
 add-at : tie.Need-add-at Inv-loop μ-loop
-add-at c = omega (arith, turned c .within, c .before .before .before .before .before .before .before .before .before .before .before .before .before .before .before .before .before .good)
+add-at c = omega (arith, turned c .within, c .before .before .before .before .before .before .before .before .before .before .before .before .before .before .before .before .before .before .before .before .before .before .before .good)
 
 add-at-2 : tie.Need-add-at-2 Inv-loop μ-loop
-add-at-2 c = omega (arith, turned c .within, c .before .before .before .before .before .before .before .before .before .before .before .before .before .before .before .before .before .good)
+add-at-2 c = omega (arith, turned c .within, c .before .before .before .before .before .before .before .before .before .before .before .before .before .before .before .before .before .before .before .before .before .before .before .good)
 
 loop-less : tie.Need-loop-less Inv-loop μ-loop
 loop-less c = omega (arith, turned c .within)
 
 loop-again : tie.Need-loop-again Inv-loop μ-loop
-loop-again c = turned c
+loop-again c = (turned c, c .before .before .before .before .before .before .before .before .before .before .before .before .hold .ensures .size ∙ c .before .before .before .before .before .before .before .before .before .before .before .before .before .before .before .before .before .before .loop .inv .1)
 
 same-length-3 : tie.Need-same-length-3 Inv-loop μ-loop
-same-length-3 c = c .before .loop .inv .buffer .size
+same-length-3 c = c .before .loop .inv .0 .buffer .size
 
 returns-3 : tie.Need-returns-3 Inv-loop μ-loop
-returns-3 c = ended (c .before .loop .console) (c .before .loop .inv) (c .loop-test .left)
+returns-3 c = ended (con (c .before .loop .tuner) (c .before .loop .held) (c .before .loop .len)) (c .before .loop .inv .0) (c .loop-test .left)
 
 pub step-spec : {M : Type 1} → statement M
 step-spec =
@@ -127,22 +183,24 @@ step-spec =
     part-rest-start
     part-rest-end
     find-requires
-    longer-by-requires
-    add-t19
+    slice-aggregate-hold
+    slice-aggregate-hold-2
+    hold-requires
+    add-t26
     same-length
     returns
-    slice-aggregate-line
-    sub-reply-behind
-    part-reply-behind-start
-    part-reply-behind-end
-    reply-behind-requires
+    array-share-prefix-held
+    slice-aggregate-reply-to
+    sub-reply-to
+    part-reply-to-start
+    part-reply-to-end
+    reply-to-requires
     enum-known-answer
     enum-told
-    longer-by-requires-2
-    add-t25
+    add-t34
     same-length-2
     returns-2
-    ended-requires
+    changed-requires
     add-end
     add-at
     add-at-2

@@ -1,12 +1,10 @@
 -- `jit::JitTuningModel::pool` meets its contract: the pool of a note is one of those that the view has. Assumes nothing.
 use borrow.Author.Needs.{needs}
-use mathlib.Core.Path.{sym, ap, _∙_}
-use mathlib.Core.List.{map}
-use lib.ListN.{getD, take, List·getD-map}
-use lib.Seq.{getD-take}
+use mathlib.Core.Path.{refl, ap, _∙_}
 use mir.Facts.{toZ-ofZ}
-use Rattle.models.specs.Pool.{pool, poolOf, poolCount, emptyPool}
-use Rattle.models.specs.JitModel.{view, poolView, items}
+use Rattle.models.specs.Pool.{poolOf}
+use Rattle.models.specs.JitModel.{poolView, items}
+use Rattle.models.proofs.Changes.{pool-here}
 use Rattle.models.proofs.jit.JitTuningModel.pool.Statement.{statement}
 use Rattle.models.proofs.jit.JitTuningModel.pool.Tie as tie
 
@@ -20,16 +18,12 @@ array-copy-out-result : tie.Need-array-copy-out-result
 array-copy-out-result c = search needs
 
 returns : tie.Need-returns
-unfolding view pool poolView items
+unfolding poolView items
 returns c =
     let start = c .before .before .before in
-    let m = start .args .self in
     let of = c .before .before .pool-of in
-    let at = of .ensures .0 ∙ ap (poolOf _) (toZ-ofZ (start .fits .note)) in
-    sym
-    (ap (λ i. getD (take (poolCount (m .«group_by»)) (map poolView (m .pools))) i emptyPool) (sym at)
-    ∙ getD-take (poolCount (m .«group_by»)) (map poolView (m .pools)) (of .result) emptyPool (of .ensures .1)
-    ∙ List·getD-map poolView (m .pools) (of .result) _)
+    let note = start .args .note in
+    pool-here (start .args .self) note (of .result) (of .ensures .0 ∙ ap (poolOf _) (toZ-ofZ (start .fits .note))) (of .ensures .1) _ refl
 
 pub pool-spec : {M : Type 1} → statement M
 pool-spec = tie.close (tie.spec pool-of-requires mul-result array-copy-out-result returns)
