@@ -3,6 +3,7 @@ use Prim.Native.Nat.{ℕ, _+_, _-_, _≤_, _<_}
 use native.Mathlib.Nat.{zero-add, add-zero, sub-zero}
 use native.Mathlib.Omega.{arith}
 use mathlib.Core.Path.{_≡_, refl, sym, _∙_, ap, subst}
+use mathlib.Core.Bool.{true, _&&_}
 use mathlib.Core.List.{List, [], _++_, append-nil}
 use lib.ListN.{length, take, drop, length-drop, drop-of-length-le, take-append-drop}
 use lib.Seq.{drop-drop, length-take-le, take-length}
@@ -10,7 +11,11 @@ use borrow.Rule.Slice.PartMut.{putMid}
 use Rattle.models.specs.Outcome.{value}
 use Rattle.senders.specs.Lent.{Answers, sent, written}
 use Rattle.senders.specs.Answers.{sentAnswer}
-use Rattle.senders.specs.Jit.{Tuner, after}
+use Rattle.models.specs.Change.{losing, gaining, changed, noLoss, noGain, isNone}
+use Rattle.models.specs.declared.jit.Change.{Change}
+use Rattle.models.specs.declared.jit.Lost as L
+use Rattle.models.specs.declared.jit.Gained as G
+use Rattle.senders.specs.Jit.{Tuner, after, withPool}
 use Rattle.senders.proofs.Lent.{tail-part, tail-back}
 use Rattle.senders.specs.declared.midi.Sent.{Sent}
 use Rattle.senders.specs.declared.midi.Sent.the-variants.{Written, Refused}
@@ -22,6 +27,16 @@ use Rattle.lines.specs.declared.step.Console.{Console}
 use Rattle.lines.specs.declared.answer.Reply.{Reply}
 use Rattle.lines.proofs.Fills.{Filled, unfilled, filled-is, put-length, put-refused, fill, fill-text}
 use Rattle.lines.proofs.Stepping.{behind, behind-behind, Small, no-feed, no-room, line-ends}
+
+-- a change that is none leaves the tuner
+pub none-after : (t : Tuner) (c : Change) → isNone c ≡ true → t ≡ after t c
+unfolding changed losing gaining
+none-after t c e = by (c .lost) (c .gained) e
+  where
+    by : (l : L.Lost) (g : G.Gained) → noLoss l && noGain g ≡ true → t ≡ withPool t (gaining (losing (t .pool) l) g)
+    by L.the-variants.Nothing G.the-variants.Nothing e = refl
+    by L.the-variants.Nothing (G.the-variants.Channel k n ch) e = let z : _≡_ {A = ℕ} 0 1 = cc in absurd (omega arith)
+    by (L.the-variants.Channel k n ch gone) g e = let z : _≡_ {A = ℕ} 0 1 = cc in absurd (omega arith)
 
 -- `at` bytes of the piece are taken and w bytes written: what a call does is that, and then what it does with the rest
 pub record Progress (s₀ : Session) (piece old : List ℕ) (s : Session) (at w : ℕ) (out : List ℕ) : Type 0 where
@@ -115,15 +130,15 @@ module _ {s₀ : Session} {piece old out : List ℕ} (con : Console) {at w n : �
         (b ∙ ap (longerBy (session con)) line-is))
 
     -- it was written
-    pub turn : {k : ℕ} (back : Console) → r .answer ≡ Written k → session back ≡ record { tuner = after (session con .tuner) (r .change); begun = [] }
-        → Progress s₀ piece old (session back) (at + (n + 1)) (w + k) (putMid w (length out - w) out ys)
+    pub turn : {k : ℕ} (back : Session) → r .answer ≡ Written k → back ≡ record { tuner = after (session con .tuner) (r .change); begun = [] }
+        → Progress s₀ piece old (back) (at + (n + 1)) (w + k) (putMid w (length out - w) out ys)
     turn {k} back q is =
         let line = take n (drop at piece) in
         let text = answer (session con .tuner) (session con .begun ++ line) in
         let u : Answers (sent text) (drop w out) (value k) ys = subst (λ (a : Sent). Answers (sent text) (drop w out) (sentAnswer a) ys) q shown in
         let z = put-length text (drop w out) ys k u in
         let b : putMid w (length out - w) out ys ≡ take w out ++ ys = tail-back out ys w in
-        let ends : session back ≡ endedBy (session con) line = is ∙ ap (λ (t : Tuner). record { tuner = t; begun = [] }) (e .session-is q) ∙ ap (endedBy (session con)) line-is in
+        let ends : back ≡ endedBy (session con) line = is ∙ ap (λ (t : Tuner). record { tuner = t; begun = [] }) (e .session-is q) ∙ ap (endedBy (session con)) line-is in
         let room : length text ≤ length old - w = omega (arith, z .2, length-drop w out, p .buffer .size) in
         let left : length old - w - length text ≡ length old - (w + k) = omega (arith, z .0) in
         let more : drop (n + 1) (drop at piece) ≡ drop (at + (n + 1)) piece = drop-drop (n + 1) at piece in

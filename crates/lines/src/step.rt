@@ -72,12 +72,15 @@ impl Console {
                     written: end,
                 };
             };
-            let change = reply.change;
-            let next = tuner.changed(change);
-            tuner = next;
             len = 0;
             end += written;
             at += n + 1;
+            let change = reply.change;
+            if change.is_none() {
+                continue;
+            }
+            let next = tuner.changed(change);
+            tuner = next;
         }
         Step {
             console: Console { tuner, held, len },

@@ -1,5 +1,5 @@
 -- What a press or a release changes in a state (`jit::Change`), by the changes of the rules. A number that is no note changes nothing. Assumes nothing.
-use mathlib.Core.Bool.{cond}
+use mathlib.Core.Bool.{Bool, true, false, cond, _&&_}
 use Rattle.arithmetic.specs.Outcome.{Outcome}
 use Rattle.arithmetic.specs.Note.{isNote}
 use Rattle.models.specs.Pool.{State, Press, freed, forgotten, taken}
@@ -26,6 +26,17 @@ changed s c = gaining (losing s (c .lost)) (c .gained)
 
 abbrev pub noChange : Change
 noChange = record { lost = L.the-variants.Nothing; gained = G.the-variants.Nothing }
+
+abbrev pub noLoss : L.Lost → Bool
+noLoss (L.the-variants.Channel key note channel gone) = false
+noLoss L.the-variants.Nothing = true
+
+abbrev pub noGain : G.Gained → Bool
+noGain (G.the-variants.Channel key note channel) = false
+noGain G.the-variants.Nothing = true
+
+abbrev pub isNone : Change → Bool
+isNone c = noLoss (c .lost) && noGain (c .gained)
 
 -- what a press answers, and the state after it
 unfoldable pub pressing : State → Pressing → Outcome Press × State

@@ -12,7 +12,7 @@ ghost use Rattle.models.specs.Lists.{upward, first};
 ghost use Rattle.models.specs.ChannelList.{entries};
 ghost use Rattle.models.specs.Pool.{poolCount, poolOf, fresh, pool, found, takenIn, freedIn, oldestOf, rejected, pressed, released, heldKeys, stopped, replied, unlessHeld, registerRule, repitchRule, openRule};
 ghost use Rattle.models.specs.JitModel.{place, nextHeld, poolView, view, press, told, repitched, opened};
-ghost use Rattle.models.specs.Change.{losing, gaining, changed, noChange, pressing};
+ghost use Rattle.models.specs.Change.{losing, gaining, changed, noChange, isNone, pressing};
 ghost use Rattle.models.specs.PoolInside.{old};
 use crate::channels::ChannelList;
 use crate::channels::ChannelsAnswer;
@@ -527,6 +527,21 @@ impl Change {
         let lost = Lost::Nothing;
         let gained = Gained::Nothing;
         Change { lost, gained }
+    }
+
+    // Whether it changes nothing.
+    pub fn is_none(self) -> bool
+        ensures { λ r. ⌜ r ≡ isNone self ⌝ }
+    {
+        let lost = self.lost;
+        let gained = self.gained;
+        let Lost::Nothing = lost else {
+            return false;
+        };
+        let Gained::Nothing = gained else {
+            return false;
+        };
+        true
     }
 }
 

@@ -2,12 +2,12 @@
 -- the rest of the piece. Assumes nothing.
 use Prim.Native.Nat.{ℕ, _+_, _-_}
 use native.Mathlib.Omega.{arith}
-use mathlib.Core.Path.{_≡_, sym, _∙_, ap}
+use mathlib.Core.Path.{_≡_, refl, sym, _∙_, ap}
 use mathlib.Core.List.{List, [], _++_}
 use lib.ListN.{length, take, drop, length-map, length-take, length-drop}
 use lib.Seq.{length-take-le, take-length}
 use borrow.Rule.Slice.PartMut.{putMid}
-use Rattle.senders.specs.Jit.{Tuner, tuner}
+use Rattle.senders.specs.Jit.{Tuner, tuner, after}
 use Rattle.senders.specs.declared.jit.JitTuner.{JitTuner}
 use Rattle.lines.specs.Session.{Session, session, clip}
 use Rattle.lines.specs.Inner.{longerBy, EndedBy}
@@ -15,7 +15,7 @@ use Rattle.lines.specs.declared.step.Console.{Console}
 use Rattle.lines.proofs.Clips.{clip-clip}
 use Rattle.lines.proofs.Holds.{held-more}
 use Rattle.lines.proofs.Ends.{ended-by}
-use Rattle.lines.proofs.Progress.{Progress, starting, stopped, below, unchanged, held-up, turn, ended}
+use Rattle.lines.proofs.Progress.{Progress, starting, stopped, below, unchanged, held-up, turn, ended, none-after}
 use borrow.Author.Needs.{needs}
 use Rattle.lines.proofs.step.Console.step.Statement.{statement}
 use Rattle.lines.proofs.step.Console.step.Tie as tie
@@ -135,36 +135,63 @@ returns-2 c =
     let h = c .before .before .before .before .before .before .before .before .before in
     held-up (old h) (c .before .before .before .before .before .before .before .before .before .before .before .before .before .before .before .loop .inv .0) (c .before .before .before .before .before .before .before .before .before .before .before .before .find .ensures) (c .before .before .before .before .before .before .before .if1 .left) (ends (c .before .before .before .before)) (new h) (c .enum-told .given .1) (longer h)
 
+-- the line is answered and used; `next` is what the tuner then is
+module _ (c : tie.After-known-told Inv-loop μ-loop) where
+  abbrev held-behind : List ℕ
+  held-behind = c .before .before .before .before .before .before .before .before .before .before .hold .last .0
+
+  abbrev was : JitTuner
+  was = c .before .before .before .before .before .before .before .before .before .before .before .before .before .before .before .before .loop .tuner
+
+  abbrev then : Tuner
+  then = after (tuner was) (c .before .before .before .before .before .reply-to .result .change)
+
+  abbrev Turned : Tuner → Type 0
+  Turned next =
+      let l = c .before .before .before .before .before .before .before .before .before .before .before .before .before .before .before .before in
+      let w = l .loop .«end» in
+      Progress (session (c .before .before .before .before .before .before .before .before .before .before .before .before .before .before .before .before .before .before .before .before .before .args .self)) (c .before .before .before .before .before .before .before .before .before .before .before .before .before .before .before .before .before .before .before .before .before .args .piece .now) (c .before .before .before .before .before .before .before .before .before .before .before .before .before .before .before .before .before .before .before .before .before .args .out .now) (record { tuner = next; begun = [] })
+      (l .loop .at + (c .before .before .before .before .before .before .before .before .before .before .before .before .before .find .result + 1)) (w + c .before .answer .given .0 .0)
+      (putMid w (length (l .loop .out) - w) (l .loop .out) (c .before .before .before .before .before .reply-to .last .1 .1 .0))
+
+  turned : (next : Tuner) → next ≡ then → Turned next
+  turned next e =
+      turn (old (c .before .before .before .before .before .before .before .before .before .before)) (c .before .before .before .before .before .before .before .before .before .before .before .before .before .before .before .before .loop .inv .0) (c .before .before .before .before .before .before .before .before .before .before .before .before .before .find .ensures) (c .before .before .before .before .before .before .before .before .if1 .left) (ends (c .before .before .before .before .before)) (record { tuner = next; begun = [] }) (c .before .answer .given .1)
+      (ap (λ (t : Tuner). let s : Session = record { tuner = t; begun = [] } in s) e)
+
+  -- how far it goes, whatever the tuner then is
+  along : Turned then
+  along = turned then refl
+
+  same-held : length held-behind ≡ 65
+  same-held = c .before .before .before .before .before .before .before .before .before .before .hold .ensures .size ∙ c .before .before .before .before .before .before .before .before .before .before .before .before .before .before .before .before .loop .inv .1
+
+add-end : tie.Need-add-end Inv-loop μ-loop
+add-end c = omega (arith, along c .buffer .within, along c .buffer .size, c .before .before .before .before .before .before .before .before .before .before .before .before .before .before .before .before .before .before .before .before .before .good)
+
+add-at : tie.Need-add-at Inv-loop μ-loop
+add-at c = omega (arith, along c .within, c .before .before .before .before .before .before .before .before .before .before .before .before .before .before .before .before .before .before .before .before .before .good)
+
+add-at-2 : tie.Need-add-at-2 Inv-loop μ-loop
+add-at-2 c = omega (arith, along c .within, c .before .before .before .before .before .before .before .before .before .before .before .before .before .before .before .before .before .before .before .before .before .good)
+
+is-none-requires : tie.Need-is-none-requires Inv-loop μ-loop
+is-none-requires c κs = tt
+
+loop-less : tie.Need-loop-less Inv-loop μ-loop
+loop-less c = omega (arith, along (c .before .before .before) .within)
+
+loop-again : tie.Need-loop-again Inv-loop μ-loop
+loop-again c = (turned (c .before .before .before) (tuner (was (c .before .before .before))) (none-after _ _ (sym (c .before .is-none .ensures) ∙ c .if2 .taken)), same-held (c .before .before .before))
+
 changed-requires : tie.Need-changed-requires Inv-loop μ-loop
 changed-requires c κs = tt
 
-turned : (c : tie.After-changed Inv-loop μ-loop)
-    → let l = c .before .before .before .before .before .before .before .before .before .before .before .before .before .before .before .before .before .before in
-    let a = c .before .before .before .before .before .before .before .before .before .before .before .before .before .before .before .before .before .before .before .before .before .before .before .args in
-    let w = l .loop .«end» in
-    Progress (session (a .self)) (a .piece .now) (a .out .now)
-    (session (con (c .changed .result) (c .before .before .before .before .before .before .before .before .before .before .before .before .hold .last .0) 0))
-    (l .loop .at + (c .before .before .before .before .before .before .before .before .before .before .before .before .before .before .before .find .result + 1))
-    (w + c .before .before .before .answer .given .0 .0)
-    (putMid w (length (l .loop .out) - w) (l .loop .out) (c .before .before .before .before .before .before .before .reply-to .last .1 .1 .0))
-turned c =
-    turn (old (c .before .before .before .before .before .before .before .before .before .before .before .before)) (c .before .before .before .before .before .before .before .before .before .before .before .before .before .before .before .before .before .before .loop .inv .0) (c .before .before .before .before .before .before .before .before .before .before .before .before .before .before .before .find .ensures) (c .before .before .before .before .before .before .before .before .before .before .if1 .left) (ends (c .before .before .before .before .before .before .before)) (con (c .changed .result) (c .before .before .before .before .before .before .before .before .before .before .before .before .hold .last .0) 0) (c .before .before .before .answer .given .1)
-    (ap (λ (t : Tuner). let s : Session = record { tuner = t; begun = [] } in s) (c .changed .ensures .0))
+loop-less-2 : tie.Need-loop-less-2 Inv-loop μ-loop
+loop-less-2 c = omega (arith, along (c .before .before .before .before) .within)
 
-add-end : tie.Need-add-end Inv-loop μ-loop
-add-end c = omega (arith, turned c .buffer .within, turned c .buffer .size, c .before .before .before .before .before .before .before .before .before .before .before .before .before .before .before .before .before .before .before .before .before .before .before .good)
-
-add-at : tie.Need-add-at Inv-loop μ-loop
-add-at c = omega (arith, turned c .within, c .before .before .before .before .before .before .before .before .before .before .before .before .before .before .before .before .before .before .before .before .before .before .before .good)
-
-add-at-2 : tie.Need-add-at-2 Inv-loop μ-loop
-add-at-2 c = omega (arith, turned c .within, c .before .before .before .before .before .before .before .before .before .before .before .before .before .before .before .before .before .before .before .before .before .before .before .good)
-
-loop-less : tie.Need-loop-less Inv-loop μ-loop
-loop-less c = omega (arith, turned c .within)
-
-loop-again : tie.Need-loop-again Inv-loop μ-loop
-loop-again c = (turned c, c .before .before .before .before .before .before .before .before .before .before .before .before .hold .ensures .size ∙ c .before .before .before .before .before .before .before .before .before .before .before .before .before .before .before .before .before .before .loop .inv .1)
+loop-again-2 : tie.Need-loop-again-2 Inv-loop μ-loop
+loop-again-2 c = (turned (c .before .before .before .before) (tuner (c .changed .result)) (c .changed .ensures .0), same-held (c .before .before .before .before))
 
 same-length-3 : tie.Need-same-length-3 Inv-loop μ-loop
 same-length-3 c = c .before .loop .inv .0 .buffer .size
@@ -200,11 +227,14 @@ step-spec =
     add-t34
     same-length-2
     returns-2
-    changed-requires
     add-end
     add-at
     add-at-2
+    is-none-requires
     loop-less
     loop-again
+    changed-requires
+    loop-less-2
+    loop-again-2
     same-length-3
     returns-3)
