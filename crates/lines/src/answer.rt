@@ -79,13 +79,10 @@ fn settled(change: Change, answer: Sent) -> Reply
 {
     match answer {
         Sent::Written(_) => Reply { answer, change },
-        Sent::Refused(_) => {
-            let none = Change::none();
-            Reply {
-                answer,
-                change: none,
-            }
-        }
+        Sent::Refused(_) => Reply {
+            answer,
+            change: Change::Nothing,
+        },
     }
 }
 
@@ -94,10 +91,9 @@ fn hear(tuner: JitTuner, line: Line, out: &mut [u8]) -> Reply
     ensures { λ r. ⌜ Steps (Jit·after (Jit·tuner tuner)) (eventRule (Jit·tuner tuner) (meant line)) noChange (now (out .entry)) (sentAnswer (r .answer)) (r .change) (now (out .exit)) ⌝ }
 {
     let Line::Event(kind, key, millihertz, velocity) = line else {
-        let change = Change::none();
         return Reply {
             answer: Sent::Refused(LINE_MALFORMED),
-            change,
+            change: Change::Nothing,
         };
     };
     match kind {
@@ -116,8 +112,10 @@ fn hear(tuner: JitTuner, line: Line, out: &mut [u8]) -> Reply
         }
         Kind::Bend => {
             let answer = tuner.note_pitch(key, pitch_of(millihertz), out);
-            let change = Change::none();
-            Reply { answer, change }
+            Reply {
+                answer,
+                change: Change::Nothing,
+            }
         }
     }
 }

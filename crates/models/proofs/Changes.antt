@@ -1,34 +1,44 @@
--- Laws of a change where a function of `jit` stands: a pool in the array and in the view, and a press that finds no free channel. Assumes nothing.
-use Prim.Native.Nat.{ℕ, _<_}
-use mathlib.Core.Path.{_≡_, refl, sym, ap, _∙_}
-use mathlib.Core.Bool.{Bool, true, false}
-use mathlib.Core.List.{List, map}
+-- Laws of a change where a function of `jit` stands: a pool in the array and in the view, and the channel for a press. Assumes nothing.
+use Prim.Native.Nat.{ℕ, zero, suc, _<_}
+use mathlib.Core.Path.{_≡_, refl, sym, ap, subst, _∙_}
+use mathlib.Core.Bool.{Bool, true, false, cond}
+use mathlib.Core.List.{List, [], _∷_, map}
 use mathlib.Core.Option.{Option, some, none}
 use mathlib.Core.Logic.{_≢_}
 use native.Mathlib.Omega.{arith}
-use lib.IntN.{ℤ, pos}
+use lib.IntN.{ℤ}
 use lib.Ieee.{Float}
 use lib.Dec.{eqb, eqb-refl}
 use lib.ListN.{length, length-take, length-map, getD, take, set, List·getD-map}
-use lib.Seq.{getD-take, take-set-lt, getD-set-same, getD-set-other}
+use lib.Seq.{getD-take, take-set-lt, getD-set-same, getD-set-other, set-set}
+use borrow.Author.Tests.{eqb-true, eqb-false}
 use Rattle.models.specs.Lists.{first, member}
-use Rattle.models.specs.Pool.{Place, Pool, State, Held, poolCount, poolOf, emptyPool, pool, found, withPool, freed, freedIn, forgotten, withKey, behind, takenIn, Press, oldest, room, madeRoom, roomFor, roomBy, accepted, rejected, taken, pressed, released}
-use Rattle.arithmetic.specs.Outcome.{Outcome}
+use Rattle.models.specs.Pool.{Place, Pool, State, Held, poolCount, poolOf, emptyPool, pool, found, withPool, freed, freedIn, forgotten, withKey, behind, takenIn, oldestOf, oldest, room, madeRoom, roomFor, roomBy, Press, accepted, rejected, taken, pressed, released, isHeld, unlessHeld, replied}
 use Rattle.arithmetic.specs.Note.{isNote}
-use Rattle.models.specs.JitModel.{poolView, records, recordOf, press, view}
-use Rattle.models.specs.Change.{losing, gaining, changed, noChange, pressing}
-use Rattle.models.specs.declared.jit.Lost as L
-use Rattle.models.specs.declared.jit.Gained as G
-use Rattle.models.specs.declared.jit.Change.{Change}
-use Rattle.models.specs.declared.jit.Pressing.{Pressing}
+use Rattle.models.specs.JitModel.{poolView, records, recordOf, noRecord, view}
+use Rattle.models.specs.Change.{changed, anyDetuning}
+use Rattle.models.specs.PoolInside.{frontKey, oldestBy, givenIn, givenBy, seatBy}
+use Rattle.models.specs.declared.keys.Slot.{Slot}
 use Rattle.models.specs.declared.jit.PoolingMode.{PoolingMode}
 use Rattle.models.specs.declared.jit.PoolingMode.the-variants.{Block, Stop, Ignore}
-use Rattle.models.specs.declared.jit.JitPool.{JitPool}
+use Rattle.models.specs.declared.jit.Change as C
 use Rattle.models.specs.declared.jit.JitTuningModel.{JitTuningModel}
-use Rattle.models.proofs.KeyRecords.{map-set, record-found}
+use Rattle.models.specs.declared.pool.JitPool.{JitPool}
+use Rattle.models.specs.declared.pool.Seat as S
+use Rattle.models.specs.declared.pool.Seat.{Seat}
+use Rattle.models.proofs.KeyRecords.{map-set, getD-map-below, record-found}
 use Rattle.models.proofs.ListLaws.{T→true}
 use Rattle.models.proofs.PoolInvariant.{first-rest, first-none}
 use Rattle.models.proofs.Pools.{pool-small, pools-few, oldest-is, made-none, pressed-free, pressed-none, released-found}
+
+-- a key that gives its channel up is not found any more, or stays found
+abbrev pub givenUp : State → ℕ → Place → Bool → State
+givenUp s k p gone = cond gone (forgotten (freed s k p) k) (freed s k p)
+
+set-same : {A : Type 0} (l : List A) (i : ℕ) (d : A) → set l i (getD l i d) ≡ l
+set-same [] i d = refl
+set-same (x ∷ l) zero d = refl
+set-same (x ∷ l) (suc i) d = ap (λ (r : List _). x ∷ r) (set-same l i d)
 
 -- ---- the pool of a note
 
@@ -52,67 +62,61 @@ module _ (m : JitTuningModel) (note : ℤ) (i : ℕ) (is : i ≡ poolOf (m .«gr
         is,
       )
 
-  -- the model with a pool stored, and with a key's record too
+  -- the model with the pool and a key's record stored
   module _ (key channel : ℕ) (p : JitPool) where
-    pub losing-view : poolView p ≡ freedIn (pool (view m) note) key channel
-        → view (record { channels = m .channels; «group_by» = m .«group_by»; «pooling_mode» = m .«pooling_mode»; pools = set (m .pools) i p; keys = m .keys })
-        ≡ freed (view m) key (record { channel = channel; note = note })
-    unfolding view freed withPool
-    losing-view e = rw (pool-set p, e)
-
-    pub forgetting-view : poolView p ≡ freedIn (pool (view m) note) key channel
-        → view (record { channels = m .channels; «group_by» = m .«group_by»; «pooling_mode» = m .«pooling_mode»; pools = set (m .pools) i p; keys = record { slots = set (m .keys .slots) key (record { channel = 0; note = pos 501 }) } })
+    pub released-view : poolView p ≡ freedIn (pool (view m) note) key channel
+        → view (record { channels = m .channels; «group_by» = m .«group_by»; «pooling_mode» = m .«pooling_mode»; pools = set (m .pools) i p; keys = record { slots = set (m .keys .slots) key noRecord } })
         ≡ forgotten (freed (view m) key (record { channel = channel; note = note })) key
     unfolding view freed forgotten withPool withKey records recordOf
-    forgetting-view e = rw (pool-set p, e, map-set recordOf (m .keys .slots) key (record { channel = 0; note = pos 501 }))
+    released-view e = rw (pool-set p, e, map-set recordOf (m .keys .slots) key noRecord)
 
-    pub gaining-view : poolView p ≡ takenIn (pool (view m) note) key → isNote note ≡ true
-        → view (record { channels = m .channels; «group_by» = m .«group_by»; «pooling_mode» = m .«pooling_mode»; pools = set (m .pools) i p; keys = record { slots = set (m .keys .slots) key (record { channel = channel; note = note }) } })
-        ≡ taken (view m) key note channel
-    unfolding view taken withPool withKey records
-    gaining-view e is =
-        rw (pool-set p, e, map-set recordOf (m .keys .slots) key (record { channel = channel; note = note }), sym (record-found (record { channel = channel; note = note }) is))
+    module _ (noted : isNote note ≡ true) where
+      pub taken-view : poolView p ≡ takenIn (pool (view m) note) key
+          → view (record { channels = m .channels; «group_by» = m .«group_by»; «pooling_mode» = m .«pooling_mode»; pools = set (m .pools) i p; keys = record { slots = set (m .keys .slots) key (record { channel = channel; note = note }) } })
+          ≡ taken (view m) key note channel
+      unfolding view taken withPool withKey records
+      taken-view e = rw (pool-set p, e, map-set recordOf (m .keys .slots) key (record { channel = channel; note = note }), sym (record-found (record { channel = channel; note = note }) noted))
+
+      -- the channel is that of a key of the same pool
+      module _ (k : ℕ) (old : ℤ) (same : poolOf (m .«group_by») old ≡ poolOf (m .«group_by») note) (there : poolOf (m .«group_by») note < length (view m .pools)) where
+        given-pools : set (view m .pools) (poolOf (m .«group_by») note) (takenIn (freedIn (pool (view m) note) k channel) key)
+            ≡ taken (freed (view m) k (record { channel = channel; note = old })) key note channel .pools
+        unfolding taken freed withPool withKey pool view
+        given-pools =
+            rw (
+              same,
+              getD-set-same (view m .pools) (poolOf (m .«group_by») note) (freedIn (pool (view m) note) k channel) emptyPool there,
+              set-set (view m .pools) (poolOf (m .«group_by») note) (freedIn (pool (view m) note) k channel) (takenIn (freedIn (pool (view m) note) k channel) key),
+            )
+
+        pub given-view : (gone : Bool) (d : Slot) → poolView p ≡ takenIn (freedIn (pool (view m) note) k channel) key
+            → view (record { channels = m .channels; «group_by» = m .«group_by»; «pooling_mode» = m .«pooling_mode»; pools = set (m .pools) i p; keys = record { slots = set (set (m .keys .slots) k (cond gone noRecord (getD (m .keys .slots) k d))) key (record { channel = channel; note = note }) } })
+            ≡ taken (givenUp (view m) k (record { channel = channel; note = old }) gone) key note channel
+        unfolding view taken freed forgotten withPool withKey pool records recordOf
+        given-view true d e =
+            rw (
+              pool-set p,
+              e,
+              given-pools,
+              map-set recordOf (set (m .keys .slots) k noRecord) key (record { channel = channel; note = note }),
+              map-set recordOf (m .keys .slots) k noRecord,
+              noted,
+            )
+        given-view false d e =
+            rw (
+              pool-set p,
+              e,
+              given-pools,
+              set-same (m .keys .slots) k d,
+              map-set recordOf (m .keys .slots) key (record { channel = channel; note = note }),
+              noted,
+            )
 
 pub pools-enough : (m : JitTuningModel) → length (m .pools) ≡ 12 → (note : ℤ) → poolOf (m .«group_by») note < length (view m .pools)
 unfolding view
 pools-enough m long note =
     rw (length-take (poolCount (m .«group_by»)) (map poolView (m .pools)), length-map (m .pools) poolView, long)
     (omega (arith, pool-small (m .«group_by») note, pools-few (m .«group_by») note))
-
--- ---- a change
-
-module _ (s : State) (key : ℕ) (note : ℤ) (channel : ℕ) where
-  module _ {gone : Bool} (is : isNote note ≡ true) where
-    pub losing-gone : gone ≡ true → losing s (L.the-variants.Channel key note channel gone) ≡ forgotten (freed s key (record { channel = channel; note = note })) key
-    unfolding losing
-    losing-gone e = rw (is, e)
-
-    pub losing-kept : gone ≡ false → losing s (L.the-variants.Channel key note channel gone) ≡ freed s key (record { channel = channel; note = note })
-    unfolding losing
-    losing-kept e = rw (is, e)
-
-  pub gaining-note : isNote note ≡ true → gaining s (G.the-variants.Channel key note channel) ≡ taken s key note channel
-  unfolding gaining
-  gaining-note e = rw e
-
-  pub losing-no-note : (gone : Bool) → isNote note ≡ false → losing s (L.the-variants.Channel key note channel gone) ≡ s
-  unfolding losing
-  losing-no-note gone e = rw e
-
-  pub gaining-no-note : isNote note ≡ false → gaining s (G.the-variants.Channel key note channel) ≡ s
-  unfolding gaining
-  gaining-no-note e = rw e
-
-pub lost-clash : {X : Type 0} {key : ℕ} {note : ℤ} {channel : ℕ} {gone : Bool} → L.the-variants.Channel key note channel gone ≡ L.the-variants.Nothing → X
-lost-clash e = let z : _≡_ {A = ℕ} 0 1 = cc in absurd (omega arith)
-
-pub gained-clash : {X : Type 0} {key : ℕ} {note : ℤ} {channel : ℕ} → G.the-variants.Channel key note channel ≡ G.the-variants.Nothing → X
-gained-clash e = let z : _≡_ {A = ℕ} 0 1 = cc in absurd (omega arith)
-
--- a press that changes nothing
-pub unchanged : (s : State) (r : Pressing) {o : Outcome Press} → press (r .result) ≡ o → r .change ≡ noChange → pressing s r ≡ (o, s)
-unfolding pressing changed losing gaining
-unchanged s r {o} e f = ap (λ (x : Outcome Press). (x, changed s (r .change))) e ∙ ap (λ (x : Change). (o, changed s x)) f
 
 -- ---- a press, by whether a channel is free
 
@@ -177,3 +181,101 @@ module _ (s : State) (key : ℕ) (note : ℤ) (d : Float) (full : first (pool s 
           → pressed s key note d ≡ (accepted (o .place .channel) none note d, taken (freed s (o .key) (o .place)) key note (o .place .channel))
       unfolding madeRoom
       pressed-ignoring e = pressed-free s key note d (room (freed s (o .key) (o .place)) none) (by Ignore e) (o .place .channel) free
+
+-- ---- the channel for a press
+
+-- the longest-held key by its record
+oldest-by : (s : State) (k : Option ℕ) → oldestBy k (found s (frontKey k)) ≡ oldestOf s k
+unfolding oldestBy frontKey oldestOf
+oldest-by s (some k) = refl
+oldest-by s none = refl
+
+-- what a press does that gets such a channel
+abbrev pub Fits : State → ℕ → ℤ → Seat → Type 0
+Fits s key note (S.the-variants.Free c) = (d : Float) → pressed s key note d ≡ (accepted c none note d, taken s key note c)
+Fits s key note (S.the-variants.Given c old gone) =
+    (poolOf (s .group) old ≡ poolOf (s .group) note)
+    × ((d : Float) → pressed s key note d ≡ (accepted c (cond gone (some old) none) note d, taken (givenUp s (frontKey (first (pool s note .order))) (record { channel = c; note = old }) gone) key note c))
+Fits s key note S.the-variants.Nothing = (d : Float) → pressed s key note d ≡ (rejected, s)
+
+module _ (s : State) (key : ℕ) (note : ℤ) (there : poolOf (s .group) note < length (s .pools)) where
+  module _ (full : first (pool s note .free) ≡ none) (o : Held) (was : oldest s note ≡ some o) where
+    front : o .key ≡ frontKey (first (pool s note .order))
+    unfolding frontKey
+    front = sym (ap frontKey (oldest-is s note o was .0))
+
+    by-mode : (m : PoolingMode) → s .mode ≡ m → poolOf (s .group) (o .place .note) ≡ poolOf (s .group) note
+        → Fits s key note (givenIn m (o .place .channel) (o .place .note))
+    unfolding givenIn
+    by-mode Block e same = λ d. pressed-blocked s key note d full e
+    by-mode Stop e same = (
+      same,
+      λ d.
+          pressed-stopping s key note d full o was same there e
+          ∙ ap (λ (k : ℕ). (accepted (o .place .channel) (some (o .place .note)) note d, taken (forgotten (freed s k (o .place)) k) key note (o .place .channel))) front,
+    )
+    by-mode Ignore e same = (
+      same,
+      λ d.
+          pressed-ignoring s key note d full o was same there e
+          ∙ ap (λ (k : ℕ). (accepted (o .place .channel) none note d, taken (freed s k (o .place)) key note (o .place .channel))) front,
+    )
+
+    by-pool : (b : Bool) → eqb (poolOf (s .group) (o .place .note)) (poolOf (s .group) note) ≡ b
+        → Fits s key note (cond b (givenIn (s .mode) (o .place .channel) (o .place .note)) S.the-variants.Nothing)
+    by-pool true e = by-mode (s .mode) refl (eqb-true _ _ e)
+    by-pool false e = λ d. pressed-elsewhere s key note d full o was (λ same. eqb-false _ _ e (sym same))
+
+  pub seat-fits : Fits s key note (seatBy (s .group) (s .mode) note (first (pool s note .free)) (oldest s note))
+  unfolding seatBy givenBy
+  seat-fits = go (first (pool s note .free)) refl (oldest s note) refl
+    where
+      go : (c : Option ℕ) → first (pool s note .free) ≡ c → (o : Option Held) → oldest s note ≡ o → Fits s key note (seatBy (s .group) (s .mode) note c o)
+      go (some c) e o f = λ d. pressed-front s key note d c e
+      go none e none f = λ d. pressed-nobody s key note d e f
+      go none e (some o) f = by-pool e o f (eqb (poolOf (s .group) (o .place .note)) (poolOf (s .group) note)) refl
+
+-- the channel that a pool and a record of the model tell is the one for the press
+module _ (m : JitTuningModel) (long : length (m .pools) ≡ 12) (key : ℕ) (note : ℤ) (p : JitPool) (here : poolView p ≡ pool (view m) note) (slot : Slot)
+    (its : recordOf slot ≡ found (view m) (frontKey (first (poolView p .order)))) where
+  pub seat-here : Fits (view m) key note (seatBy (m .«group_by») (m .«pooling_mode») note (first (poolView p .free)) (oldestBy (first (poolView p .order)) (recordOf slot)))
+  unfolding view oldest
+  seat-here =
+      subst (Fits (view m) key note)
+      (sym
+      (ap (λ (o : Option Place). seatBy (m .«group_by») (m .«pooling_mode») note (first (poolView p .free)) (oldestBy (first (poolView p .order)) o)) its
+      ∙ ap (λ (q : Pool). seatBy (m .«group_by») (m .«pooling_mode») note (first (q .free)) (oldestBy (first (q .order)) (found (view m) (frontKey (first (q .order)))))) here
+      ∙ ap (seatBy (m .«group_by») (m .«pooling_mode») note (first (pool (view m) note .free))) (oldest-by (view m) (first (pool (view m) note .order)))))
+      (seat-fits (view m) key note (pools-enough m long note))
+
+-- the record of a key
+pub slot-found : (m : JitTuningModel) → length (m .keys .slots) ≡ 256 → (key : ℕ) → key < 256 → (d : Slot) → recordOf (getD (m .keys .slots) key d) ≡ found (view m) key
+unfolding view found records
+slot-found m long key small d = getD-map-below recordOf (m .keys .slots) key d none (omega arith)
+
+-- ---- a press for a note, told as a change
+
+module _ (s : State) (key : ℕ) (note : ℤ) where
+  pub press-off : isNote note ≡ false → changed s (C.the-variants.Press key note) ≡ s
+  unfolding changed
+  press-off e = rw e
+
+  pub press-held : isHeld (found s key) ≡ true → changed s (C.the-variants.Press key note) ≡ s
+  unfolding changed replied unlessHeld
+  press-held e = rw e (go (isNote note))
+    where
+      go : (b : Bool) → cond b s s ≡ s
+      go true = refl
+      go false = refl
+
+  pub press-new : isNote note ≡ true → isHeld (found s key) ≡ false → {x : Press} {t : State} → pressed s key note anyDetuning ≡ (x, t)
+      → changed s (C.the-variants.Press key note) ≡ t
+  unfolding changed replied unlessHeld
+  press-new noted new e = rw (noted, new, e)
+
+-- a press or a release is not nothing
+pub press-clash : {X : Type 0} {key : ℕ} {note : ℤ} → C.the-variants.Press key note ≡ C.the-variants.Nothing → X
+press-clash e = absurd (let z : _≡_ {A = ℕ} 0 1 = cc in omega arith)
+
+pub release-clash : {X : Type 0} {key : ℕ} → C.the-variants.Release key ≡ C.the-variants.Nothing → X
+release-clash e = absurd (let z : _≡_ {A = ℕ} 0 1 = cc in omega arith)

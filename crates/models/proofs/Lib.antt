@@ -9,6 +9,7 @@ pub mod KeyRecords
 pub mod HeldKeys
 pub mod Pools
 pub mod Times
+pub mod Told
 pub mod PoolSettings
 pub mod PoolInvariant
 pub mod PoolAnswers

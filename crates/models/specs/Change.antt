@@ -1,43 +1,58 @@
--- What a press or a release changes in a state (`jit::Change`), by the changes of the rules. A number that is no note changes nothing. Assumes nothing.
-use mathlib.Core.Bool.{Bool, true, false, cond, _&&_}
-use Rattle.arithmetic.specs.Outcome.{Outcome}
+-- What a press or a release does to a state, told as a `jit::Change`. Assumes nothing.
+use Prim.Native.Nat.{ℕ, _<_}
+use mathlib.Core.Bool.{Bool, true, false, cond}
+use mathlib.Core.Option.{Option, some, none}
+use lib.Ieee.{Float, binary64, ofBits}
+use Rattle.arithmetic.specs.Outcome.{Outcome, value, refused}
 use Rattle.arithmetic.specs.Note.{isNote}
-use Rattle.models.specs.Pool.{State, Press, freed, forgotten, taken}
+use Rattle.models.specs.Pool.{keyCount, State, Place, Press, accepted, rejected, released, unlessHeld, replied}
 use Rattle.models.specs.JitModel.{press}
-use Rattle.models.specs.declared.jit.Lost as L
-use Rattle.models.specs.declared.jit.Gained as G
+use Rattle.models.specs.declared.jit.Change as C
 use Rattle.models.specs.declared.jit.Change.{Change}
 use Rattle.models.specs.declared.jit.Pressing.{Pressing}
 
--- a key loses its channel, and may be forgotten
-unfoldable pub losing : State → L.Lost → State
-losing s (L.the-variants.Channel key note channel gone) =
-    let t = freed s key (record { channel = channel; note = note }) in
-    cond (isNote note) (cond gone (forgotten t key) t) s
-losing s L.the-variants.Nothing = s
+-- ---- the state after a change
 
--- a key takes a channel
-unfoldable pub gaining : State → G.Gained → State
-gaining s (G.the-variants.Channel key note channel) = cond (isNote note) (taken s key note channel) s
-gaining s G.the-variants.Nothing = s
+-- what stands for a press's detuning, which has no part in the state
+abbrev pub anyDetuning : Float
+anyDetuning = ofBits binary64 0
 
+-- A press for a number that is no note changes nothing; nor does that of a held key, or one that is rejected.
 unfoldable pub changed : State → Change → State
-changed s c = gaining (losing s (c .lost)) (c .gained)
+changed s (C.the-variants.Press key note) = cond (isNote note) (replied s (unlessHeld s key note anyDetuning) .1) s
+changed s (C.the-variants.Release key) = released s key
+changed s C.the-variants.Nothing = s
 
 abbrev pub noChange : Change
-noChange = record { lost = L.the-variants.Nothing; gained = G.the-variants.Nothing }
+noChange = C.the-variants.Nothing
 
-abbrev pub noLoss : L.Lost → Bool
-noLoss (L.the-variants.Channel key note channel gone) = false
-noLoss L.the-variants.Nothing = true
+unfoldable pub isNone : Change → Bool
+isNone (C.the-variants.Press key note) = false
+isNone (C.the-variants.Release key) = false
+isNone C.the-variants.Nothing = true
 
-abbrev pub noGain : G.Gained → Bool
-noGain (G.the-variants.Channel key note channel) = false
-noGain G.the-variants.Nothing = true
+-- the change of a key that there is
+abbrev pub OfKey : Change → Type 0
+OfKey (C.the-variants.Press key note) = key < keyCount
+OfKey (C.the-variants.Release key) = key < keyCount
+OfKey C.the-variants.Nothing = Unit {0}
 
-abbrev pub isNone : Change → Bool
-isNone c = noLoss (c .lost) && noGain (c .gained)
+-- ---- the change that a call tells
 
--- what a press answers, and the state after it
-unfoldable pub pressing : State → Pressing → Outcome Press × State
-pressing s r = (press (r .result), changed s (r .change))
+-- none of a press that is refused or rejected
+unfoldable pub pressChange : ℕ → Outcome Press → Change
+pressChange key (value (accepted channel stopped note detuning)) = C.the-variants.Press key note
+pressChange key (value rejected) = noChange
+pressChange key (refused n) = noChange
+
+-- none of a release of a key that is not found
+unfoldable pub releaseChange : ℕ → Option Place → Change
+releaseChange key (some p) = C.the-variants.Release key
+releaseChange key none = noChange
+
+-- what a press answers, and the change that it tells
+abbrev pub pressTold : ℕ → Outcome Press → Outcome Press × Change
+pressTold key o = (o, pressChange key o)
+
+abbrev pub pressing : Pressing → Outcome Press × Change
+pressing r = (press (r .result), r .change)

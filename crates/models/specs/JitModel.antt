@@ -3,7 +3,7 @@ use Prim.Native.Nat.{ℕ}
 use mathlib.Core.Bool.{cond}
 use mathlib.Core.List.{List, map}
 use mathlib.Core.Option.{Option, some, none}
-use lib.IntN.{ℤ}
+use lib.IntN.{ℤ, pos}
 use lib.Ieee.{Float}
 use lib.ListN.{take}
 use Rattle.arithmetic.specs.Outcome.{Outcome, value, refused}
@@ -18,7 +18,7 @@ use Rattle.models.specs.declared.keys.Keys.{Keys}
 use Rattle.models.specs.declared.jit.StoppedNote as S
 use Rattle.models.specs.declared.jit.RegisterKeyResult as R
 use Rattle.models.specs.declared.jit.RepitchKeyResult as P
-use Rattle.models.specs.declared.jit.JitPool.{JitPool}
+use Rattle.models.specs.declared.pool.JitPool.{JitPool}
 use Rattle.models.specs.declared.jit.JitTuningModel.{JitTuningModel}
 use Rattle.models.specs.declared.jit.Registered.{Registered}
 use Rattle.models.specs.declared.jit.Opened.{Opened}
@@ -32,6 +32,10 @@ items q = take (q .len) (q .slots)
 -- A key is found if its record has a note.
 unfoldable pub recordOf : Slot → Option Place
 recordOf s = cond (isNote (s .note)) (some (record { channel = s .channel; note = s .note })) none
+
+-- that of a key that is not found: 501 is no note
+abbrev pub noRecord : Slot
+noRecord = record { channel = 0; note = pos 501 }
 
 unfoldable pub records : Keys → List (Option Place)
 records k = map recordOf (k .slots)

@@ -1,33 +1,28 @@
 // Pools of channels handed out while somebody plays.
 
 ghost use mathlib.Core.Path.{_≡_};
-ghost use mathlib.Core.Bool.{true};
-ghost use mathlib.Core.List.{[]};
-ghost use mathlib.Core.Option.{none};
-ghost use Prim.Native.Nat.{_<_, _≤_};
+ghost use mathlib.Core.Bool.{true, cond};
+ghost use mathlib.Core.Option.{some, none};
 ghost use lib.ListN.{length};
 ghost use Rattle.arithmetic.specs.Note.{isNote};
-ghost use Rattle.arithmetic.specs.Outcome.{value, refused};
-ghost use Rattle.models.specs.Lists.{upward, first};
+ghost use Rattle.models.specs.Lists.{first};
 ghost use Rattle.models.specs.ChannelList.{entries};
-ghost use Rattle.models.specs.Pool.{poolCount, poolOf, fresh, pool, found, takenIn, freedIn, oldestOf, rejected, pressed, released, heldKeys, stopped, replied, unlessHeld, registerRule, repitchRule, openRule};
-ghost use Rattle.models.specs.JitModel.{place, nextHeld, poolView, view, press, told, repitched, opened};
-ghost use Rattle.models.specs.Change.{losing, gaining, changed, noChange, isNone, pressing};
-ghost use Rattle.models.specs.PoolInside.{old};
+ghost use Rattle.models.specs.Pool.{fresh, pool, found, released, heldKeys, stopped, replied, unlessHeld, registerRule, repitchRule, openRule};
+ghost use Rattle.models.specs.JitModel.{place, nextHeld, poolView, view, stoppedNote, told, repitched, opened};
+ghost use Rattle.models.specs.Change.{changed, isNone, releaseChange, pressTold, pressing};
 use crate::channels::ChannelList;
 use crate::channels::ChannelsAnswer;
 use crate::channels::present;
 use crate::keys::AccessKeyResult;
 use crate::keys::KEYS;
 use crate::keys::Keys;
-use crate::keys::NO_NOTE;
 use crate::keys::NextKey;
 use crate::keys::Slot;
-use crate::queue::Front;
-use crate::queue::Queue;
-use arithmetic::note::LetterAnswer;
+use crate::pool::JitPool;
+use crate::pool::LETTERS;
+use crate::pool::Seat;
+use crate::pool::pool_of;
 use arithmetic::note::is_note;
-use arithmetic::note::letter;
 use arithmetic::pitch::Pitch;
 use arithmetic::refusal::KEY_HELD;
 use arithmetic::refusal::PITCH_OUT_OF_RANGE;
@@ -35,9 +30,6 @@ use arithmetic::tuning::Approximation;
 use arithmetic::tuning::RatioAnswer;
 use arithmetic::tuning::detuning;
 use arithmetic::tuning::find_by_pitch;
-
-// A pool for each letter.
-const LETTERS: usize = 12;
 
 // Which notes share a pool: those of a letter, or all. (Rust's `GroupBy` without pools for single notes.)
 pub enum PoolGroupBy {
@@ -81,12 +73,6 @@ pub enum RepitchKeyResult {
     Refused(u8),
 }
 
-// The free channels, the next one first, and the keys that still have their channels, the longest held first.
-pub struct JitPool {
-    free: Queue,
-    order: Queue,
-}
-
 pub struct JitTuningModel {
     channels: ChannelList,
     group_by: PoolGroupBy,
@@ -111,26 +97,12 @@ pub struct Deregistered {
     pub model: JitTuningModel,
 }
 
-// What a press or a release changes: a key loses its channel, and then a key takes one. It is small where the model is large.
-pub struct Change {
-    lost: Lost,
-    gained: Gained,
-}
-
-// A key that loses its channel, and whether it is not found any more.
-pub enum Lost {
-    Channel {
-        key: u8,
-        note: i32,
-        channel: u8,
-        forgotten: bool,
-    },
-    Nothing,
-}
-
-// A key that takes the channel at the front.
-pub enum Gained {
-    Channel { key: u8, note: i32, channel: u8 },
+// What a press or a release does to a model. It is small where the model is large, and any model may be changed by it.
+pub enum Change {
+    // A press of the key for a note.
+    Press { key: u8, note: i32 },
+    // A release of the key.
+    Release { key: u8 },
     Nothing,
 }
 
@@ -144,12 +116,6 @@ pub struct Pressing {
 pub struct Releasing {
     pub result: AccessKeyResult,
     pub change: Change,
-}
-
-// The longest-held key of a pool that still has its channel, and where it sounds.
-enum Oldest {
-    Key { key: u8, channel: u8, note: i32 },
-    Nothing,
 }
 
 impl JitTuningModel {
@@ -187,49 +153,104 @@ impl JitTuningModel {
 
     // What a press would answer and change.
     pub fn press(self, key: u8, pitch: Pitch) -> Pressing
-        ensures { λ r. ⌜ pressing (view self) r ≡ replied (view self) (registerRule (view self) key (pitch .hz)) ⌝ }
+        ensures { λ r. ⌜ pressing r ≡ pressTold key (replied (view self) (registerRule (view self) key (pitch .hz)) .0) ⌝ }
     {
         match find_by_pitch(pitch) {
             Approximation::Nearest(note, detuning) => self.press_note(key, note, detuning),
-            Approximation::Refused(n) => refusal(n),
+            Approximation::Refused(n) => unchanged(RegisterKeyResult::Refused(n)),
         }
     }
 
     // What a release would answer and change.
     pub fn release(self, key: u8) -> Releasing
-        ensures { λ r. ⌜ (place (r .result) ≡ found (view self) key) × (changed (view self) (r .change) ≡ released (view self) key) ⌝ }
+        ensures { λ r. ⌜ (place (r .result) ≡ found (view self) key) × (r .change ≡ releaseChange key (found (view self) key)) ⌝ }
     {
         let result = self.access_key(key);
         match result {
             AccessKeyResult::Found {
-                channel,
-                found_note,
-            } => {
-                let change = Change {
-                    lost: Lost::Channel {
-                        key,
-                        note: found_note,
-                        channel,
-                        forgotten: true,
-                    },
-                    gained: Gained::Nothing,
-                };
-                Releasing { result, change }
-            }
+                channel: _,
+                found_note: _,
+            } => Releasing {
+                result,
+                change: Change::Release { key },
+            },
             AccessKeyResult::NotFound => Releasing {
                 result,
-                change: Change::none(),
+                change: Change::Nothing,
             },
         }
     }
 
-    // The model after a change. Where nothing changes it is the very same.
+    // The model after a change: a press for a note takes a channel as `register_key` does, unless the key is held or the number is no note; a release is
+    // that of `deregister_key`. Where nothing changes it is the very same.
     pub fn changed(self, change: Change) -> JitTuningModel
-        ensures { λ r. ⌜ (view r ≡ changed (view self) change) × (change ≡ noChange → r ≡ self) ⌝ }
+        ensures { λ r. ⌜ (view r ≡ changed (view self) change) × (change ≡ Change.Nothing → r ≡ self) ⌝ }
     {
-        let lost = change.lost;
-        let gained = change.gained;
-        self.losing(lost).gaining(gained)
+        let channels = self.channels;
+        let group_by = self.group_by;
+        let pooling_mode = self.pooling_mode;
+        let mut pools = self.pools;
+        let keys = self.keys;
+        let mut slots = keys.slots;
+        match change {
+            Change::Press { key, note } => {
+                let key_at = key as usize;
+                let slot = slots[key_at];
+                if is_note(note) && !slot.is_found() {
+                    let at = pool_of(group_by, note);
+                    let pool = pools[at];
+                    let old_key = pool.oldest();
+                    let old_at = old_key as usize;
+                    let old_slot = slots[old_at];
+                    let low = note as i16;
+                    match pool.seat(group_by, pooling_mode, note, old_slot) {
+                        Seat::Free(channel) => {
+                            let next = pool.taken(key);
+                            pools[at] = next;
+                            let new_slot = Slot { channel, note: low };
+                            slots[key_at] = new_slot;
+                        }
+                        Seat::Given {
+                            channel,
+                            note: _,
+                            forgotten,
+                        } => {
+                            let next = pool.freed(old_key, channel).taken(key);
+                            pools[at] = next;
+                            let left = old_slot.unless(forgotten);
+                            slots[old_at] = left;
+                            let new_slot = Slot { channel, note: low };
+                            slots[key_at] = new_slot;
+                        }
+                        Seat::Nothing => {}
+                    }
+                }
+            }
+            Change::Release { key } => {
+                let key_at = key as usize;
+                let slot = slots[key_at];
+                if let AccessKeyResult::Found {
+                    channel,
+                    found_note,
+                } = slot.place() {
+                    let at = pool_of(group_by, found_note);
+                    let pool = pools[at];
+                    let next = pool.freed(key, channel);
+                    pools[at] = next;
+                    let no_slot = Slot::empty();
+                    slots[key_at] = no_slot;
+                }
+            }
+            Change::Nothing => {}
+        }
+        let keys = Keys { slots };
+        JitTuningModel {
+            channels,
+            group_by,
+            pooling_mode,
+            pools,
+            keys,
+        }
     }
 
     // A lookup: where the key is found.
@@ -317,193 +338,47 @@ impl JitTuningModel {
         }
     }
 
-    // A press for a note.
+    // What a press for a note would answer and change.
     fn press_note(self, key: u8, note: i32, detuning: f64) -> Pressing
         requires { ⌜ isNote note ≡ true ⌝ }
-        ensures { λ r. ⌜ pressing (view self) r ≡ replied (view self) (unlessHeld (view self) key note detuning) ⌝ }
+        ensures { λ r. ⌜ pressing r ≡ pressTold key (replied (view self) (unlessHeld (view self) key note detuning) .0) ⌝ }
     {
-        match self.access_key(key) {
-            AccessKeyResult::Found {
-                channel: _,
-                found_note: _,
-            } => refusal(KEY_HELD),
-            AccessKeyResult::NotFound => self.press_new(key, note, detuning),
+        let group = self.group_by;
+        let mode = self.pooling_mode;
+        let keys = self.keys;
+        let slots = keys.slots;
+        let key_at = key as usize;
+        let slot = slots[key_at];
+        if slot.is_found() {
+            return unchanged(RegisterKeyResult::Refused(KEY_HELD));
         }
-    }
-
-    // A press of a key that is not held.
-    fn press_new(self, key: u8, note: i32, detuning: f64) -> Pressing
-        requires { ⌜ isNote note ≡ true ⌝ }
-        ensures { λ r. ⌜ pressing (view self) r ≡ replied (view self) (value (pressed (view self) key note detuning)) ⌝ }
-    {
         let pool = self.pool(note);
-        let free = pool.free;
-        match free.front() {
-            Front::Item(channel) => Pressing {
+        let old_at = pool.oldest() as usize;
+        let old_slot = slots[old_at];
+        match pool.seat(group, mode, note, old_slot) {
+            Seat::Free(channel) => Pressing {
                 result: RegisterKeyResult::Accepted {
                     channel,
                     stopped_note: StoppedNote::Nothing,
                     started_note: note,
                     detuning,
                 },
-                change: Change {
-                    lost: Lost::Nothing,
-                    gained: Gained::Channel { key, note, channel },
-                },
+                change: Change::Press { key, note },
             },
-            Front::Empty => self.press_full(key, note, detuning, pool),
-        }
-    }
-
-    // A press that finds no free channel in its pool: the longest-held key gives its channel up, unless the mode is Block.
-    fn press_full(self, key: u8, note: i32, detuning: f64, full: JitPool) -> Pressing
-        requires { ⌜ (isNote note ≡ true) × (poolView full ≡ pool (view self) note) × (first (poolView full .free) ≡ none) ⌝ }
-        ensures { λ r. ⌜ pressing (view self) r ≡ replied (view self) (value (pressed (view self) key note detuning)) ⌝ }
-    {
-        let group = self.group_by;
-        let mode = self.pooling_mode;
-        let Oldest::Key {
-            key: old_key,
-            channel,
-            note: old_note,
-        } = self.oldest(full)
-        else {
-            return rejection();
-        };
-        if pool_of(group, old_note) != pool_of(group, note) {
-            return rejection();
-        }
-        let gained = Gained::Channel { key, note, channel };
-        match mode {
-            PoolingMode::Block => rejection(),
-            PoolingMode::Stop => {
-                let lost = Lost::Channel {
-                    key: old_key,
-                    note: old_note,
+            Seat::Given {
+                channel,
+                note: old_note,
+                forgotten,
+            } => Pressing {
+                result: RegisterKeyResult::Accepted {
                     channel,
-                    forgotten: true,
-                };
-                Pressing {
-                    result: RegisterKeyResult::Accepted {
-                        channel,
-                        stopped_note: StoppedNote::Note(old_note),
-                        started_note: note,
-                        detuning,
-                    },
-                    change: Change { lost, gained },
-                }
-            }
-            PoolingMode::Ignore => {
-                let lost = Lost::Channel {
-                    key: old_key,
-                    note: old_note,
-                    channel,
-                    forgotten: false,
-                };
-                Pressing {
-                    result: RegisterKeyResult::Accepted {
-                        channel,
-                        stopped_note: StoppedNote::Nothing,
-                        started_note: note,
-                        detuning,
-                    },
-                    change: Change { lost, gained },
-                }
-            }
-        }
-    }
-
-    // The longest-held key of a pool that still has its channel.
-    fn oldest(self, pool: JitPool) -> Oldest
-        ensures { λ r. ⌜ old r ≡ oldestOf (view self) (first (poolView pool .order)) ⌝ }
-    {
-        let order = pool.order;
-        match order.front() {
-            Front::Item(key) => match self.access_key(key) {
-                AccessKeyResult::Found {
-                    channel,
-                    found_note,
-                } => Oldest::Key {
-                    key,
-                    channel,
-                    note: found_note,
+                    stopped_note: note_if(forgotten, old_note),
+                    started_note: note,
+                    detuning,
                 },
-                AccessKeyResult::NotFound => Oldest::Nothing,
+                change: Change::Press { key, note },
             },
-            Front::Empty => Oldest::Nothing,
-        }
-    }
-
-    // A key's channel goes to the back of its pool, unless the key has lost it before.
-    fn losing(self, lost: Lost) -> JitTuningModel
-        ensures { λ r. ⌜ (view r ≡ losing (view self) lost) × (lost ≡ Lost.Nothing → r ≡ self) ⌝ }
-    {
-        let channels = self.channels;
-        let group_by = self.group_by;
-        let pooling_mode = self.pooling_mode;
-        let mut pools = self.pools;
-        let keys = self.keys;
-        let mut slots = keys.slots;
-        if let Lost::Channel {
-            key,
-            note,
-            channel,
-            forgotten,
-        } = lost {
-            if is_note(note) {
-                let at = pool_of(group_by, note);
-                let pool = pools[at];
-                let freed = pool.freed(key, channel);
-                pools[at] = freed;
-                if forgotten {
-                    let key_at = key as usize;
-                    let slot = Slot {
-                        channel: 0,
-                        note: NO_NOTE,
-                    };
-                    slots[key_at] = slot;
-                }
-            }
-        }
-        let keys = Keys { slots };
-        JitTuningModel {
-            channels,
-            group_by,
-            pooling_mode,
-            pools,
-            keys,
-        }
-    }
-
-    // A key takes the channel at the front of its pool.
-    fn gaining(self, gained: Gained) -> JitTuningModel
-        ensures { λ r. ⌜ (view r ≡ gaining (view self) gained) × (gained ≡ Gained.Nothing → r ≡ self) ⌝ }
-    {
-        let channels = self.channels;
-        let group_by = self.group_by;
-        let pooling_mode = self.pooling_mode;
-        let mut pools = self.pools;
-        let keys = self.keys;
-        let mut slots = keys.slots;
-        if let Gained::Channel { key, note, channel } = gained {
-            if is_note(note) {
-                let at = pool_of(group_by, note);
-                let pool = pools[at];
-                let taken = pool.taken(key);
-                pools[at] = taken;
-                let key_at = key as usize;
-                let low = note as i16;
-                let slot = Slot { channel, note: low };
-                slots[key_at] = slot;
-            }
-        }
-        let keys = Keys { slots };
-        JitTuningModel {
-            channels,
-            group_by,
-            pooling_mode,
-            pools,
-            keys,
+            Seat::Nothing => unchanged(RegisterKeyResult::Rejected),
         }
     }
 
@@ -520,92 +395,34 @@ impl JitTuningModel {
 }
 
 impl Change {
-    // No change.
-    pub fn none() -> Change
-        ensures { λ r. ⌜ r ≡ noChange ⌝ }
-    {
-        let lost = Lost::Nothing;
-        let gained = Gained::Nothing;
-        Change { lost, gained }
-    }
-
     // Whether it changes nothing.
     pub fn is_none(self) -> bool
         ensures { λ r. ⌜ r ≡ isNone self ⌝ }
     {
-        let lost = self.lost;
-        let gained = self.gained;
-        let Lost::Nothing = lost else {
-            return false;
-        };
-        let Gained::Nothing = gained else {
-            return false;
-        };
-        true
-    }
-}
-
-impl JitPool {
-    fn new(num_channels: u8) -> JitPool
-        requires { ⌜ «num_channels» ≤ 16 ⌝ }
-        ensures { λ r. ⌜ poolView r ≡ record { free = upward 0 «num_channels»; order = [] } ⌝ }
-    {
-        let free = Queue::counting(num_channels);
-        let order = Queue::new();
-        JitPool { free, order }
-    }
-
-    // The front goes to the key.
-    fn taken(self, key: u8) -> JitPool
-        ensures { λ r. ⌜ poolView r ≡ takenIn (poolView self) key ⌝ }
-    {
-        let free = self.free.rest();
-        let order = self.order.push(key);
-        JitPool { free, order }
-    }
-
-    // The channel goes to the back, unless the key has lost it.
-    fn freed(self, key: u8, channel: u8) -> JitPool
-        ensures { λ r. ⌜ poolView r ≡ freedIn (poolView self) key channel ⌝ }
-    {
-        if self.order.has(key) {
-            let free = self.free.push(channel);
-            let order = self.order.without(key);
-            return JitPool { free, order };
+        match self {
+            Change::Press { key: _, note: _ } => false,
+            Change::Release { key: _ } => false,
+            Change::Nothing => true,
         }
-        self
     }
 }
 
-// A press that is refused.
-fn refusal(n: u8) -> Pressing
-    ensures { λ r. ⌜ (press (r .result) ≡ refused n) × (r .change ≡ noChange) ⌝ }
+// A press that is refused or rejected.
+fn unchanged(result: RegisterKeyResult) -> Pressing
+    ensures { λ r. ⌜ (r .result ≡ result) × (r .change ≡ Change.Nothing) ⌝ }
 {
-    let result = RegisterKeyResult::Refused(n);
-    let change = Change::none();
-    Pressing { result, change }
-}
-
-// A press that no channel is free for.
-fn rejection() -> Pressing
-    ensures { λ r. ⌜ (press (r .result) ≡ value rejected) × (r .change ≡ noChange) ⌝ }
-{
-    let result = RegisterKeyResult::Rejected;
-    let change = Change::none();
-    Pressing { result, change }
-}
-
-// The number of a note's pool.
-fn pool_of(group: PoolGroupBy, note: i32) -> usize
-    requires { ⌜ isNote note ≡ true ⌝ }
-    ensures { λ r. ⌜ (r ≡ poolOf group note) × (r < poolCount group) × (r < 12) ⌝ }
-{
-    match group {
-        PoolGroupBy::NoteLetter => match letter(note) {
-            LetterAnswer::Letter(n) => n as usize,
-            // A note has a letter.
-            LetterAnswer::Refused(_) => 0,
-        },
-        PoolGroupBy::Channel => 0,
+    Pressing {
+        result,
+        change: Change::Nothing,
     }
+}
+
+// The note, if it is stopped.
+fn note_if(stops: bool, note: i32) -> StoppedNote
+    ensures { λ r. ⌜ stoppedNote r ≡ cond stops (some note) none ⌝ }
+{
+    if stops {
+        return StoppedNote::Note(note);
+    }
+    StoppedNote::Nothing
 }

@@ -1,18 +1,19 @@
 // The records of all keys: which are found, on which channel and note.
 
 ghost use mathlib.Core.Path.{_≡_};
+ghost use mathlib.Core.Bool.{cond};
 ghost use mathlib.Core.Option.{none};
 ghost use lib.ListN.{getD, replicate, drop};
 ghost use Rattle.models.specs.Lists.{first};
-ghost use Rattle.models.specs.Pool.{keyCount, heldFrom};
-ghost use Rattle.models.specs.JitModel.{records, place, nextHeld};
+ghost use Rattle.models.specs.Pool.{keyCount, isHeld, heldFrom};
+ghost use Rattle.models.specs.JitModel.{noRecord, recordOf, records, place, nextHeld};
 use arithmetic::note::is_note;
 
 // The number of keys, as `keyCount` of specs/.
 pub const KEYS: usize = 256;
 
 // One above the highest note: the key is not found.
-pub(crate) const NO_NOTE: i16 = 501;
+const NO_NOTE: i16 = 501;
 
 // What a lookup of a key finds.
 pub enum AccessKeyResult {
@@ -36,14 +37,56 @@ pub struct Keys {
     pub(crate) slots: [Slot; KEYS],
 }
 
+impl Slot {
+    // That of a key that is not found.
+    pub(crate) fn empty() -> Slot
+        ensures { λ r. ⌜ r ≡ noRecord ⌝ }
+    {
+        Slot {
+            channel: 0,
+            note: NO_NOTE,
+        }
+    }
+
+    // The same, unless its key is forgotten.
+    pub(crate) fn unless(self, forgotten: bool) -> Slot
+        ensures { λ r. ⌜ r ≡ cond forgotten noRecord self ⌝ }
+    {
+        if forgotten {
+            return Slot::empty();
+        }
+        self
+    }
+
+    // Whether its key is found.
+    pub(crate) fn is_found(self) -> bool
+        ensures { λ r. ⌜ r ≡ isHeld (recordOf self) ⌝ }
+    {
+        let note = self.note as i32;
+        is_note(note)
+    }
+
+    // Where its key is found.
+    pub(crate) fn place(self) -> AccessKeyResult
+        ensures { λ r. ⌜ place r ≡ recordOf self ⌝ }
+    {
+        let channel = self.channel;
+        let found_note = self.note as i32;
+        if is_note(found_note) {
+            return AccessKeyResult::Found {
+                channel,
+                found_note,
+            };
+        }
+        AccessKeyResult::NotFound
+    }
+}
+
 impl Keys {
     pub(crate) fn new() -> Keys
         ensures { λ r. ⌜ records r ≡ replicate keyCount none ⌝ }
     {
-        let slot = Slot {
-            channel: 0,
-            note: NO_NOTE,
-        };
+        let slot = Slot::empty();
         Keys {
             slots: [slot; KEYS],
         }
@@ -55,15 +98,7 @@ impl Keys {
         let at = key as usize;
         let slots = self.slots;
         let slot = slots[at];
-        let channel = slot.channel;
-        let found_note = slot.note as i32;
-        if is_note(found_note) {
-            return AccessKeyResult::Found {
-                channel,
-                found_note,
-            };
-        }
-        AccessKeyResult::NotFound
+        slot.place()
     }
 
     // The first found key from a number on.

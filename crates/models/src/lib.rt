@@ -5,6 +5,7 @@ pub mod channels;
 pub mod jit;
 pub mod keys;
 mod lists;
+pub mod pool;
 pub mod queue;
 pub mod steps;
 mod waiting;

@@ -119,7 +119,7 @@ impl JitTuner {
         if HIGHEST_DATA_BYTE < velocity {
             return Pressing {
                 answer: PressAnswer::Refused(DATA_BYTE_OVER_127),
-                change: Change::none(),
+                change: Change::Nothing,
             };
         }
         let kind = self.kind;
@@ -150,7 +150,7 @@ impl JitTuner {
                     },
                     Sent::Refused(n) => Pressing {
                         answer: PressAnswer::Refused(n),
-                        change: Change::none(),
+                        change: Change::Nothing,
                     },
                 }
             }
@@ -160,7 +160,7 @@ impl JitTuner {
             },
             RegisterKeyResult::Refused(n) => Pressing {
                 answer: PressAnswer::Refused(n),
-                change: Change::none(),
+                change: Change::Nothing,
             },
         }
     }
@@ -172,7 +172,7 @@ impl JitTuner {
         if HIGHEST_DATA_BYTE < velocity {
             return Releasing {
                 answer: Sent::Refused(DATA_BYTE_OVER_127),
-                change: Change::none(),
+                change: Change::Nothing,
             };
         }
         let channels = self.model.channel_list();
@@ -186,7 +186,7 @@ impl JitTuner {
             },
             Sent::Refused(n) => Releasing {
                 answer: Sent::Refused(n),
-                change: Change::none(),
+                change: Change::Nothing,
             },
         }
     }

@@ -11,9 +11,9 @@ use Rattle.arithmetic.specs.Nearest.{nearestNote}
 use Rattle.arithmetic.proofs.Nearest.{nearest-is-note}
 use Rattle.arithmetic.proofs.Refusals.{nearest-refuses}
 use Rattle.models.specs.Pool.{registerRule, replied}
-use Rattle.models.specs.JitModel.{view}
+use Rattle.models.specs.JitModel.{view, press}
+use Rattle.models.specs.Change.{pressChange}
 use Rattle.models.proofs.Pools.{nearest-is}
-use Rattle.models.proofs.Changes.{unchanged}
 use Rattle.models.proofs.jit.JitTuningModel.press.Statement.{statement}
 use Rattle.models.proofs.jit.JitTuningModel.press.Tie as tie
 
@@ -40,8 +40,8 @@ press-note-requires c κs = rw (note c, is c .1) (nearest-is-note (c .before .be
 enum-known-n : tie.Need-enum-known-n
 enum-known-n c = search needs
 
-refusal-requires : tie.Need-refusal-requires
-refusal-requires c κs = search needs
+unchanged-requires : tie.Need-unchanged-requires
+unchanged-requires c κs = search needs
 
 returns : tie.Need-returns
 unfolding registerRule
@@ -51,14 +51,14 @@ returns c =
     c .press-note .ensures ∙ rw (note known, is known .0, is known .1, is known .2)
 
 returns-2 : tie.Need-returns-2
-unfolding replied registerRule
+unfolding replied registerRule press pressChange
 returns-2 c =
     let k = c .before in
     let a = k .before .before .before .before .args in
     let refusal = nearest-refuses (a .pitch .hz) (k .before .n .given .0 .0) .0 (sym (k .before .before .before .find-by-pitch .ensures) ∙ ap approximation (k .before .n .given .1)) in
-    unchanged (view (a .self)) (c .refusal .result) (c .refusal .ensures .0) (c .refusal .ensures .1) ∙ rw (refusal .0, refusal .1)
+    rw (c .unchanged .ensures .0, c .unchanged .ensures .1, refusal .0, refusal .1)
 
 pub press-spec : {M : Type 1} → statement M
 press-spec =
     tie.close
-    (tie.spec find-by-pitch-requires enum-known-note press-note-requires enum-known-n refusal-requires returns returns-2)
+    (tie.spec find-by-pitch-requires enum-known-note press-note-requires enum-known-n unchanged-requires returns returns-2)

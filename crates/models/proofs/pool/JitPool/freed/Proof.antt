@@ -1,10 +1,10 @@
--- `jit::JitPool::freed` meets its contract, by whether the key is in the press order. Assumes nothing.
+-- `pool::JitPool::freed` meets its contract, by whether the key is in the press order. Assumes nothing.
 use borrow.Author.Needs.{needs}
 use mathlib.Core.Path.{sym, _∙_}
 use Rattle.models.specs.Pool.{freedIn}
 use Rattle.models.specs.JitModel.{poolView}
-use Rattle.models.proofs.jit.JitPool.freed.Statement.{statement}
-use Rattle.models.proofs.jit.JitPool.freed.Tie as tie
+use Rattle.models.proofs.pool.JitPool.freed.Statement.{statement}
+use Rattle.models.proofs.pool.JitPool.freed.Tie as tie
 
 has-requires : tie.Need-has-requires
 has-requires c κs = search needs

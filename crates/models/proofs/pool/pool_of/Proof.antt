@@ -1,4 +1,4 @@
--- `jit::pool_of` meets its contract: a note has a letter, which is below 12. Assumes nothing.
+-- `pool::pool_of` meets its contract: a note has a letter, which is below 12. Assumes nothing.
 use borrow.Author.Needs.{needs}
 use mathlib.Core.Path.{sym, ap, _∙_}
 use native.Mathlib.Omega.{arith}
@@ -8,8 +8,8 @@ use Rattle.arithmetic.specs.Answers.{letterAnswer}
 use Rattle.models.specs.Pool.{poolOf, poolCount}
 use Rattle.arithmetic.proofs.Notes.{letter-below}
 use Rattle.models.proofs.Pools.{letter-is, letter-not}
-use Rattle.models.proofs.jit.pool_of.Statement.{statement}
-use Rattle.models.proofs.jit.pool_of.Tie as tie
+use Rattle.models.proofs.pool.pool_of.Statement.{statement}
+use Rattle.models.proofs.pool.pool_of.Tie as tie
 
 enum-told : tie.Need-enum-told
 enum-told c = search needs

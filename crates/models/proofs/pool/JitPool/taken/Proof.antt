@@ -1,9 +1,9 @@
--- `jit::JitPool::taken` meets its contract. Assumes nothing.
+-- `pool::JitPool::taken` meets its contract. Assumes nothing.
 use borrow.Author.Needs.{needs}
 use Rattle.models.specs.Pool.{takenIn}
 use Rattle.models.specs.JitModel.{poolView}
-use Rattle.models.proofs.jit.JitPool.taken.Statement.{statement}
-use Rattle.models.proofs.jit.JitPool.taken.Tie as tie
+use Rattle.models.proofs.pool.JitPool.taken.Statement.{statement}
+use Rattle.models.proofs.pool.JitPool.taken.Tie as tie
 
 rest-requires : tie.Need-rest-requires
 rest-requires c κs = search needs

@@ -1,8 +1,8 @@
--- `jit::JitPool::new` meets its contract: all channels are free, and no key has one. Assumes nothing.
+-- `pool::JitPool::new` meets its contract: all channels are free, and no key has one. Assumes nothing.
 use borrow.Author.Needs.{needs}
 use Rattle.models.specs.JitModel.{poolView}
-use Rattle.models.proofs.jit.JitPool.new.Statement.{statement}
-use Rattle.models.proofs.jit.JitPool.new.Tie as tie
+use Rattle.models.proofs.pool.JitPool.new.Statement.{statement}
+use Rattle.models.proofs.pool.JitPool.new.Tie as tie
 
 counting-requires : tie.Need-counting-requires
 counting-requires c κs = search needs
