@@ -14,6 +14,7 @@ use lib.Seq.{getD-set-same, getD-set-other}
 use lib.Dec.{leb}
 use borrow.Author.Tests.{leb-true, leb-false}
 use Rattle.arithmetic.specs.Outcome.{value, refuse_unless_then_}
+use Rattle.arithmetic.specs.Note.{isNote}
 use Rattle.arithmetic.specs.Pitch.{isPitch, detuningOf}
 use Rattle.arithmetic.specs.Nearest.{nearestNote}
 use Rattle.models.specs.declared.jit.PoolGroupBy.{PoolGroupBy}
@@ -22,7 +23,10 @@ use Rattle.models.specs.declared.jit.PoolingMode.the-variants.{Block, St
 use Rattle.models.specs.Lists.{member, without, upward, first}
 use Rattle.models.specs.ChannelList.{listRule, present}
 use Rattle.models.specs.Pool.{keyCount, Place, Pool, State, Held, emptyPool, poolCount, poolOf, pool, found, fresh, openRule, withPool, withKey, behind, takenIn, taken, freedIn, freed, forgotten, released, releasedAll, stopped, oldest, madeRoom, roomBy, roomFor, pressedOn, pressed, isHeld, unlessHeld, registerRule, replied}
-use Rattle.models.specs.Recital.{Call, press, release, lookup, repitch, stop, after, played, times, channelAt, keysOn, standing}
+use Rattle.models.specs.Change.{changed, anyDetuning, OfKey}
+use Rattle.models.specs.declared.jit.Change as C
+use Rattle.models.specs.declared.jit.Change.{Change}
+use Rattle.models.specs.Recital.{Call, press, release, lookup, repitch, change, stop, after, played, times, channelAt, keysOn, standing}
 use Rattle.models.proofs.ChannelLists.{Verdict, listed, offended, verdict, fine-listed, offence-refused, channels-few}
 use Rattle.models.proofs.Queues.{behind-room}
 use Rattle.models.proofs.Pools.{pool-small, oldest-is, released-found, released-none, released-other}
@@ -127,14 +131,14 @@ module _ (n : ℕ) (s t : State) (i : ℕ) (g : t .group ≡ s .group) where
       })
 
 -- a state of which one pool is set anew
-change : (n : ℕ) (s t : State) (i : ℕ) (p : Pool) → Ok n s → i < poolCount (s .group) → t .channels ≡ s .channels → t .group ≡ s .group
+anew : (n : ℕ) (s t : State) (i : ℕ) (p : Pool) → Ok n s → i < poolCount (s .group) → t .channels ≡ s .channels → t .group ≡ s .group
     → t .pools ≡ set (s .pools) i p
     → length (t .keys) ≡ keyCount
     → ((k : ℕ) (q : Place) → found t k ≡ some q → q .channel < n)
     → PoolOk n t i p
     → ((j : ℕ) → j < poolCount (s .group) → j ≢ i → (k : ℕ) → 0 < times k (getD (s .pools) j emptyPool .order) → found t k ≡ found s k)
     → Ok n t
-change n s t i p ok h c g e keys low here others =
+anew n s t i p ok h c g e keys low here others =
     record {
       few = ok .few;
       channels = ap length c ∙ ok .channels;
@@ -220,7 +224,7 @@ module _ (n : ℕ) (s : State) (ok : Ok n s) (key : ℕ) (small : key < keyCount
   pub taken-ok : (c : ℕ) → first (pool s note .free) ≡ some c → Ok n (taken s key note c)
   unfolding taken withKey withPool takenIn standing
   taken-ok c h =
-      change n s t (poolOf (s .group) note) (takenIn p key) ok (pool-small (s .group) note) refl refl refl (length-set (s .keys) key (some place) ∙ ok .keys)
+      anew n s t (poolOf (s .group) note) (takenIn p key) ok (pool-small (s .group) note) refl refl refl (length-set (s .keys) key (some place) ∙ ok .keys)
       low
       (seated n s t (poolOf (s .group) note) refl (drop 1 (p .free)) (p .order) key place (ok .few)
       (λ x. omega (arith, p-ok .once x, ap (times x) parts, times-cons x c (drop 1 (p .free))))
@@ -314,7 +318,7 @@ module _ (n : ℕ) (s : State) (ok : Ok n s) (key : ℕ) (q : Place) (e : found 
         → Ok n t
     unfolding freed withPool freedIn
     lost-ok c pools keys low =
-        change n s t (poolOf (s .group) (q .note)) (freedIn (pool s (q .note)) key (q .channel)) ok (pool-small (s .group) (q .note)) c g pools keys
+        anew n s t (poolOf (s .group) (q .note)) (freedIn (pool s (q .note)) key (q .channel)) ok (pool-small (s .group) (q .note)) c g pools keys
         (λ k p f.
         either key k (λ same. low p (subst (λ (x : ℕ). found t x ≡ some p) same f)) (λ ne. ok .low k p (sym (agree k ne) ∙ f)))
         (freed-by (member key (pool s (q .note) .order)) refl)
@@ -388,6 +392,18 @@ register-ok n s ok key small hz = go (isPitch hz) (found s key) refl
     go true (some p) e = ok
     go true none e = pressed-ok n s ok key e small (nearestNote hz) (detuningOf hz (nearestNote hz))
 
+change-ok : (n : ℕ) (s : State) → Ok n s → (c : Change) → OfKey c → Ok n (changed s c)
+unfolding changed unlessHeld isHeld replied
+change-ok n s ok (C.the-variants.Press key note) small = go (isNote note) (found s key) refl
+  where
+    go : (b : Bool) (p : Option Place) → found s key ≡ p
+        → Ok n (cond b (replied s (refuse 11 unless not (isHeld p) then value (pressed s key note anyDetuning)) .1) s)
+    go false p e = ok
+    go true (some p) e = ok
+    go true none e = pressed-ok n s ok key e small note anyDetuning
+change-ok n s ok (C.the-variants.Release key) small = released-ok n s ok key
+change-ok n s ok C.the-variants.Nothing small = ok
+
 all-ok : (n : ℕ) (s : State) → Ok n s → (hs : List Held) → Ok n (releasedAll s hs)
 unfolding releasedAll
 all-ok n s ok [] = ok
@@ -399,6 +415,7 @@ after-ok n s ok (press key small hz) = register-ok n s ok key small hz
 after-ok n s ok (release key) = released-ok n s ok key
 after-ok n s ok (lookup key) = ok
 after-ok n s ok (repitch key hz) = ok
+after-ok n s ok (change c small) = change-ok n s ok c small
 after-ok n s ok stop = all-ok n s ok _
 
 pub played-ok : (n : ℕ) (s : State) → Ok n s → (cs : List Call) → Ok n (played s cs)

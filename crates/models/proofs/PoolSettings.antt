@@ -1,12 +1,13 @@
 -- A model keeps the channel list, the kind of group and the pooling mode that it was opened with, whatever is called. Assumes nothing.
 use Prim.Native.Nat.{ℕ}
 use mathlib.Core.Path.{_≡_, refl, _∙_}
-use mathlib.Core.Bool.{Bool, true, false, not}
+use mathlib.Core.Bool.{Bool, true, false, not, cond}
 use mathlib.Core.List.{List, [], _∷_}
 use mathlib.Core.Option.{Option, some, none}
 use lib.IntN.{ℤ}
 use lib.Ieee.{Float}
 use Rattle.arithmetic.specs.Outcome.{value, refuse_unless_then_}
+use Rattle.arithmetic.specs.Note.{isNote}
 use Rattle.arithmetic.specs.Pitch.{isPitch, detuningOf}
 use Rattle.arithmetic.specs.Nearest.{nearestNote}
 use Rattle.models.specs.declared.jit.PoolGroupBy.{PoolGroupBy}
@@ -15,7 +16,10 @@ use Rattle.models.specs.declared.jit.PoolingMode.the-variants.{Block, St
 use Rattle.models.specs.Lists.{first}
 use Rattle.models.specs.ChannelList.{listRule, present}
 use Rattle.models.specs.Pool.{Place, State, Held, pool, found, fresh, openRule, withPool, withKey, taken, freed, forgotten, released, releasedFrom, releasedAll, stopped, oldest, Room, madeRoom, roomBy, roomFor, pressedOn, pressed, isHeld, unlessHeld, registerRule, replied}
-use Rattle.models.specs.Recital.{Call, press, release, lookup, repitch, stop, after, played}
+use Rattle.models.specs.Change.{changed, anyDetuning}
+use Rattle.models.specs.declared.jit.Change as C
+use Rattle.models.specs.declared.jit.Change.{Change}
+use Rattle.models.specs.Recital.{Call, press, release, lookup, repitch, change, stop, after, played}
 
 pub record Same (s t : State) : Type 0 where
   pub channels : t .channels ≡ s .channels
@@ -77,6 +81,17 @@ register-same s key hz = go (isPitch hz) (not (isHeld (found s key)))
     go true false = same s
     go false b = same s
 
+change-same : (s : State) (c : Change) → Same s (changed s c)
+unfolding changed unlessHeld replied
+change-same s (C.the-variants.Press key note) = go (isNote note) (not (isHeld (found s key)))
+  where
+    go : (a b : Bool) → Same s (cond a (replied s (refuse 11 unless b then value (pressed s key note anyDetuning)) .1) s)
+    go true true = pressed-same s key note anyDetuning
+    go true false = same s
+    go false b = same s
+change-same s (C.the-variants.Release key) = released-same s key
+change-same s C.the-variants.Nothing = same s
+
 all-same : (s : State) (hs : List Held) → Same s (releasedAll s hs)
 unfolding releasedAll
 all-same s [] = same s
@@ -88,6 +103,7 @@ after-same s (press key small hz) = register-same s key hz
 after-same s (release key) = released-same s key
 after-same s (lookup key) = same s
 after-same s (repitch key hz) = same s
+after-same s (change c small) = change-same s c
 after-same s stop = all-same s _
 
 pub played-same : (s : State) (cs : List Call) → Same s (played s cs)

@@ -6,13 +6,16 @@ use mathlib.Core.Option.{Option, some, none}
 use lib.Dec.{eqb}
 use lib.Ieee.{Float}
 use Rattle.models.specs.Pool.{keyCount, Place, Pool, State, found, released, registerRule, replied, stopped}
+use Rattle.models.specs.Change.{changed, OfKey}
+use Rattle.models.specs.declared.jit.Change.{Change}
 
--- A call, with any key there is and any f64; presses and repitches may be refused, presses rejected.
+-- A call, with any key there is and any f64; presses and repitches may be refused, presses rejected. A change may be any, told by this model or not.
 pub data Call : Type 0 where
   press : (key : ℕ) → key < keyCount → (hz : Float) → Call
   release : (key : ℕ) → Call
   lookup : (key : ℕ) → Call
   repitch : (key : ℕ) → (hz : Float) → Call
+  change : (c : Change) → OfKey c → Call
   stop : Call
 
 unfoldable pub after : State → Call → State
@@ -20,6 +23,7 @@ after s (press key h hz) = replied s (registerRule s key hz) .1
 after s (release key) = released s key
 after s (lookup key) = s
 after s (repitch key hz) = s
+after s (change c h) = changed s c
 after s stop = stopped s
 
 unfoldable pub played : State → List Call → State
