@@ -5,14 +5,17 @@ use mathlib.Core.Bool.{Bool, true, false, not}
 use mathlib.Core.Option.{Option, some, none}
 use lib.IntN.{ℤ}
 use lib.Ieee.{Float}
-use Rattle.arithmetic.specs.Outcome.{value, refuse_unless_then_}
+use Rattle.arithmetic.specs.Outcome.{Outcome, value, refuse_unless_then_}
 use Rattle.arithmetic.specs.Note.{isNote}
 use Rattle.arithmetic.specs.Pitch.{isPitch, detuningOf}
 use Rattle.arithmetic.specs.Nearest.{nearestNote}
 use Rattle.arithmetic.proofs.Nearest.{nearest-is-note}
 use Rattle.models.specs.Lists.{first}
-use Rattle.models.specs.Pool.{State, Place, pool, found, released, releasedFrom, roomFor, pressedOn, pressed, isHeld, unlessHeld, registerRule, replied}
-use Rattle.models.specs.Change.{changed, anyDetuning, pressChange, releaseChange}
+use Rattle.models.specs.Pool.{State, Place, Press, pool, found, released, releasedFrom, roomFor, pressedOn, pressed, isHeld, unlessHeld, registerRule, replied}
+use Rattle.models.specs.JitModel.{press}
+use Rattle.models.specs.Change.{changed, anyDetuning, pressChange, releaseChange, pressTold, pressing}
+use Rattle.models.specs.declared.jit.Change.{Change}
+use Rattle.models.specs.declared.jit.Pressing.{Pressing}
 use Rattle.models.proofs.Changes.{press-new}
 
 module _ (s : State) (key : ℕ) where
@@ -54,3 +57,10 @@ module _ (s : State) (key : ℕ) where
           → let o = replied s (refuse 1 unless b then unlessHeld s key (nearestNote hz) (detuningOf hz (nearestNote hz))) in changed s (pressChange key (o .0)) ≡ o .1
       go true e = press-told (nearestNote hz) (detuningOf hz (nearestNote hz)) (nearest-is-note hz (rw e tt))
       go false e = refl
+
+  -- what a press answers and the state after its change
+  pub press-leads : (hz : Float) (r : Pressing) → pressing r ≡ pressTold key (replied s (registerRule s key hz) .0)
+      → _≡_ {A = Outcome Press × State} (press (r .result), changed s (r .change)) (replied s (registerRule s key hz))
+  press-leads hz r e =
+      let rule = replied s (registerRule s key hz) in
+      ap (λ (x : Outcome Press × Change). (x .0, changed s (x .1))) e ∙ ap (λ (t : State). (rule .0, t)) (register-told hz)

@@ -1,5 +1,5 @@
 -- What the calls of a pool tuner come to: a press by the model's answer, and a release. Assumes nothing.
-use mathlib.Core.Path.{_≡_, sym, ap, subst, _∙_}
+use mathlib.Core.Path.{_≡_, sym, ap, _∙_}
 use mathlib.Core.Option.{Option}
 use mathlib.Core.List.{List, []}
 use Prim.Native.Nat.{ℕ, _<_}
@@ -86,11 +86,6 @@ pub release-sent : (t : Tuner) (key v : ℕ) → v < 128 → noteOffRule t key v
 release-sent t key v low = rw (lt-ltb v 128 low)
 
 -- ---- a call that tells what it changes, and the tuner after the change
-
-pub none-changed :
-    {R S : Type 0} {view : Change → S} {rule : Outcome (Effect R S)} {old new : List ℕ} {answer : Outcome R} {change : Change} → change ≡ noChange
-    → Steps view rule noChange old answer noChange new → Steps view rule noChange old answer change new
-none-changed {view = view} {rule = rule} {old = old} {new = new} {answer = answer} e s = subst (λ (x : Change). Steps view rule noChange old answer x new) (sym e) s
 
 pub carried :
     {R : Type 0} {rule : Outcome (Effect R Tuner)} {old new : List ℕ} {answer : Outcome R} {change : Change} (t back : JitTuner)

@@ -22,7 +22,7 @@ use Rattle.models.proofs.PoolPresses.{press-channel}
 use Rattle.models.proofs.PoolSettings.{channels-kept}
 use Rattle.senders.specs.Lent.{Effect, fitted, Moved, Steps}
 use Rattle.senders.specs.Jit.{Tuner, pressEffect, noteOnRule, noteOffRule, stopRule, startRule}
-use Rattle.senders.specs.Passage.{Call, noteOn, noteOff, stop, settled, after, played}
+use Rattle.senders.specs.Passage.{Call, noteOn, noteOff, change, stop, settled, after, played}
 
 -- ---- the code's calls are calls of a passage
 
@@ -74,6 +74,7 @@ after-moves t (noteOn key small hz v room) =
     (tested-moves t 8 (ltb v 128) (pressEffect t v (registerRule (t .pool) key hz)) (press-moves t v key small hz (registerRule (t .pool) key hz) refl))
 after-moves t (noteOff key v room) =
     fitted-moves t room (noteOffRule t key v) (tested-moves t 8 (ltb v 128) _ (moves (recital.release key) refl))
+after-moves t (change c small) = moves (recital.change c small) refl
 after-moves t (stop room) = fitted-moves t room (stopRule t) (moves recital.stop refl)
 
 pub played-pool : (t : Tuner) (cs : List Call) → (ps : List recital.Call) × (played t cs .pool ≡ recital.played (t .pool) ps)

@@ -8,9 +8,9 @@ use lib.ListN.{length}
 use Rattle.models.specs.Outcome.{Outcome, value, refused, refuse_unless_then_}
 use Rattle.models.specs.Refusal.{dataByteOver127}
 use Rattle.models.specs.ChannelList.{channelsAnswer}
-use Rattle.models.specs.Pool.{State, Place, Held, Press, accepted, rejected, found, released, registerRule, repitchRule, openRule, heldKeys, stopped}
+use Rattle.models.specs.Pool.{State, Place, Held, Press, accepted, rejected, found, released, registerRule, replied, repitchRule, openRule, heldKeys, stopped}
 use Rattle.models.specs.JitModel.{view}
-use Rattle.models.specs.Change.{changed}
+use Rattle.models.specs.Change.{changed, noChange, pressChange, releaseChange}
 use Rattle.models.specs.Steps.{sentAs}
 use Rattle.models.specs.declared.steps.TuningKind.{TuningKind}
 use Rattle.models.specs.declared.jit.PoolingMode.{PoolingMode}
@@ -40,6 +40,17 @@ withPool t s = record { pool = s; kind = t .kind }
 -- the tuner after a change of its pool
 abbrev pub after : Tuner → Change → Tuner
 after t c = withPool t (changed (t .pool) c)
+
+-- the changes that a press and a release tell where they are not refused
+abbrev pub pressTells : Tuner → ℕ → Float → Change
+pressTells t key hz = pressChange key (replied (t .pool) (registerRule (t .pool) key hz) .0)
+
+abbrev pub releaseTells : Tuner → ℕ → Change
+releaseTells t key = releaseChange key (found (t .pool) key)
+
+abbrev pub unlessRefused : {R : Type 0} → Outcome R → Change → Change
+unlessRefused (value r) c = c
+unlessRefused (refused n) c = noChange
 
 -- ---- a tuner is started on a channel list; "only channel groups are sent"
 

@@ -9,7 +9,7 @@ ghost use Rattle.models.specs.Change.{noChange};
 ghost use Rattle.senders.specs.Lent.{Put, Answers, Steps};
 ghost use Rattle.senders.specs.Answers.{sentAnswer, pressAnswer};
 ghost use Rattle.senders.specs.Midi.{bytesOf};
-ghost use Rattle.senders.specs.Jit.{tuner, after, opened, startRule, noteOnRule, noteOffRule, notePitchRule, noteAttrRule, globalAttrRule, releaseMessages, stopRule};
+ghost use Rattle.senders.specs.Jit.{tuner, after, opened, startRule, noteOnRule, noteOffRule, notePitchRule, noteAttrRule, globalAttrRule, releaseMessages, stopRule, pressTells, releaseTells, unlessRefused};
 use crate::midi::ChannelMessageType;
 use crate::midi::HIGHEST_DATA_BYTE;
 use crate::midi::Sent;
@@ -115,6 +115,7 @@ impl JitTuner {
     // A press as `note_on`, with what it changes in place of the tuner after it.
     pub fn press(self, key: u8, pitch: Pitch, velocity: u8, out: &mut [u8]) -> Pressing
         ensures { λ r. ⌜ Steps (after (tuner self)) (noteOnRule (tuner self) key (pitch .hz) velocity) noChange (now (out .entry)) (pressAnswer (r .answer)) (r .change) (now (out .exit)) ⌝ }
+        ensures { λ r. ⌜ r .change ≡ unlessRefused (pressAnswer (r .answer)) (pressTells (tuner self) key (pitch .hz)) ⌝ }
     {
         if HIGHEST_DATA_BYTE < velocity {
             return Pressing {
@@ -168,6 +169,7 @@ impl JitTuner {
     // A release as `note_off`, with what it changes in place of the tuner after it.
     pub fn release(self, key: u8, velocity: u8, out: &mut [u8]) -> Releasing
         ensures { λ r. ⌜ Steps (after (tuner self)) (noteOffRule (tuner self) key velocity) noChange (now (out .entry)) (sentAnswer (r .answer)) (r .change) (now (out .exit)) ⌝ }
+        ensures { λ r. ⌜ r .change ≡ unlessRefused (sentAnswer (r .answer)) (releaseTells (tuner self) key) ⌝ }
     {
         if HIGHEST_DATA_BYTE < velocity {
             return Releasing {

@@ -15,8 +15,8 @@ same-length c = search needs
 
 returns : tie.Need-returns
 returns c =
-    let p = c .before .before .before .before in
-    carried (p .before .before .before .args .self) (c .changed .result) (c .changed .ensures) (p .release .ensures)
+    let p = c .before .before .before in
+    carried (p .before .before .before .args .self) (c .changed .result) (c .changed .ensures) (p .release .ensures .0)
 
 pub note-off-spec : {M : Type 1} → statement M
 note-off-spec = tie.close (tie.spec release-requires changed-requires same-length returns)

@@ -15,8 +15,8 @@ same-length c = search needs
 
 returns : tie.Need-returns
 returns c =
-    let p = c .before .before .before .before in
-    carried (p .before .before .before .args .self) (c .changed .result) (c .changed .ensures) (p .press .ensures)
+    let p = c .before .before .before in
+    carried (p .before .before .before .args .self) (c .changed .result) (c .changed .ensures) (p .press .ensures .0)
 
 pub note-on-spec : {M : Type 1} → statement M
 note-on-spec = tie.close (tie.spec press-requires changed-requires same-length returns)
