@@ -10,7 +10,7 @@ use lib.ListN.{length, take, drop, length-append}
 use lib.Seq.{take-at}
 use borrow.Author.Tests.{le-leb}
 use Rattle.models.specs.Outcome.{Outcome, value, refused}
-use Rattle.models.specs.Change.{noChange, changed, losing, gaining}
+use Rattle.models.specs.Change.{noChange, changed}
 use Rattle.senders.specs.Lent.{Effect, sends, sent, Answer, Steps, Answers}
 use Rattle.senders.specs.Answers.{sentAnswer}
 use Rattle.senders.specs.Jit.{Tuner, after as Jit·after, Pressed, noteOnRule, noteOffRule, notePitchRule}
@@ -89,7 +89,7 @@ effected t (refused n) = refusing n refl
 
 -- no change leaves the tuner as it is
 pub after-none : (u : Tuner) → Jit·after u noChange ≡ u
-unfolding changed losing gaining
+unfolding changed
 after-none u = refl
 
 -- ---- a call with room for 18 bytes

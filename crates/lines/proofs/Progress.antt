@@ -11,10 +11,9 @@ use borrow.Rule.Slice.PartMut.{putMid}
 use Rattle.models.specs.Outcome.{value}
 use Rattle.senders.specs.Lent.{Answers, sent, written}
 use Rattle.senders.specs.Answers.{sentAnswer}
-use Rattle.models.specs.Change.{losing, gaining, changed, noLoss, noGain, isNone}
+use Rattle.models.specs.Change.{changed, isNone}
+use Rattle.models.specs.declared.jit.Change as C
 use Rattle.models.specs.declared.jit.Change.{Change}
-use Rattle.models.specs.declared.jit.Lost as L
-use Rattle.models.specs.declared.jit.Gained as G
 use Rattle.senders.specs.Jit.{Tuner, after, withPool}
 use Rattle.senders.proofs.Lent.{tail-part, tail-back}
 use Rattle.senders.specs.declared.midi.Sent.{Sent}
@@ -30,13 +29,10 @@ use Rattle.lines.proofs.Stepping.{behind, behind-behind, Small, no-feed
 
 -- a change that is none leaves the tuner
 pub none-after : (t : Tuner) (c : Change) → isNone c ≡ true → t ≡ after t c
-unfolding changed losing gaining
-none-after t c e = by (c .lost) (c .gained) e
-  where
-    by : (l : L.Lost) (g : G.Gained) → noLoss l && noGain g ≡ true → t ≡ withPool t (gaining (losing (t .pool) l) g)
-    by L.the-variants.Nothing G.the-variants.Nothing e = refl
-    by L.the-variants.Nothing (G.the-variants.Channel k n ch) e = let z : _≡_ {A = ℕ} 0 1 = cc in absurd (omega arith)
-    by (L.the-variants.Channel k n ch gone) g e = let z : _≡_ {A = ℕ} 0 1 = cc in absurd (omega arith)
+unfolding changed isNone
+none-after t C.the-variants.Nothing e = refl
+none-after t (C.the-variants.Press key note) e = let z : _≡_ {A = ℕ} 0 1 = cc in absurd (omega arith)
+none-after t (C.the-variants.Release key) e = let z : _≡_ {A = ℕ} 0 1 = cc in absurd (omega arith)
 
 -- `at` bytes of the piece are taken and w bytes written: what a call does is that, and then what it does with the rest
 pub record Progress (s₀ : Session) (piece old : List ℕ) (s : Session) (at w : ℕ) (out : List ℕ) : Type 0 where

@@ -14,7 +14,7 @@ same-length : tie.Need-same-length
 same-length c = search needs
 
 returns : tie.Need-returns
-returns c = carried (c .before .before .before .before .before .before .before .before .args .tuner) (c .changed .result) (c .changed .ensures) (c .before .before .before .before .reply-to .ensures)
+returns c = carried (c .before .before .before .before .before .before .before .args .tuner) (c .changed .result) (c .changed .ensures) (c .before .before .before .reply-to .ensures)
 
 pub answer-spec : {M : Type 1} → statement M
 answer-spec = tie.close (tie.spec reply-to-requires changed-requires same-length returns)

@@ -2,7 +2,6 @@
 use mathlib.Core.Path.{ap}
 use Rattle.senders.specs.Jit.{tuner, after}
 use Rattle.senders.proofs.Lent.{ends-refused}
-use Rattle.senders.proofs.Calls.{none-changed}
 use Rattle.lines.specs.Line.{meant}
 use Rattle.lines.specs.Console.{eventRule}
 use Rattle.lines.proofs.Hears.{after-none, meant-event, on-heard, off-heard, bend-heard}
@@ -17,14 +16,9 @@ enum-known-line c = search needs
 enum-told : tie.Need-enum-told
 enum-told c = search needs
 
-none-requires : tie.Need-none-requires
-none-requires c κs = search needs
-
 returns : tie.Need-returns
 unfolding eventRule meant
-returns c =
-    none-changed (c .none .ensures)
-    (ends-refused (ap (λ (l : Line). eventRule (tuner (c .before .before .before .before .args .tuner)) (meant l)) (c .before .enum-told .given .1)))
+returns c = ends-refused (ap (λ (l : Line). eventRule (tuner (c .before .before .before .args .tuner)) (meant l)) (c .enum-told .given .1))
 
 enum-told-2 : tie.Need-enum-told-2
 enum-told-2 c = search needs
@@ -53,30 +47,26 @@ pitch-of-requires-2 c κs = search needs
 note-pitch-requires : tie.Need-note-pitch-requires
 note-pitch-requires c κs = search needs
 
-none-requires-2 : tie.Need-none-requires-2
-none-requires-2 c κs = search needs
-
 same-length : tie.Need-same-length
 same-length c = search needs
 
 returns-2 : tie.Need-returns-2
 returns-2 c =
-    on-heard (tuner (c .before .before .before .before .before .before .before .before .before .before .before .before .before .args .tuner)) (meant-event (c .before .before .before .before .before .before .before .before .before .before .line .given .1) (c .before .before .before .before .before .before .before .enum-told2 .given .1)) (c .before .before .before .before .before .before .pitch-of .ensures) (c .before .before .before .before .press .ensures) (c .before .sent-of .ensures)
+    on-heard (tuner (c .before .before .before .before .before .before .before .before .before .before .before .before .args .tuner)) (meant-event (c .before .before .before .before .before .before .before .before .before .line .given .1) (c .before .before .before .before .before .before .enum-told2 .given .1)) (c .before .before .before .before .before .pitch-of .ensures) (c .before .before .before .press .ensures .0) (c .sent-of .ensures)
 
 same-length-2 : tie.Need-same-length-2
 same-length-2 c = search needs
 
 returns-3 : tie.Need-returns-3
-returns-3 c = off-heard (tuner (c .before .before .before .before .before .before .before .before .before .before .before .args .tuner)) (meant-event (c .before .before .before .before .before .before .before .before .line .given .1) (c .before .before .before .before .before .enum-told3 .given .1)) (c .before .before .before .release .ensures)
+returns-3 c = off-heard (tuner (c .before .before .before .before .before .before .before .before .before .before .args .tuner)) (meant-event (c .before .before .before .before .before .before .before .line .given .1) (c .before .before .before .before .enum-told3 .given .1)) (c .before .before .release .ensures .0)
 
 same-length-3 : tie.Need-same-length-3
 same-length-3 c = search needs
 
 returns-4 : tie.Need-returns-4
 returns-4 c =
-    let u = tuner (c .before .before .before .before .before .before .before .before .before .before .before .before .args .tuner) in
-    none-changed (c .none2 .ensures)
-    (bend-heard {view = after u} u (after-none u) (meant-event (c .before .before .before .before .before .before .before .before .before .line .given .1) (c .before .before .before .before .before .before .enum-told4 .given .1)) (c .before .before .before .before .before .pitch-of2 .ensures) (c .before .before .before .note-pitch .ensures))
+    let u = tuner (c .before .before .before .before .before .before .before .before .before .before .before .args .tuner) in
+    bend-heard {view = after u} u (after-none u) (meant-event (c .before .before .before .before .before .before .before .before .line .given .1) (c .before .before .before .before .before .enum-told4 .given .1)) (c .before .before .before .before .pitch-of2 .ensures) (c .before .before .note-pitch .ensures)
 
 pub hear-spec : {M : Type 1} → statement M
 hear-spec =
@@ -84,7 +74,6 @@ hear-spec =
     (tie.spec
     enum-known-line
     enum-told
-    none-requires
     returns
     enum-told-2
     pitch-of-requires
@@ -95,7 +84,6 @@ hear-spec =
     enum-told-4
     pitch-of-requires-2
     note-pitch-requires
-    none-requires-2
     same-length
     returns-2
     same-length-2

@@ -22,10 +22,10 @@ enum-known-sent : tie.Need-enum-known-sent
 enum-known-sent c = search needs
 
 array-share-prefix-bytes : tie.Need-array-share-prefix-bytes
-array-share-prefix-bytes c = heard-some (tuner (c .before .before .before .before .before .before .before .before .before .before .args .tuner)) (meant (c .before .before .before .before .before .before .before .parse .result)) (omega arith) (c .before .before .before .before .before .hear .ensures) (c .before .sent .given .1) .within
+array-share-prefix-bytes c = heard-some (tuner (c .before .before .before .before .before .before .before .before .before .args .tuner)) (meant (c .before .before .before .before .before .before .parse .result)) (omega arith) (c .before .before .before .before .hear .ensures) (c .before .sent .given .1) .within
 
 slice-aggregate-show-bytes : tie.Need-slice-aggregate-show-bytes
-slice-aggregate-show-bytes c = sym (length-take-le _ _ (heard-some (tuner (c .before .before .before .before .before .before .before .before .before .before .before .args .tuner)) (meant (c .before .before .before .before .before .before .before .before .parse .result)) (omega arith) (c .before .before .before .before .before .before .hear .ensures) (c .before .before .sent .given .1) .within))
+slice-aggregate-show-bytes c = sym (length-take-le _ _ (heard-some (tuner (c .before .before .before .before .before .before .before .before .before .before .args .tuner)) (meant (c .before .before .before .before .before .before .before .parse .result)) (omega arith) (c .before .before .before .before .before .hear .ensures) (c .before .before .sent .given .1) .within))
 
 show-bytes-requires : tie.Need-show-bytes-requires
 show-bytes-requires c κs = search needs
@@ -47,18 +47,18 @@ same-length c = search needs
 
 returns : tie.Need-returns
 returns c =
-    let t = tuner (c .before .before .before .before .before .before .before .before .before .before .before .before .before .before .before .before .args .tuner) in
-    let w = heard-some t (meant (c .before .before .before .before .before .before .before .before .before .before .before .before .before .parse .result)) (omega arith) (c .before .before .before .before .before .before .before .before .before .before .before .hear .ensures) (c .before .before .before .before .before .before .before .sent .given .1) in
-    sent-line t (c .before .before .before .before .before .before .before .before .before .before .before .before .before .before .before .before .args .line .now) (c .before .before .before .before .before .before .before .before .before .before .before .hear .result .change) (c .before .before .before .before .before .before .before .before .before .before .before .before .before .parse .ensures) w (c .before .before .before .show-bytes .ensures) (c .settled .ensures)
+    let t = tuner (c .before .before .before .before .before .before .before .before .before .before .before .before .before .before .before .args .tuner) in
+    let w = heard-some t (meant (c .before .before .before .before .before .before .before .before .before .before .before .before .parse .result)) (omega arith) (c .before .before .before .before .before .before .before .before .before .before .hear .ensures) (c .before .before .before .before .before .before .before .sent .given .1) in
+    sent-line t (c .before .before .before .before .before .before .before .before .before .before .before .before .before .before .before .args .line .now) (c .before .before .before .before .before .before .before .before .before .before .hear .result .change) (c .before .before .before .before .before .before .before .before .before .before .before .before .parse .ensures) w (c .before .before .before .show-bytes .ensures) (c .settled .ensures)
 
 same-length-2 : tie.Need-same-length-2
 same-length-2 c = search needs
 
 returns-2 : tie.Need-returns-2
 returns-2 c =
-    let t = tuner (c .before .before .before .before .before .before .before .before .before .before .before .before .before .before .before .args .tuner) in
-    let w = heard-none t (meant (c .before .before .before .before .before .before .before .before .before .before .before .before .parse .result)) (omega arith) (c .before .before .before .before .before .before .before .before .before .before .hear .ensures) (c .before .before .before .before .before .before .sent2 .given .1) in
-    refused-line t (c .before .before .before .before .before .before .before .before .before .before .before .before .before .before .before .args .line .now) (c .before .before .before .before .before .before .before .before .before .before .hear .result .change) (c .before .before .before .before .before .before .before .before .before .before .before .before .parse .ensures) (after-none t) w (c .before .before .before .show-refusal .ensures) (c .settled2 .ensures)
+    let t = tuner (c .before .before .before .before .before .before .before .before .before .before .before .before .before .before .args .tuner) in
+    let w = heard-none t (meant (c .before .before .before .before .before .before .before .before .before .before .before .parse .result)) (omega arith) (c .before .before .before .before .before .before .before .before .before .hear .ensures) (c .before .before .before .before .before .before .sent2 .given .1) in
+    refused-line t (c .before .before .before .before .before .before .before .before .before .before .before .before .before .before .args .line .now) (c .before .before .before .before .before .before .before .before .before .hear .result .change) (c .before .before .before .before .before .before .before .before .before .before .before .parse .ensures) (after-none t) w (c .before .before .before .show-refusal .ensures) (c .settled2 .ensures)
 
 pub reply-to-spec : {M : Type 1} → statement M
 reply-to-spec =

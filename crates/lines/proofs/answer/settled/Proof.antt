@@ -1,7 +1,5 @@
 -- `lines::answer::settled` meets its contract, case by case. Assumes nothing.
-use mathlib.Core.Path.{refl, sym, ap, _∙_}
-use Rattle.models.specs.Change.{noChange}
-use Rattle.senders.specs.declared.midi.Sent.{Sent}
+use mathlib.Core.Path.{refl}
 use Rattle.lines.specs.Inner.{settle}
 use borrow.Author.Needs.{needs}
 use Rattle.lines.proofs.answer.settled.Statement.{statement}
@@ -13,17 +11,13 @@ enum-told c = search needs
 enum-told-2 : tie.Need-enum-told-2
 enum-told-2 c = search needs
 
-none-requires : tie.Need-none-requires
-none-requires c κs = search needs
-
 returns : tie.Need-returns
 unfolding settle
 returns c = (refl, rw (c .enum-told .given .1))
 
 returns-2 : tie.Need-returns-2
 unfolding settle
-returns-2 c =
-    (refl, c .none .ensures ∙ sym (ap (λ (a : Sent). settle a (c .before .before .before .args .change) noChange) (c .before .enum-told2 .given .1)))
+returns-2 c = (refl, rw (c .enum-told2 .given .1))
 
 pub settled-spec : {M : Type 1} → statement M
-settled-spec = tie.close (tie.spec enum-told enum-told-2 none-requires returns returns-2)
+settled-spec = tie.close (tie.spec enum-told enum-told-2 returns returns-2)

@@ -179,19 +179,19 @@ is-none-requires : tie.Need-is-none-requires Inv-loop μ-loop
 is-none-requires c κs = tt
 
 loop-less : tie.Need-loop-less Inv-loop μ-loop
-loop-less c = omega (arith, along (c .before .before .before) .within)
+loop-less c = omega (arith, along (c .before .before) .within)
 
 loop-again : tie.Need-loop-again Inv-loop μ-loop
-loop-again c = (turned (c .before .before .before) (tuner (was (c .before .before .before))) (none-after _ _ (sym (c .before .is-none .ensures) ∙ c .if2 .taken)), same-held (c .before .before .before))
+loop-again c = (turned (c .before .before) (tuner (was (c .before .before))) (none-after _ _ (sym (c .before .is-none .ensures) ∙ c .if2 .taken)), same-held (c .before .before))
 
 changed-requires : tie.Need-changed-requires Inv-loop μ-loop
 changed-requires c κs = tt
 
 loop-less-2 : tie.Need-loop-less-2 Inv-loop μ-loop
-loop-less-2 c = omega (arith, along (c .before .before .before .before) .within)
+loop-less-2 c = omega (arith, along (c .before .before .before) .within)
 
 loop-again-2 : tie.Need-loop-again-2 Inv-loop μ-loop
-loop-again-2 c = (turned (c .before .before .before .before) (tuner (c .changed .result)) (c .changed .ensures .0), same-held (c .before .before .before .before))
+loop-again-2 c = (turned (c .before .before .before) (tuner (c .changed .result)) (c .changed .ensures .0), same-held (c .before .before .before))
 
 same-length-3 : tie.Need-same-length-3 Inv-loop μ-loop
 same-length-3 c = c .before .loop .inv .0 .buffer .size
