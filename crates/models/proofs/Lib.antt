@@ -40,4 +40,5 @@ pub mod NextEntry
 pub mod Planned
 pub mod PlanRefusals
 pub mod PlanEntries
+pub mod PlannedKeys
 pub mod PlanExamples
