@@ -211,7 +211,7 @@ started-sound cs kind = by (listRule cs) refl
     by (value l) e = let f = listed-channels cs l e in subst (Channels []) (sym (f .0)) (f .1)
     by (refused n) e = tt
 
-planned-channels : (m : Model) (lines : Outcome (List Line)) → planned m lines .0 .channels ≡ m .channels
+pub planned-channels : (m : Model) (lines : Outcome (List Line)) → planned m lines .0 .channels ≡ m .channels
 unfolding planned
 planned-channels m (refused n) = refl
 planned-channels m (value lines) = by (leb (count (m .groupBy) lines) (length (m .channels)))
