@@ -3,7 +3,7 @@
 use mathlib.Core.Path.{_≡_, refl, sym, ap, subst, _∙_}
 use mathlib.Core.Bool.{Bool, true, false, cond}
 use mathlib.Core.Option.{Option, some, none}
-use mathlib.Core.List.{List, [], _∷_}
+use mathlib.Core.List.{List, [], _∷_, _++_}
 use Prim.Native.Nat.{ℕ, zero, suc, _<_, _≤_}
 use native.Mathlib.Omega.{arith}
 use borrow.Author.Tests.{eq-eqb}
@@ -47,10 +47,10 @@ use Rattle.senders.proofs.PlanTuner.{Sound, started-sound, planned-chan
 
 -- ---- what no tuning alters
 
-pub record Kept (t u : Tuner) : Type 0 where
-  pub kind-is : u .kind ≡ t .kind
-  pub channels-is : u .plan .channels ≡ t .plan .channels
-  pub groups-is : u .plan .groupBy ≡ t .plan .groupBy
+record Kept (t u : Tuner) : Type 0 where
+  kind-is : u .kind ≡ t .kind
+  channels-is : u .plan .channels ≡ t .plan .channels
+  groups-is : u .plan .groupBy ≡ t .plan .groupBy
 
 kept-self : (t : Tuner) → Kept t t
 kept-self t = record { kind-is = refl; channels-is = refl; groups-is = refl }
@@ -76,7 +76,7 @@ rule-is : (t : Tuner) (lists : Lists) → tuneRule t lists ≡ planEffect t (pla
 rule-is t (notes ks ns ds) = refl
 rule-is t (pitches ks hzs) = refl
 
-pub after-kept : (t : Tuner) (c : Call) → Kept t (after t c)
+after-kept : (t : Tuner) (c : Call) → Kept t (after t c)
 unfolding after
 after-kept t (tune lists room) =
     subst (λ (o : Outcome (Effect Planned Tuner)). Kept t (settled t (fitted room o))) (sym (rule-is t lists))
@@ -120,6 +120,23 @@ module _ (channels : List ℕ) (kind : TuningKind) (calls : List Call) where
 
   pub reached-sound : Sound reached
   reached-sound = subst (Channels []) (sym (kept .channels-is)) (started-sound channels kind)
+
+-- one call more
+more : (t : Tuner) (cs : List Call) (c : Call) → retuned t (cs ++ (c ∷ [])) ≡ after (retuned t cs) c
+unfolding retuned
+more t [] c = refl
+more t (d ∷ cs) c = more (after t d) cs c
+
+-- The tuner that a tuning hands back, however it ends, is again one that tunings led to.
+pub goes-on :
+    (channels : List ℕ) (kind : TuningKind) (calls : List Call) (s back : AotTuner) → tuner s ≡ reached channels kind calls → (lists : Lists)
+    {old new : List ℕ} {answer : Outcome Planned} → Steps tuner (tuneRule (tuner s) lists) s old answer back new
+    → tuner back ≡ reached channels kind (calls ++ (tune lists (length old) ∷ []))
+unfolding after
+goes-on channels kind calls s back is lists {old} call =
+    handed-back call
+    ∙ ap (λ (t : Tuner). settled t (fitted (length old) (tuneRule t lists))) is
+    ∙ sym (more (startRule channels kind .1) calls (tune lists (length old)))
 
 -- ---- a tuned answer
 
@@ -202,22 +219,17 @@ pub record KeyTuned (channels : List ℕ) (kind : TuningKind) (back : Tuner) (by
 module _
     (channels : List ℕ) (kind : TuningKind) (calls : List Call) (s back : AotTuner) (is : tuner s ≡ reached channels kind calls) (lists : Lists)
     {old new : List ℕ} {n w : ℕ} (call : Steps tuner (tuneRule (tuner s) lists) s old (value (tunes n w)) back new) where
-  -- the tuner that is handed back is again one that tunings led to
-  pub goes-on : tuner back ≡ after (reached channels kind calls) (tune lists (length old))
-  unfolding after
-  goes-on = handed-back call ∙ ap (λ (t : Tuner). settled t (fitted (length old) (tuneRule t lists))) is
-
-  unaltered : Kept (reached channels kind calls) (tuner back)
-  unaltered = subst (Kept (reached channels kind calls)) (sym goes-on) (after-kept (reached channels kind calls) (tune lists (length old)))
+  next : tuner back ≡ reached channels kind (calls ++ (tune lists (length old) ∷ []))
+  next = goes-on channels kind calls s back is lists call
 
   kind-is : back .kind ≡ kind
-  kind-is = unaltered .kind-is ∙ reached-kind channels kind calls
+  kind-is = ap (λ (t : Tuner). t .kind) next ∙ reached-kind channels kind (calls ++ (tune lists (length old) ∷ []))
 
   channels-is : tuner back .plan .channels ≡ present (listRule channels)
-  channels-is = unaltered .channels-is ∙ reached-channels channels kind calls
+  channels-is = ap (λ (t : Tuner). t .plan .channels) next ∙ reached-channels channels kind (calls ++ (tune lists (length old) ∷ []))
 
   sound : Sound (tuner back)
-  sound = subst (Channels []) (sym (unaltered .channels-is)) (reached-sound channels kind calls)
+  sound = subst Sound (sym next) (reached-sound channels kind (calls ++ (tune lists (length old) ∷ [])))
 
   by-lines : Steps tuner (planEffect (tuner s) (planned (tuner s .plan) (linesOf lists))) s old (value (tunes n w)) back new
   by-lines = subst (λ (o : Outcome (Effect Planned Tuner)). Steps tuner o s old (value (tunes n w)) back new) (rule-is (tuner s) lists) call
