@@ -15,6 +15,7 @@ pub mod PoolAnswers
 pub mod PoolStop
 pub mod PoolRefusals
 pub mod PoolPresses
+pub mod PoolPitches
 pub mod Changes
 pub mod PoolExamples
 pub mod ListLaws
