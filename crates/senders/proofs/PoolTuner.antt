@@ -1,6 +1,6 @@
 -- What the calls of a pool tuner wrote, as a reader and a receiver by the Specification take it, from any state they were in: a press, a release, a
 -- repitch and `stop`. BothTuners has pressures and messages to all. Assumes nothing.
-use mathlib.Core.Path.{_≡_, refl, sym, ap, _∙_}
+use mathlib.Core.Path.{_≡_, refl, sym, ap, subst, _∙_}
 use mathlib.Core.Bool.{Bool, true, false, cond}
 use mathlib.Core.Option.{Option, some, none}
 use mathlib.Core.List.{List, [], _∷_, _++_}
@@ -12,10 +12,15 @@ use lib.Ieee.{Float}
 use lib.ListN.{length, take, drop, getD, getElem?}
 use lib.Seq.{take-at}
 use borrow.Author.Tests.{lt-ltb, ltb-true, eq-eqb}
+use Rattle.arithmetic.specs.Nearest.{nearestNote}
+use Rattle.arithmetic.specs.Pitch.{detuningOf}
 use Rattle.models.specs.Outcome.{Outcome, value}
 use Rattle.models.specs.Pool.{State as Pools, Place, Held, accepted, found, registerRule, repitchRule, heldFrom, heldKeys}
-use Rattle.models.specs.Steps.{sentAs}
+use Rattle.models.specs.Steps.{tuningOf, valueOf, sentAs, StepBound}
+use Rattle.models.specs.declared.steps.TuningKind.{TuningKind}
+use Rattle.models.specs.declared.steps.TuningKind.the-variants.{FineTuning, Bend}
 use Rattle.models.specs.JitModel.{view}
+use Rattle.models.proofs.PoolPitches.{press-pitch, press-law}
 use Rattle.models.proofs.Values.{sent-in-steps}
 use Rattle.senders.specs.Lent.{Effect, sent, Steps, Answers, written}
 use Rattle.senders.specs.Message.{Message, Valid, AllValid}
@@ -25,7 +30,7 @@ use Rattle.senders.specs.Jit.{Tuner, tuner, withPool, Pressed, sounds, n
 use Rattle.senders.specs.Reader.{State, read}
 use Rattle.senders.specs.Padding.{allHeardAs, unpadded}
 use Rattle.senders.specs.Receiver.{Channel, Receiver, Other, withNote, hear, hearAll, hearBytes}
-use Rattle.senders.specs.Meant.{tuned, noted, pressed, onListed, keyMeant, inTurn}
+use Rattle.senders.specs.Meant.{tuned, noted, stopped, pressed, onListed, keyMeant, inTurn, valueIn}
 use Rattle.senders.specs.declared.midi.ChannelMessageType.{ChannelMessageType}
 use Rattle.senders.specs.declared.tuner.NoteMessage.the-variants.{Off, Pressure}
 use Rattle.senders.specs.declared.jit.JitTuner.{JitTuner}
@@ -50,6 +55,26 @@ sounding-starts {bs = bs} {old = old} {new = new} {n = n} e p =
     ap (λ (l : List ℕ). take n l) (a .new-is)
     ∙ ap (λ (l : List ℕ). take n (written l old)) (sym is)
     ∙ take-at bs (drop (length bs) old) n (sym k)
+
+-- a note changes no tuning, and a press leaves its channel tuned as it says
+noted-value : (kind : TuningKind) (s : Bool) (note : ℤ) (x : Channel) → valueIn kind (noted s note x) ≡ valueIn kind x
+noted-value kind s (pos n) x = by kind (ltb n 128)
+  where
+    by : (kind : TuningKind) (b : Bool) → valueIn kind (cond b (withNote n s x) x) ≡ valueIn kind x
+    by FineTuning true = refl
+    by FineTuning false = refl
+    by Bend true = refl
+    by Bend false = refl
+noted-value kind s (negsuc n) x = refl
+
+pressed-value :
+    (kind : TuningKind) (d : Float) (stopped : Option ℤ) (note : ℤ) (v : ℕ) (x : Channel)
+    → valueIn kind (pressed stopped (sentAs kind d) note v x) ≡ valueOf (sentAs kind d)
+pressed-value kind d s note v x = noted-value kind (ltb 0 v) note (tuned (sentAs kind d) (stopped s x)) ∙ tuned-value kind (stopped s x)
+  where
+    tuned-value : (kind : TuningKind) (y : Channel) → valueIn kind (tuned (sentAs kind d) y) ≡ valueOf (sentAs kind d)
+    tuned-value FineTuning y = unfold sentAs tuningOf in refl
+    tuned-value Bend y = unfold sentAs tuningOf in refl
 
 module _ (other : Other) (st : State) (r : Receiver) (self : JitTuner) where
   abbrev channels : List ℕ
@@ -79,6 +104,17 @@ module _ (other : Other) (st : State) (r : Receiver) (self : JitTuner) where
 
       pub press-received : hearBytes other st (take n new) r ≡ onListed (getElem? channels i) (pressed stopped (sentAs (self .kind) d) note v) r
       press-received = ap (λ (l : List Message). hearAll other l r) press-read ∙ press-conveyed .heard r
+
+      -- An accepted press is heard at its pitch: its note is the nearest one, and the channel has the value of the pitch's detuning from that note,
+      -- unclamped and within the bound of its kind.
+      pub press-near :
+          (ch : ℕ) → getElem? channels i ≡ some ch
+          → (note ≡ nearestNote hz) × (d ≡ detuningOf hz note) × StepBound (self .kind) (valueIn (self .kind) (hearBytes other st (take n new) r ch)) d
+      press-near ch f =
+          let made = press-pitch (tuner self .pool) key hz e in
+          let value-is : valueIn (self .kind) (hearBytes other st (take n new) r ch) ≡ valueOf (sentAs (self .kind) d) =
+          ap (λ (q : Receiver). valueIn (self .kind) (q ch)) press-received ∙ rw (f, eq-eqb ch ch refl) (pressed-value (self .kind) d stopped note v (r ch)) in
+          (made .1, made .2, subst (λ (k : ℤ). StepBound (self .kind) k d) (sym value-is) (press-law (tuner self .pool) key hz e (self .kind)))
 
     -- A release: a reader finds its message; the key's note is off.
     module _ (key v : ℕ) (p : Steps tuner (noteOffRule (tuner self) key v) self old (value n) back new) where
