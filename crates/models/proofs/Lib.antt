@@ -42,4 +42,5 @@ pub mod Planned
 pub mod PlanRefusals
 pub mod PlanEntries
 pub mod PlannedKeys
+pub mod PlannedPitches
 pub mod PlanExamples

@@ -16,9 +16,7 @@ use Rattle.arithmetic.specs.Nearest.{nearestNote}
 use Rattle.arithmetic.specs.Pitch.{detuningOf}
 use Rattle.models.specs.Outcome.{Outcome, value}
 use Rattle.models.specs.Pool.{State as Pools, Place, Held, accepted, found, registerRule, repitchRule, heldFrom, heldKeys}
-use Rattle.models.specs.Steps.{tuningOf, valueOf, sentAs, StepBound}
-use Rattle.models.specs.declared.steps.TuningKind.{TuningKind}
-use Rattle.models.specs.declared.steps.TuningKind.the-variants.{FineTuning, Bend}
+use Rattle.models.specs.Steps.{valueOf, sentAs, StepBound}
 use Rattle.models.specs.JitModel.{view}
 use Rattle.models.proofs.PoolPitches.{press-pitch, press-law}
 use Rattle.models.proofs.Values.{sent-in-steps}
@@ -30,7 +28,7 @@ use Rattle.senders.specs.Jit.{Tuner, tuner, withPool, Pressed, sounds, n
 use Rattle.senders.specs.Reader.{State, read}
 use Rattle.senders.specs.Padding.{allHeardAs, unpadded}
 use Rattle.senders.specs.Receiver.{Channel, Receiver, Other, withNote, hear, hearAll, hearBytes}
-use Rattle.senders.specs.Meant.{tuned, noted, stopped, pressed, onListed, keyMeant, inTurn, valueIn}
+use Rattle.senders.specs.Meant.{tuned, noted, pressed, onListed, keyMeant, inTurn, valueIn}
 use Rattle.senders.specs.declared.midi.ChannelMessageType.{ChannelMessageType}
 use Rattle.senders.specs.declared.tuner.NoteMessage.the-variants.{Off, Pressure}
 use Rattle.senders.specs.declared.jit.JitTuner.{JitTuner}
@@ -40,6 +38,7 @@ use Rattle.senders.proofs.Conveyed.{Conveys, conveys-none, conveys-each
 use Rattle.senders.proofs.Hearing.{on-none}
 use Rattle.senders.proofs.Lent.{accepted as done, starts-with}
 use Rattle.senders.proofs.Messages.{test-held, checked-valid, valid-checked}
+use Rattle.senders.proofs.Received.{pressed-value}
 
 -- what a press says it wrote stands at the buffer's start
 pub sounding-starts :
@@ -55,26 +54,6 @@ sounding-starts {bs = bs} {old = old} {new = new} {n = n} e p =
     ap (λ (l : List ℕ). take n l) (a .new-is)
     ∙ ap (λ (l : List ℕ). take n (written l old)) (sym is)
     ∙ take-at bs (drop (length bs) old) n (sym k)
-
--- a note changes no tuning, and a press leaves its channel tuned as it says
-noted-value : (kind : TuningKind) (s : Bool) (note : ℤ) (x : Channel) → valueIn kind (noted s note x) ≡ valueIn kind x
-noted-value kind s (pos n) x = by kind (ltb n 128)
-  where
-    by : (kind : TuningKind) (b : Bool) → valueIn kind (cond b (withNote n s x) x) ≡ valueIn kind x
-    by FineTuning true = refl
-    by FineTuning false = refl
-    by Bend true = refl
-    by Bend false = refl
-noted-value kind s (negsuc n) x = refl
-
-pressed-value :
-    (kind : TuningKind) (d : Float) (stopped : Option ℤ) (note : ℤ) (v : ℕ) (x : Channel)
-    → valueIn kind (pressed stopped (sentAs kind d) note v x) ≡ valueOf (sentAs kind d)
-pressed-value kind d s note v x = noted-value kind (ltb 0 v) note (tuned (sentAs kind d) (stopped s x)) ∙ tuned-value kind (stopped s x)
-  where
-    tuned-value : (kind : TuningKind) (y : Channel) → valueIn kind (tuned (sentAs kind d) y) ≡ valueOf (sentAs kind d)
-    tuned-value FineTuning y = unfold sentAs tuningOf in refl
-    tuned-value Bend y = unfold sentAs tuningOf in refl
 
 module _ (other : Other) (st : State) (r : Receiver) (self : JitTuner) where
   abbrev channels : List ℕ

@@ -20,7 +20,8 @@ use Rattle.models.specs.Walk.{count}
 use Rattle.models.specs.AotModel as M
 use Rattle.models.specs.AotModel.{Model, modelOf, planned, openRule}
 use Rattle.models.specs.PlanInside.{Accepted}
-use Rattle.models.specs.Steps.{sentAs}
+use Rattle.models.specs.PlanLists.{pitchLists}
+use Rattle.models.specs.Steps.{valueOf, sentAs, StepBound}
 use Rattle.models.specs.declared.aot.GroupBy.{GroupBy}
 use Rattle.models.specs.declared.aot.GroupBy.the-variants.{Channel}
 use Rattle.models.specs.declared.steps.TuningKind.{TuningKind}
@@ -29,13 +30,14 @@ use Rattle.models.proofs.ChannelLists.{Channels}
 use Rattle.models.proofs.ListLaws.{Each-map}
 use Rattle.models.proofs.PlanEntries.{tuned-channels}
 use Rattle.models.proofs.PlannedKeys.{Leads, Placed, planned-keys}
+use Rattle.models.proofs.PlannedPitches.{pitches-law}
 use Rattle.senders.specs.Lent.{Effect, fitted, Steps, Answers}
 use Rattle.senders.specs.Passage.{settled}
 use Rattle.senders.specs.Midi.{bytesOf}
-use Rattle.senders.specs.Aot.{Tuner, tuner, withPlan, Planned, tunes, planMessages, planEffect, startRule, found, placed, noteOnRule}
+use Rattle.senders.specs.Aot.{Tuner, tuner, withPlan, Planned, tunes, planMessages, planEffect, startRule, setTuningOfPitchesRule, found, placed, noteOnRule}
 use Rattle.senders.specs.Reader.{State}
 use Rattle.senders.specs.Receiver.{Receiver, Other, hearBytes}
-use Rattle.senders.specs.Meant.{tuned, noteMeant, keyMeant}
+use Rattle.senders.specs.Meant.{tuned, noteMeant, keyMeant, valueIn}
 use Rattle.senders.specs.Retuning.{Lists, notes, pitches, tuneRule, linesOf, Typed, Call, tune, after, retuned}
 use Rattle.senders.specs.declared.tuner.NoteMessage.the-variants.{On}
 use Rattle.senders.specs.declared.aot.AotTuner.{AotTuner}
@@ -43,6 +45,7 @@ use Rattle.senders.proofs.BothTuners.{key-received}
 use Rattle.senders.proofs.Channels.{has-entry}
 use Rattle.senders.proofs.Lent.{accepted}
 use Rattle.senders.proofs.Passages.{handed-back}
+use Rattle.senders.proofs.Received.{tuned-value}
 use Rattle.senders.proofs.PlanTuner.{Sound, started-sound, planned-channels, plan-tunes}
 
 -- ---- what no tuning alters
@@ -325,3 +328,22 @@ module _
         let same : value (got .lines) ≡ value lines = sym (got .lines-is) ∙ e in
         let same : got .lines ≡ lines = cc in
         subst (Each (KeyTuned (present (listRule channels)) kind (tuner back) (take w new) n)) same (Each-map (λ l p. key-tuned l p) (got .lines) (facts .2))
+
+-- ---- a tuning of pitches
+
+module _
+    (channels : List ℕ) (kind : TuningKind) (calls : List Call) (s back : AotTuner) (is : tuner s ≡ reached channels kind calls) (ks : List ℕ) (hzs : List Float)
+    {old new : List ℕ} {n w : ℕ} (call : Steps tuner (setTuningOfPitchesRule (tuner s) ks hzs) s old (value (tunes n w)) back new) (ok : Typed (pitches ks hzs)) where
+  -- Each channel of the plan then has a value that is not clamped and within the bound of its kind, by the plan's detuning of it.
+  pub pitches-near :
+      (i : ℕ) (h : i < n) (other : Other) (st : State) (r : Receiver)
+      → let c = channels-tuned channels kind calls s back is (pitches ks hzs) call ok i h in
+      StepBound kind (valueIn kind (hearBytes other st (take w new) r (c .midi))) (c .detuning)
+  pitches-near i h other st r =
+      let c = channels-tuned channels kind calls s back is (pitches ks hzs) call ok i h in
+      let g = result s back (pitchLists ks hzs) call in
+      let entered : planned (tuner s .plan) (value (g .lines)) .0 .detunings i (pos 0) ≡ some (c .detuning) = ap (λ (m : Model). m .detunings i (pos 0)) (sym (g .plan-is)) ∙ c .entered in
+      let value-is : valueIn kind (hearBytes other st (take w new) r (c .midi)) ≡ valueOf (sentAs kind (c .detuning)) =
+      ap (valueIn kind) (c .heard other st r) ∙ tuned-value kind (c .detuning) (r (c .midi)) in
+      subst (λ (k : ℤ). StepBound kind k (c .detuning)) (sym value-is)
+      (pitches-law (tuner s .plan) ks hzs (g .lines) (pitches-accepted ks hzs (g .lines) ok (g .lines-is)) (g .lines-is) i (pos 0) (c .detuning) entered kind)
