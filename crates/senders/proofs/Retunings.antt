@@ -16,7 +16,6 @@ use Rattle.models.specs.ChannelList.{listRule, present}
 use Rattle.models.specs.Lists.{Each}
 use Rattle.models.specs.Line.{Line, group}
 use Rattle.models.specs.Pool.{Place}
-use Rattle.models.specs.Walk.{count}
 use Rattle.models.specs.AotModel as M
 use Rattle.models.specs.AotModel.{Model, modelOf, planned, openRule}
 use Rattle.models.specs.PlanInside.{Accepted}
@@ -46,7 +45,7 @@ use Rattle.senders.proofs.Channels.{has-entry}
 use Rattle.senders.proofs.Lent.{accepted}
 use Rattle.senders.proofs.Passages.{handed-back}
 use Rattle.senders.proofs.Received.{tuned-value}
-use Rattle.senders.proofs.PlanTuner.{Sound, started-sound, planned-channels, plan-tunes}
+use Rattle.senders.proofs.PlanTuner.{Sound, started-sound, planned-kept, plan-tunes}
 
 -- ---- what no tuning alters
 
@@ -66,15 +65,6 @@ kept-trans a b =
       groups-is = b .groups-is ∙ a .groups-is;
     }
 
-planned-groups : (m : Model) (lines : Outcome (List Line)) → planned m lines .0 .groupBy ≡ m .groupBy
-unfolding planned
-planned-groups m (refused n) = refl
-planned-groups m (value lines) = by (leb (count (m .groupBy) lines) (length (m .channels)))
-  where
-    by : (b : Bool) → cond {A = Model × M.Answer} b (M.holding m lines, M.tuned (count (m .groupBy) lines)) (M.empty (m .channels) (m .groupBy), M.untuned (count (m .groupBy) lines)) .0 .groupBy ≡ m .groupBy
-    by true = refl
-    by false = refl
-
 rule-is : (t : Tuner) (lists : Lists) → tuneRule t lists ≡ planEffect t (planned (t .plan) (linesOf lists))
 rule-is t (notes ks ns ds) = refl
 rule-is t (pitches ks hzs) = refl
@@ -83,7 +73,7 @@ after-kept : (t : Tuner) (c : Call) → Kept t (after t c)
 unfolding after
 after-kept t (tune lists room) =
     subst (λ (o : Outcome (Effect Planned Tuner)). Kept t (settled t (fitted room o))) (sym (rule-is t lists))
-    (by (planned (t .plan) (linesOf lists)) (planned-channels (t .plan) (linesOf lists)) (planned-groups (t .plan) (linesOf lists)))
+    (let k = planned-kept (t .plan) (linesOf lists) in by (planned (t .plan) (linesOf lists)) (k .0) (k .1))
   where
     at : (e : Effect Planned Tuner) → Kept t (e .next) → (b : Bool) → Kept t (settled t (cond b (value e) (refused 10)))
     at e k true = k
@@ -207,8 +197,8 @@ pub record ChannelTuned (channels : List ℕ) (kind : TuningKind) (back : Tuner)
   pub entered : back .plan .detunings i (pos 0) ≡ some detuning
   pub heard : (other : Other) (st : State) (r : Receiver) → hearBytes other st bytes r midi ≡ tuned (sentAs kind detuning) (r midi)
 
--- A key of the list is found with its note on a channel of the plan that is so tuned, and its detuning leads to the channel's. A press then sounds the
--- note there.
+-- A key of the list is found with its note on a channel of the plan that is so tuned, and its detuning leads to the channel's. A press of the key then puts
+-- its note on there.
 pub record KeyTuned (channels : List ℕ) (kind : TuningKind) (back : Tuner) (bytes : List ℕ) (n : ℕ) (l : Line) : Type 0 where
   pub channel : ℕ
   pub below : channel < n
@@ -320,14 +310,11 @@ module _
         own : m .detunings (p .channel) (group (m .groupBy) (l .note)) ≡ some (p .detuning) → m .detunings (p .channel) (pos 0) ≡ some (p .detuning)
         own e =
             subst (λ (k : GroupBy). m .detunings (p .channel) (group k (l .note)) ≡ some (p .detuning))
-            (planned-groups (tuner s .plan) (value (got .lines)) ∙ groups) e
+            (planned-kept (tuner s .plan) (value (got .lines)) .1 ∙ groups) e
 
-    -- And each key of the list sounds its note there when it is pressed.
-    pub keys-tuned : (lines : List Line) → linesOf lists ≡ value lines → Each (KeyTuned (present (listRule channels)) kind (tuner back) (take w new) n) lines
-    keys-tuned lines e =
-        let same : value (got .lines) ≡ value lines = sym (got .lines-is) ∙ e in
-        let same : got .lines ≡ lines = cc in
-        subst (Each (KeyTuned (present (listRule channels)) kind (tuner back) (take w new) n)) same (Each-map (λ l p. key-tuned l p) (got .lines) (facts .2))
+    -- And each key of the list sounds its note on one of them when it is pressed.
+    pub keys-tuned : (lines : List Line) × (linesOf lists ≡ value lines) × Each (KeyTuned (present (listRule channels)) kind (tuner back) (take w new) n) lines
+    keys-tuned = (got .lines, got .lines-is, Each-map (λ l p. key-tuned l p) (got .lines) (facts .2))
 
 -- ---- a tuning of pitches
 
