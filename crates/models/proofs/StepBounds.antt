@@ -1,7 +1,7 @@
 -- How close the values are to the logarithm, before they are clamped, from the measure's law alone and by one lemma over the factor (arithmetic's `Steps`).
 -- Assumes nothing.
 use mathlib.Core.Path.{_≡_, refl, sym, ap, subst, _∙_}
-use mathlib.Core.Logic.{_⊎_, inl, inr}
+use mathlib.Core.Logic.{inl, inr}
 use Prim.Native.Nat.{ℕ, zero, suc, _+_, _*_, _/_, _^_, _≤_, _<_}
 use native.Mathlib.Nat.{le-of-lt, add-mul, one-mul, suc-mul, zero-mul, zero-div, le-of-suc-le-suc, lt-of-not-le, div-mul-le-self, lt-div-mul-add}
 use native.Mathlib.Decide.{decLe, decLt}
@@ -18,7 +18,7 @@ use Rattle.arithmetic.proofs.Integers.{plus, less, add-parts, mul-parts, neg-pa
 use Rattle.arithmetic.proofs.Measure.{measure-law}
 use Rattle.arithmetic.proofs.Close.{closeFrom, closeTo}
 use Rattle.arithmetic.proofs.Nearest.{at-least-mono, below-mono, between-powers}
-use Rattle.arithmetic.proofs.Steps.{at-least, above, below, Floor, floor}
+use Rattle.arithmetic.proofs.Steps.{at-least, above, below, floor}
 use Rattle.models.specs.declared.steps.TuningKind.{TuningKind}
 use Rattle.models.specs.declared.steps.TuningKind.the-variants.{FineTuning, Bend}
 use Rattle.models.specs.Steps.{fineStep, fineValue, bendStep, bendValue, stepOf, tuningOf, valueOf, sentAs, FineBound, BendBound, StepBound, TruncationOrLess}

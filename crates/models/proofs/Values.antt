@@ -1,18 +1,18 @@
 -- Values in which a detuning is sent: what is clamped lies in its range, and what the code computes on the way fits its type. Assumes nothing.
-use mathlib.Core.Path.{_≡_, refl, sym, ap, _∙_, subst}
+use mathlib.Core.Path.{_≡_, refl, sym, subst}
 use mathlib.Core.Logic.{_↔_}
 use mathlib.Core.Bool.{Bool, true, false, cond, _&&_, true≢false}
-use Prim.Native.Nat.{ℕ, suc, _+_, _*_, _/_, _^_, _≤_, _<_}
+use Prim.Native.Nat.{ℕ, suc, _+_, _*_, _^_, _≤_, _<_}
 use native.Mathlib.Omega.{arith}
 use lib.Dec.{T}
 use lib.IntN.{ℤ, pos, negsuc, natAbs, _+ℤ_, _*ℤ_}
-use lib.Signed.{mag, ltZ, leZ, quotZ, _≤ℤ_}
+use lib.Signed.{mag, ltZ, leZ}
 use lib.Ieee.{Float, binary64, fits}
 use lib.Ieee.Bits.{is-true}
 use lib.Ieee.Positive.{positive}
 use mir.Syntax.{w64}
 use mir.Val.{SFits}
-use borrow.Author.Tests.{le-ltb, ltb-true, ltb-false}
+use borrow.Author.Tests.{le-ltb, ltb-false}
 use Rattle.arithmetic.specs.Outcome.{Outcome, value, refused, refuse_unless_then_}
 use Rattle.arithmetic.specs.Refusal.{notMeasurable}
 use Rattle.arithmetic.specs.Division.{quotient}

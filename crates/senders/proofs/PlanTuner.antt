@@ -4,11 +4,11 @@ use mathlib.Core.Path.{_≡_, refl, sym, ap, subst, _∙_}
 use mathlib.Core.Bool.{Bool, true, false, cond}
 use mathlib.Core.Option.{Option, some, none}
 use mathlib.Core.List.{List, [], _∷_, _++_}
-use Prim.Native.Nat.{ℕ, zero, suc, _<_, _≤_}
+use Prim.Native.Nat.{ℕ, zero, suc, _<_}
 use native.Mathlib.Nat.{zero-add}
 use native.Mathlib.Omega.{arith}
 use lib.Dec.{eqb, eqb→eq, leb}
-use lib.IntN.{ℤ, pos}
+use lib.IntN.{pos}
 use lib.Ieee.{Float}
 use lib.ListN.{length, take, drop, getElem?}
 use lib.Seq.{take-at}
@@ -34,8 +34,8 @@ use Rattle.senders.specs.Midi.{bytesOf}
 use Rattle.senders.specs.Tuner.{each}
 use Rattle.senders.specs.Aot.{Tuner, tuner, withPlan, Planned, tunes, channelMessages, planMessages, planEffect, startRule}
 use Rattle.senders.specs.Reader.{State, read}
-use Rattle.senders.specs.Receiver.{Channel, Receiver, Other, on, hearAll, hearBytes}
-use Rattle.senders.specs.Meant.{tuned, onListed, inTurn, channelMeant, planMeant}
+use Rattle.senders.specs.Receiver.{Channel, Receiver, Other, hearAll, hearBytes}
+use Rattle.senders.specs.Meant.{tuned, inTurn, channelMeant, planMeant}
 use Rattle.senders.specs.declared.aot.AotTuner.{AotTuner}
 use Rattle.senders.proofs.Bytes.{read-plain}
 use Rattle.senders.proofs.Conveyed.{Conveys, conveys-none, conveys-each, conveys-tuning}

@@ -21,23 +21,20 @@ use Rattle.models.specs.JitModel.{view}
 use Rattle.models.proofs.PoolPitches.{press-pitch, press-law}
 use Rattle.models.proofs.Values.{sent-in-steps}
 use Rattle.senders.specs.Lent.{Effect, sent, Steps, Answers, written}
-use Rattle.senders.specs.Message.{Message, Valid, AllValid}
-use Rattle.senders.specs.Midi.{bytesOf, meant}
-use Rattle.senders.specs.Tuner.{keyMessages, onChannel, isKept, toAll, pressMessages}
-use Rattle.senders.specs.Jit.{Tuner, tuner, withPool, Pressed, sounds, noteOnRule, noteOffRule, noteAttrRule, notePitchRule, repitchMessages, globalAttrRule, releaseMessages, stopRule}
+use Rattle.senders.specs.Message.{Message}
+use Rattle.senders.specs.Midi.{bytesOf}
+use Rattle.senders.specs.Tuner.{keyMessages, onChannel, pressMessages}
+use Rattle.senders.specs.Jit.{Tuner, tuner, withPool, Pressed, sounds, noteOnRule, noteOffRule, notePitchRule, repitchMessages, releaseMessages, stopRule}
 use Rattle.senders.specs.Reader.{State, read}
-use Rattle.senders.specs.Padding.{allHeardAs, unpadded}
-use Rattle.senders.specs.Receiver.{Channel, Receiver, Other, withNote, hear, hearAll, hearBytes}
+use Rattle.senders.specs.Receiver.{Channel, Receiver, Other, withNote, hearAll, hearBytes}
 use Rattle.senders.specs.Meant.{tuned, noted, pressed, onListed, keyMeant, inTurn, valueIn}
-use Rattle.senders.specs.declared.midi.ChannelMessageType.{ChannelMessageType}
-use Rattle.senders.specs.declared.tuner.NoteMessage.the-variants.{Off, Pressure}
+use Rattle.senders.specs.declared.tuner.NoteMessage.the-variants.{Off}
 use Rattle.senders.specs.declared.jit.JitTuner.{JitTuner}
 use Rattle.senders.proofs.Bytes.{read-plain, sent-read-plain}
 use Rattle.senders.proofs.Calls.{press-sent, release-sent}
-use Rattle.senders.proofs.Conveyed.{Conveys, conveys-none, conveys-each, sent-conveyed, conveys-key, conveys-tuning, conveys-press, all-valid, echoes-heard, all-hear}
-use Rattle.senders.proofs.Hearing.{on-none}
-use Rattle.senders.proofs.Lent.{accepted as done, starts-with}
-use Rattle.senders.proofs.Messages.{test-held, checked-valid, valid-checked}
+use Rattle.senders.proofs.Conveyed.{Conveys, conveys-none, conveys-each, sent-conveyed, conveys-key, conveys-tuning, conveys-press}
+use Rattle.senders.proofs.Lent.{accepted as done}
+use Rattle.senders.proofs.Messages.{test-held}
 use Rattle.senders.proofs.Received.{pressed-value}
 
 -- what a press says it wrote stands at the buffer's start

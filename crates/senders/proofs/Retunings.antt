@@ -4,7 +4,7 @@ use mathlib.Core.Path.{_≡_, refl, sym, ap, subst, _∙_}
 use mathlib.Core.Bool.{Bool, true, false, cond}
 use mathlib.Core.Option.{Option, some, none}
 use mathlib.Core.List.{List, [], _∷_, _++_}
-use Prim.Native.Nat.{ℕ, zero, suc, _<_, _≤_}
+use Prim.Native.Nat.{ℕ, _<_, _≤_}
 use native.Mathlib.Omega.{arith}
 use borrow.Author.Tests.{eq-eqb}
 use lib.Dec.{leb}
@@ -17,7 +17,7 @@ use Rattle.models.specs.Lists.{Each}
 use Rattle.models.specs.Line.{Line, group}
 use Rattle.models.specs.Pool.{Place}
 use Rattle.models.specs.AotModel as M
-use Rattle.models.specs.AotModel.{Model, modelOf, planned, openRule}
+use Rattle.models.specs.AotModel.{Model, planned, openRule}
 use Rattle.models.specs.PlanInside.{Accepted}
 use Rattle.models.specs.PlanLists.{pitchLists}
 use Rattle.models.specs.Steps.{valueOf, sentAs, StepBound}
