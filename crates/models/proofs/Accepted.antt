@@ -21,7 +21,7 @@ use Rattle.models.proofs.Waits.{accepted-snoc, accepted-nil}
 use Rattle.models.proofs.Lines.{Sound, planned-positive, nearest-sound}
 
 -- no refusal is a value
-never : {A : Type 0} {X : Type 0} (n : ℕ) (a : A) → refused n ≡ value a → X
+pub never : {A : Type 0} {X : Type 0} (n : ℕ) (a : A) → refused n ≡ value a → X
 never n a e = absurd (let z : _≡_ {A = ℕ} 0 1 = cc in omega arith)
 
 -- the lines that are accepted, where each that passes by itself is sound
@@ -38,7 +38,7 @@ lines-accepted before (value l ∷ rest) lines ok h e = elim (outcome (member (l
 ]
 
 -- a list's own refusal, 12, stands before its lines
-of-equal : (n : ℕ) (test : Bool) (o : Outcome (List Line)) (lines : List Line) → (refuse n unless test then o) ≡ value lines → o ≡ value lines
+pub of-equal : (n : ℕ) (test : Bool) (o : Outcome (List Line)) (lines : List Line) → (refuse n unless test then o) ≡ value lines → o ≡ value lines
 of-equal n true o lines e = e
 of-equal n false o lines e = never n lines e
 

@@ -16,6 +16,7 @@ pub mod PoolAnswers
 pub mod PoolStop
 pub mod PoolRefusals
 pub mod PoolPresses
+pub mod PoolPitches
 pub mod Changes
 pub mod PoolExamples
 pub mod ListLaws
@@ -41,4 +42,6 @@ pub mod NextEntry
 pub mod Planned
 pub mod PlanRefusals
 pub mod PlanEntries
+pub mod PlannedKeys
+pub mod PlannedPitches
 pub mod PlanExamples

@@ -101,7 +101,7 @@ module _ (kind : GroupBy) (lines : List Line) (ok : Accepted lines) where
   enough = omega (arith, length-rising lines)
 
   -- to order the lines first and take those of a channel and a group then comes to the same
-  together-is : (p : Placing) (c : ℕ) (g : ℤ) → together kind lines p c g ≡ keep (ofGroup kind g) (keep (on p c) (rising lines))
+  pub together-is : (p : Placing) (c : ℕ) (g : ℤ) → together kind lines p c g ≡ keep (ofGroup kind g) (keep (on p c) (rising lines))
   unfolding together
   together-is p c g =
       sym (rising-keep (λ (l : Line). on p c l && ofGroup kind g l) lines (ok .detunings))
@@ -131,7 +131,7 @@ module _ (kind : GroupBy) (lines : List Line) (ok : Accepted lines) where
           le-trans (f .1) (group-least p h (f .0))
 
   -- ---- the walk's placing
-  number-is : (c : ℕ) → keep (on (channel kind lines) c) (rising lines) ≡ getD (walk kind lines) c []
+  pub number-is : (c : ℕ) → keep (on (channel kind lines) c) (rising lines) ≡ getD (walk kind lines) c []
   unfolding channel walk
   number-is c = channels-are kind (length lines) (rising lines) c enough different
 

@@ -31,31 +31,36 @@ use Rattle.models.proofs.Held.{at-key, of-kept, zip}
 use Rattle.models.proofs.Carried.{lastOf, heard, entry-is, no-entry, largest}
 
 module _ (kind : GroupBy) (lines : List Line) (ok : Accepted lines) where
-  heard-positive : (c : ℕ) (g : ℤ) → Each (λ (l : Line). T (positive (l .detuning))) (heard kind lines c g)
-  heard-positive c g =
-      let k = keep (ofGroup kind g) (rising lines) in
-      Each-keep (λ (l : Line). T (positive (l .detuning))) (λ (l : Line). leb (channel kind lines (l .key)) c) k
-      (Each-keep (λ (l : Line). T (positive (l .detuning))) (ofGroup kind g) (rising lines) (Each-rising (λ (l : Line). T (positive (l .detuning))) lines (ok .detunings)))
+  heard-each : (P : Line → Type 0) → Each P lines → (c : ℕ) (g : ℤ) → Each P (heard kind lines c g)
+  heard-each P h c g =
+      Each-keep P (λ (l : Line). leb (channel kind lines (l .key)) c) (keep (ofGroup kind g) (rising lines))
+      (Each-keep P (ofGroup kind g) (rising lines) (Each-rising P lines h))
 
   heard-sorted : (c : ℕ) (g : ℤ) → Pairwise UpTo (heard kind lines c g)
   heard-sorted c g =
       Pairwise-keep UpTo (λ (l : Line). leb (channel kind lines (l .key)) c) (keep (ofGroup kind g) (rising lines))
       (Pairwise-keep UpTo (ofGroup kind g) (rising lines) (sorted kind lines ok))
 
-  -- each entry is finite and above zero
-  pub entry-positive : (c : ℕ) (g : ℤ) (d : Float) → entry kind lines c g ≡ some d → T (positive d)
-  entry-positive c g d e = elim (outcome (ltb c (count kind lines))) [
-    | passed u ↦ go (heard kind lines c g) (heard-positive c g) (heard-sorted c g) (sym (entry-is kind lines ok c g (ltb-true c (count kind lines) u)) ∙ e)
+  -- what holds of each line's detuning holds of each entry
+  pub entry-each : (P : Float → Type 0) → Each (λ (l : Line). P (l .detuning)) lines → (c : ℕ) (g : ℤ) (d : Float) → entry kind lines c g ≡ some d → P d
+  entry-each P h c g d e = elim (outcome (ltb c (count kind lines))) [
+    | passed u ↦
+        go (heard kind lines c g) (heard-each (λ (l : Line). P (l .detuning)) h c g) (heard-each (λ (l : Line). T (positive (l .detuning))) (ok .detunings) c g) (heard-sorted c g)
+        (sym (entry-is kind lines ok c g (ltb-true c (count kind lines) u)) ∙ e)
     | failed u ↦ let k = sym (no-entry kind lines ok c g (ltb-false c (count kind lines) u)) ∙ e in absurd (let z : _≡_ {A = ℕ} 0 1 = cc in omega arith)
   ]
     where
-      go : (l : List Line) → Each (λ (x : Line). T (positive (x .detuning))) l → Pairwise UpTo l → lastOf none l ≡ some d → T (positive d)
-      go [] p s u = absurd (let z : _≡_ {A = ℕ} 0 1 = cc in omega arith)
-      go (x ∷ l) p s u =
-          let z = largest (λ (y : Line). T (positive (y .detuning))) x l p p s in
+      go : (l : List Line) → Each (λ (x : Line). P (x .detuning)) l → Each (λ (x : Line). T (positive (x .detuning))) l → Pairwise UpTo l → lastOf none l ≡ some d → P d
+      go [] q p s u = absurd (let z : _≡_ {A = ℕ} 0 1 = cc in omega arith)
+      go (x ∷ l) q p s u =
+          let z = largest (λ (y : Line). P (y .detuning)) x l q p s in
           let f = sym (z .3) ∙ u in
-          let q : z .0 .detuning ≡ d = cc in
-          subst (λ (f : Float). T (positive f)) q (z .2)
+          let same : z .0 .detuning ≡ d = cc in
+          subst P same (z .1)
+
+  -- each entry is finite and above zero
+  pub entry-positive : (c : ℕ) (g : ℤ) (d : Float) → entry kind lines c g ≡ some d → T (positive d)
+  entry-positive c g d e = entry-each (λ (f : Float). T (positive f)) (ok .detunings) c g d e
 
   -- no key is on a channel beyond the count
   pub seat-below : (k c : ℕ) (n : ℤ) → seat kind lines k ≡ some (c, n) → c < count kind lines
@@ -100,13 +105,17 @@ channel-entry lines ok c h e = go (heard Channel lines c (pos 0)) refl (sym (ent
         last-some d (y ∷ l) u = last-some (y .detuning) l u
 
 -- ---- the same of the model that planning hands back
-pub planned-positive : (m : Model) (lines : List Line) → Accepted lines → (c : ℕ) (g : ℤ) (d : Float) → planned m (value lines) .0 .detunings c g ≡ some d → T (positive d)
+pub planned-each : (m : Model) (lines : List Line) → Accepted lines → (P : Float → Type 0) → Each (λ (l : Line). P (l .detuning)) lines → (c : ℕ) (g : ℤ) (d : Float)
+    → planned m (value lines) .0 .detunings c g ≡ some d → P d
 unfolding planned
-planned-positive m lines ok c g d e = go (leb (count (m .groupBy) lines) (length (m .channels))) e
+planned-each m lines ok P h c g d e = go (leb (count (m .groupBy) lines) (length (m .channels))) e
   where
-    go : (t : Bool) → cond {A = Model × Answer} t (holding m lines, tuned (count (m .groupBy) lines)) (empty (m .channels) (m .groupBy), untuned (count (m .groupBy) lines)) .0 .detunings c g ≡ some d → T (positive d)
-    go true e = entry-positive (m .groupBy) lines ok c g d e
+    go : (t : Bool) → cond {A = Model × Answer} t (holding m lines, tuned (count (m .groupBy) lines)) (empty (m .channels) (m .groupBy), untuned (count (m .groupBy) lines)) .0 .detunings c g ≡ some d → P d
+    go true e = entry-each (m .groupBy) lines ok P h c g d e
     go false e = absurd (let z : _≡_ {A = ℕ} 0 1 = cc in omega arith)
+
+pub planned-positive : (m : Model) (lines : List Line) → Accepted lines → (c : ℕ) (g : ℤ) (d : Float) → planned m (value lines) .0 .detunings c g ≡ some d → T (positive d)
+planned-positive m lines ok c g d e = planned-each m lines ok (λ (f : Float). T (positive f)) (ok .detunings) c g d e
 
 -- After a tuned answer of count n in channel groups every channel below n has an entry, and no key is on any other.
 pub tuned-channels : (m : Model) (lines : List Line) → Accepted lines → m .groupBy ≡ Channel → (n : ℕ) → planned m (value lines) .1 ≡ tuned n

@@ -1,7 +1,7 @@
 -- How close the values are to the logarithm, before they are clamped, from the measure's law alone and by one lemma over the factor (arithmetic's `Steps`).
 -- Assumes nothing.
-use mathlib.Core.Path.{_≡_, refl, sym, ap, _∙_}
-use mathlib.Core.Logic.{_⊎_, inl, inr}
+use mathlib.Core.Path.{_≡_, refl, sym, ap, subst, _∙_}
+use mathlib.Core.Logic.{inl, inr}
 use Prim.Native.Nat.{ℕ, zero, suc, _+_, _*_, _/_, _^_, _≤_, _<_}
 use native.Mathlib.Nat.{le-of-lt, add-mul, one-mul, suc-mul, zero-mul, zero-div, le-of-suc-le-suc, lt-of-not-le, div-mul-le-self, lt-div-mul-add}
 use native.Mathlib.Decide.{decLe, decLt}
@@ -9,17 +9,20 @@ use native.Mathlib.Omega.{arith}
 use lib.Dec.{T, lit<, lit≤}
 use lib.IntN.{ℤ, pos, negsuc, negℤ, _+ℤ_, _-ℤ_, _*ℤ_}
 use lib.Signed.{quotZ}
-use lib.Ieee.{Float}
+use lib.Ieee.{Float, le}
 use lib.Ieee.Positive.{num, den, positive}
 use Rattle.arithmetic.specs.Division.{quotient}
 use Rattle.arithmetic.specs.Measure.{measure}
 use Rattle.arithmetic.specs.Powers.{AtLeast, Below, Above, AtMost}
-use Rattle.arithmetic.proofs.Integers.{plus, less, add-parts, mul-parts}
+use Rattle.arithmetic.proofs.Integers.{plus, less, add-parts, mul-parts, neg-parts, one-sided}
 use Rattle.arithmetic.proofs.Measure.{measure-law}
-use Rattle.arithmetic.proofs.Steps.{at-least, above, below, Floor, floor}
+use Rattle.arithmetic.proofs.Close.{closeFrom, closeTo}
+use Rattle.arithmetic.proofs.Nearest.{at-least-mono, below-mono, between-powers}
+use Rattle.arithmetic.proofs.Steps.{at-least, above, below, floor}
 use Rattle.models.specs.declared.steps.TuningKind.{TuningKind}
 use Rattle.models.specs.declared.steps.TuningKind.the-variants.{FineTuning, Bend}
-use Rattle.models.specs.Steps.{fineStep, bendStep, stepOf, FineBound, BendBound, StepBound, TruncationOrLess}
+use Rattle.models.specs.Steps.{fineStep, fineValue, bendStep, bendValue, stepOf, tuningOf, valueOf, sentAs, FineBound, BendBound, StepBound, TruncationOrLess}
+use Rattle.models.proofs.Values.{clamp-kept, clamp-kept-whole}
 
 pub fine-law : (v : Float) → T (positive v) → FineBound (fineStep (measure v)) v
 unfolding fineStep
@@ -106,3 +109,45 @@ pub step-law : (kind : TuningKind) (v : Float) → T (positive v) → StepBound 
 unfolding stepOf
 step-law FineTuning v h = fine-law v h
 step-law Bend v h = bend-law v h
+
+-- ---- nothing is clamped of a detuning from 0.96 to 1.04
+
+-- their sixteenth powers are still within a factor of 2
+limits : AtLeast (negsuc 0) closeFrom 16 × Below closeTo 16 (pos 1)
+limits = (lit≤ tt, lit< tt)
+
+-- the bend of a measure that small
+bend-small : (l : ℤ) → plus l ≤ 2 ^ 21 → less l ≤ 2 ^ 21 → (plus (bendStep l) ≤ 8191) × (less (bendStep l) ≤ 8192)
+unfolding bendStep
+bend-small (pos a) h k = (omega arith, omega arith)
+bend-small (negsuc a) h k =
+    rw (quot-neg (suc a * 3) 1024)
+    (let n = suc a * 3 / 1024 in
+    one-sided (negℤ (pos n)) 8191 8192 (omega (arith, neg-parts (pos n))) (omega (arith, neg-parts (pos n))))
+
+module _ (v : Float) (above-zero : T (positive v)) (from : T (le closeFrom v)) (to : T (le v closeTo)) where
+  -- 2 ^ -(1 / 16) ≤ v < 2 ^ (1 / 16)
+  small : (plus (measure v) ≤ 2 ^ 20) × (less (measure v) ≤ 2 ^ 20 + 2)
+  small =
+      let L = measure v in
+      let law = measure-law v above-zero in
+      let lo = at-least-mono (negsuc 0) closeFrom v 16 tt above-zero from (limits .0) in
+      let hi = below-mono (pos 1) v closeTo 16 above-zero tt to (limits .1) in
+      let a = between-powers v (negsuc 0) (L +ℤ pos 2) 16 (2 ^ 24) (lit< tt) lo (law .1) in
+      let b = between-powers v L (pos 1) (2 ^ 24) 16 (lit< tt) (law .0) hi in
+      one-sided L (2 ^ 20) (2 ^ 20 + 2) (omega arith) (omega (arith, add-parts L (pos 2)))
+
+  pub unclamped : (kind : TuningKind) → valueOf (sentAs kind v) ≡ stepOf kind (measure v)
+  unfolding sentAs tuningOf fineValue bendValue stepOf
+  unclamped FineTuning =
+      let L = measure v in
+      let z = L *ℤ pos 3 in
+      let f = quotient z 512 in
+      let fl = floor z 512 (lit< tt) in
+      let k = one-sided (pos 8192 +ℤ f) 16383 0 (omega (arith, small, add-parts (pos 8192) f, mul-parts L 3)) (omega (arith, small, add-parts (pos 8192) f, mul-parts L 3)) in
+      unfold fineStep in clamp-kept-whole 16383 (pos 8192 +ℤ f) (k .0) (k .1)
+  unclamped Bend = let b = bend-small (measure v) (omega (arith, small)) (omega (arith, small)) in clamp-kept 8191 8191 (bendStep (measure v)) (b .0) (b .1)
+
+  -- the value that is sent meets the bound itself
+  pub sent-law : (kind : TuningKind) → StepBound kind (valueOf (sentAs kind v)) v
+  sent-law kind = subst (λ (z : ℤ). StepBound kind z v) (sym (unclamped kind)) (step-law kind v above-zero)

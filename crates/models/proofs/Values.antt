@@ -1,18 +1,18 @@
 -- Values in which a detuning is sent: what is clamped lies in its range, and what the code computes on the way fits its type. Assumes nothing.
-use mathlib.Core.Path.{_≡_, refl, sym, ap, _∙_, subst}
+use mathlib.Core.Path.{_≡_, refl, sym, subst}
 use mathlib.Core.Logic.{_↔_}
 use mathlib.Core.Bool.{Bool, true, false, cond, _&&_, true≢false}
-use Prim.Native.Nat.{ℕ, suc, _+_, _*_, _/_, _^_, _≤_, _<_}
+use Prim.Native.Nat.{ℕ, suc, _+_, _*_, _^_, _≤_, _<_}
 use native.Mathlib.Omega.{arith}
 use lib.Dec.{T}
 use lib.IntN.{ℤ, pos, negsuc, natAbs, _+ℤ_, _*ℤ_}
-use lib.Signed.{mag, ltZ, leZ, quotZ, _≤ℤ_}
+use lib.Signed.{mag, ltZ, leZ}
 use lib.Ieee.{Float, binary64, fits}
 use lib.Ieee.Bits.{is-true}
 use lib.Ieee.Positive.{positive}
 use mir.Syntax.{w64}
 use mir.Val.{SFits}
-use borrow.Author.Tests.{ltb-true, ltb-false}
+use borrow.Author.Tests.{le-ltb, ltb-false}
 use Rattle.arithmetic.specs.Outcome.{Outcome, value, refused, refuse_unless_then_}
 use Rattle.arithmetic.specs.Refusal.{notMeasurable}
 use Rattle.arithmetic.specs.Division.{quotient}
@@ -81,6 +81,17 @@ clamp-parts a b z = go (clamp (negsuc b) (pos a) z) (clamped (negsuc b) (pos a) 
     go y low = (omega arith, omega arith)
     go y high = (omega arith, omega arith)
     go y (kept e f) = (not-above a z f, not-below b z e)
+
+-- what lies between the ends is kept
+pub clamp-kept : (a b : ℕ) (z : ℤ) → plus z ≤ a → less z ≤ suc b → clamp (negsuc b) (pos a) z ≡ z
+unfolding clamp
+clamp-kept a b (pos n) h k = rw (le-ltb a n h)
+clamp-kept a b (negsuc n) h k = rw (le-ltb b n (omega arith))
+
+pub clamp-kept-whole : (a : ℕ) (z : ℤ) → plus z ≤ a → less z ≤ 0 → pos (natAbs (clamp (pos 0) (pos a) z)) ≡ z
+unfolding clamp
+clamp-kept-whole a (pos n) h k = rw (le-ltb n 0 (omega arith), le-ltb a n h)
+clamp-kept-whole a (negsuc n) h k = absurd (let f : ⊥ = omega arith in f)
 
 pub clamp-between : (a b : ℕ) (z : ℤ) → (leZ (negsuc b) (clamp (negsuc b) (pos a) z) && leZ (clamp (negsuc b) (pos a) z) (pos a)) ≡ true
 clamp-between a b z =

@@ -44,6 +44,11 @@ unfoldable pub tuningOf : TuningKind → ℤ → Tuning
 tuningOf FineTuning l = Fine (fineValue l)
 tuningOf Bend l = Bent (bendValue l)
 
+-- the number that a tuning sends
+abbrev pub valueOf : Tuning → ℤ
+valueOf (Fine n) = pos n
+valueOf (Bent b) = b
+
 -- the tuning in which a detuning is sent
 unfoldable pub sentAs : TuningKind → Float → Tuning
 sentAs kind v = tuningOf kind (measure v)

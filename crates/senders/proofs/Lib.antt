@@ -19,6 +19,7 @@ pub mod Passages
 pub mod Conveyed
 pub mod BothTuners
 pub mod PlanTuner
+pub mod Retunings
 pub mod PoolTuner
 pub mod Refusals
 pub mod Demand1

@@ -4,11 +4,11 @@ use mathlib.Core.Path.{_≡_, refl, sym, ap, subst, _∙_}
 use mathlib.Core.Bool.{Bool, true, false, cond}
 use mathlib.Core.Option.{Option, some, none}
 use mathlib.Core.List.{List, [], _∷_, _++_}
-use Prim.Native.Nat.{ℕ, zero, suc, _<_, _≤_}
+use Prim.Native.Nat.{ℕ, zero, suc, _<_}
 use native.Mathlib.Nat.{zero-add}
 use native.Mathlib.Omega.{arith}
 use lib.Dec.{eqb, eqb→eq, leb}
-use lib.IntN.{ℤ, pos}
+use lib.IntN.{pos}
 use lib.Ieee.{Float}
 use lib.ListN.{length, take, drop, getElem?}
 use lib.Seq.{take-at}
@@ -34,8 +34,8 @@ use Rattle.senders.specs.Midi.{bytesOf}
 use Rattle.senders.specs.Tuner.{each}
 use Rattle.senders.specs.Aot.{Tuner, tuner, withPlan, Planned, tunes, channelMessages, planMessages, planEffect, startRule}
 use Rattle.senders.specs.Reader.{State, read}
-use Rattle.senders.specs.Receiver.{Channel, Receiver, Other, on, hearAll, hearBytes}
-use Rattle.senders.specs.Meant.{tuned, onListed, inTurn, channelMeant, planMeant}
+use Rattle.senders.specs.Receiver.{Channel, Receiver, Other, hearAll, hearBytes}
+use Rattle.senders.specs.Meant.{tuned, inTurn, channelMeant, planMeant}
 use Rattle.senders.specs.declared.aot.AotTuner.{AotTuner}
 use Rattle.senders.proofs.Bytes.{read-plain}
 use Rattle.senders.proofs.Conveyed.{Conveys, conveys-none, conveys-each, conveys-tuning}
@@ -211,20 +211,24 @@ started-sound cs kind = by (listRule cs) refl
     by (value l) e = let f = listed-channels cs l e in subst (Channels []) (sym (f .0)) (f .1)
     by (refused n) e = tt
 
-planned-channels : (m : Model) (lines : Outcome (List Line)) → planned m lines .0 .channels ≡ m .channels
+-- planning leaves the channels and the kind of group
+pub planned-kept : (m : Model) (lines : Outcome (List Line)) → (planned m lines .0 .channels ≡ m .channels) × (planned m lines .0 .groupBy ≡ m .groupBy)
 unfolding planned
-planned-channels m (refused n) = refl
-planned-channels m (value lines) = by (leb (count (m .groupBy) lines) (length (m .channels)))
+planned-kept m (refused n) = (refl, refl)
+planned-kept m (value lines) = by (leb (count (m .groupBy) lines) (length (m .channels)))
   where
-    by : (b : Bool) → cond {A = Model × M.Answer} b (M.holding m lines, M.tuned (count (m .groupBy) lines)) (M.empty (m .channels) (m .groupBy), M.untuned (count (m .groupBy) lines)) .0 .channels ≡ m .channels
-    by true = refl
-    by false = refl
+    by :
+        (b : Bool)
+        → let next = cond {A = Model × M.Answer} b (M.holding m lines, M.tuned (count (m .groupBy) lines)) (M.empty (m .channels) (m .groupBy), M.untuned (count (m .groupBy) lines)) .0 in
+        (next .channels ≡ m .channels) × (next .groupBy ≡ m .groupBy)
+    by true = (refl, refl)
+    by false = (refl, refl)
 
 -- A tuning, of whatever lists and however it ends, leaves the channels.
 pub channels-kept :
     (s back : AotTuner) (lines : Outcome (List Line)) {old new : List ℕ} {answer : Outcome Planned}
     → Steps tuner (planEffect (tuner s) (planned (modelOf (s .model)) lines)) s old answer back new → modelOf (back .model) .channels ≡ modelOf (s .model) .channels
-channels-kept s back lines {old} p = by (planned (modelOf (s .model)) lines) (planned-channels (modelOf (s .model)) lines) (p .moved-is)
+channels-kept s back lines {old} p = by (planned (modelOf (s .model)) lines) (planned-kept (modelOf (s .model)) lines .0) (p .moved-is)
   where
     at :
         (e : Effect Planned Tuner) → e .next .plan .channels ≡ modelOf (s .model) .channels → (b : Bool) → Moved tuner (cond b (value e) (refused bufferTooShort)) s back

@@ -1,6 +1,6 @@
 -- What the calls of a pool tuner wrote, as a reader and a receiver by the Specification take it, from any state they were in: a press, a release, a
 -- repitch and `stop`. BothTuners has pressures and messages to all. Assumes nothing.
-use mathlib.Core.Path.{_≡_, refl, sym, ap, _∙_}
+use mathlib.Core.Path.{_≡_, refl, sym, ap, subst, _∙_}
 use mathlib.Core.Bool.{Bool, true, false, cond}
 use mathlib.Core.Option.{Option, some, none}
 use mathlib.Core.List.{List, [], _∷_, _++_}
@@ -12,29 +12,30 @@ use lib.Ieee.{Float}
 use lib.ListN.{length, take, drop, getD, getElem?}
 use lib.Seq.{take-at}
 use borrow.Author.Tests.{lt-ltb, ltb-true, eq-eqb}
+use Rattle.arithmetic.specs.Nearest.{nearestNote}
+use Rattle.arithmetic.specs.Pitch.{detuningOf}
 use Rattle.models.specs.Outcome.{Outcome, value}
 use Rattle.models.specs.Pool.{State as Pools, Place, Held, accepted, found, registerRule, repitchRule, heldFrom, heldKeys}
-use Rattle.models.specs.Steps.{sentAs}
+use Rattle.models.specs.Steps.{valueOf, sentAs, StepBound}
 use Rattle.models.specs.JitModel.{view}
+use Rattle.models.proofs.PoolPitches.{press-pitch, press-law}
 use Rattle.models.proofs.Values.{sent-in-steps}
 use Rattle.senders.specs.Lent.{Effect, sent, Steps, Answers, written}
-use Rattle.senders.specs.Message.{Message, Valid, AllValid}
-use Rattle.senders.specs.Midi.{bytesOf, meant}
-use Rattle.senders.specs.Tuner.{keyMessages, onChannel, isKept, toAll, pressMessages}
-use Rattle.senders.specs.Jit.{Tuner, tuner, withPool, Pressed, sounds, noteOnRule, noteOffRule, noteAttrRule, notePitchRule, repitchMessages, globalAttrRule, releaseMessages, stopRule}
+use Rattle.senders.specs.Message.{Message}
+use Rattle.senders.specs.Midi.{bytesOf}
+use Rattle.senders.specs.Tuner.{keyMessages, onChannel, pressMessages}
+use Rattle.senders.specs.Jit.{Tuner, tuner, withPool, Pressed, sounds, noteOnRule, noteOffRule, notePitchRule, repitchMessages, releaseMessages, stopRule}
 use Rattle.senders.specs.Reader.{State, read}
-use Rattle.senders.specs.Padding.{allHeardAs, unpadded}
-use Rattle.senders.specs.Receiver.{Channel, Receiver, Other, withNote, hear, hearAll, hearBytes}
-use Rattle.senders.specs.Meant.{tuned, noted, pressed, onListed, keyMeant, inTurn}
-use Rattle.senders.specs.declared.midi.ChannelMessageType.{ChannelMessageType}
-use Rattle.senders.specs.declared.tuner.NoteMessage.the-variants.{Off, Pressure}
+use Rattle.senders.specs.Receiver.{Channel, Receiver, Other, withNote, hearAll, hearBytes}
+use Rattle.senders.specs.Meant.{tuned, noted, pressed, onListed, keyMeant, inTurn, valueIn}
+use Rattle.senders.specs.declared.tuner.NoteMessage.the-variants.{Off}
 use Rattle.senders.specs.declared.jit.JitTuner.{JitTuner}
 use Rattle.senders.proofs.Bytes.{read-plain, sent-read-plain}
 use Rattle.senders.proofs.Calls.{press-sent, release-sent}
-use Rattle.senders.proofs.Conveyed.{Conveys, conveys-none, conveys-each, sent-conveyed, conveys-key, conveys-tuning, conveys-press, all-valid, echoes-heard, all-hear}
-use Rattle.senders.proofs.Hearing.{on-none}
-use Rattle.senders.proofs.Lent.{accepted as done, starts-with}
-use Rattle.senders.proofs.Messages.{test-held, checked-valid, valid-checked}
+use Rattle.senders.proofs.Conveyed.{Conveys, conveys-none, conveys-each, sent-conveyed, conveys-key, conveys-tuning, conveys-press}
+use Rattle.senders.proofs.Lent.{accepted as done}
+use Rattle.senders.proofs.Messages.{test-held}
+use Rattle.senders.proofs.Received.{pressed-value}
 
 -- what a press says it wrote stands at the buffer's start
 pub sounding-starts :
@@ -79,6 +80,17 @@ module _ (other : Other) (st : State) (r : Receiver) (self : JitTuner) where
 
       pub press-received : hearBytes other st (take n new) r ≡ onListed (getElem? channels i) (pressed stopped (sentAs (self .kind) d) note v) r
       press-received = ap (λ (l : List Message). hearAll other l r) press-read ∙ press-conveyed .heard r
+
+      -- An accepted press is heard at its pitch: its note is the nearest one, and the channel has the value of the pitch's detuning from that note,
+      -- unclamped and within the bound of its kind.
+      pub press-near :
+          (ch : ℕ) → getElem? channels i ≡ some ch
+          → (note ≡ nearestNote hz) × (d ≡ detuningOf hz note) × StepBound (self .kind) (valueIn (self .kind) (hearBytes other st (take n new) r ch)) d
+      press-near ch f =
+          let made = press-pitch (tuner self .pool) key hz e in
+          let value-is : valueIn (self .kind) (hearBytes other st (take n new) r ch) ≡ valueOf (sentAs (self .kind) d) =
+          ap (λ (q : Receiver). valueIn (self .kind) (q ch)) press-received ∙ rw (f, eq-eqb ch ch refl) (pressed-value (self .kind) d stopped note v (r ch)) in
+          (made .1, made .2, subst (λ (k : ℤ). StepBound (self .kind) k d) (sym value-is) (press-law (tuner self .pool) key hz e (self .kind)))
 
     -- A release: a reader finds its message; the key's note is off.
     module _ (key v : ℕ) (p : Steps tuner (noteOffRule (tuner self) key v) self old (value n) back new) where

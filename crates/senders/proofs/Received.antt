@@ -1,24 +1,27 @@
 -- What a receiver that follows the Specification ends up with, from any state, after each thing that a tuner sends: what the tuner means by it, on
 -- the channel it is sent on, and every other channel as it was. Assumes nothing.
 use mathlib.Core.Path.{_≡_, refl, sym, ap, _∙_}
-use mathlib.Core.Bool.{true, false}
+use mathlib.Core.Bool.{Bool, true, false, cond}
 use mathlib.Core.List.{List}
-use mathlib.Core.Option.{Option, some, none}
+use mathlib.Core.Option.{Option}
 use Prim.Native.Nat.{ℕ, _+_, _*_, _<_}
 use lib.Dec.{ltb, eqb}
-use lib.IntN.{ℤ, pos, _*ℤ_}
+use lib.IntN.{ℤ, pos, negsuc, _*ℤ_}
+use lib.Ieee.{Float}
 use lib.ListN.{take}
 use borrow.Author.Tests.{lt-ltb, eq-eqb}
 use Rattle.models.specs.Outcome.{Outcome, value}
 use Rattle.senders.specs.Lent.{Effect, sends, Steps}
 use Rattle.senders.specs.Message.{Message, isBend}
 use Rattle.senders.specs.Midi.{bytesOf}
-use Rattle.models.specs.Steps.{InSteps}
+use Rattle.models.specs.Steps.{tuningOf, valueOf, sentAs, InSteps}
 use Rattle.senders.specs.Mts.{tuningMessages}
 use Rattle.senders.specs.Tuner.{noteMessages, pressMessages}
 use Rattle.senders.specs.Reader.{State}
-use Rattle.senders.specs.Receiver.{Channel, Receiver, Other, on, withFine, withBend, withSensitivity, parameter, hearAll, hearBytes, usualSensitivity, fineShift, bendShift}
-use Rattle.senders.specs.Meant.{tuned, noteMeant, stopped, pressed, steps, stepSize, shift}
+use Rattle.senders.specs.Receiver.{Channel, Receiver, Other, on, withFine, withBend, withSensitivity, withNote, parameter, hearAll, hearBytes, usualSensitivity, fineShift, bendShift}
+use Rattle.senders.specs.Meant.{tuned, noted, noteMeant, stopped, pressed, steps, stepSize, shift, valueIn}
+use Rattle.models.specs.declared.steps.TuningKind.{TuningKind}
+use Rattle.models.specs.declared.steps.TuningKind.the-variants.{FineTuning, Bend as ByBend}
 use Rattle.models.specs.declared.steps.Tuning.{Tuning}
 use Rattle.models.specs.declared.steps.Tuning.the-variants.{Fine, Bend}
 use Rattle.senders.specs.declared.tuner.NoteMessage.{NoteMessage}
@@ -131,3 +134,27 @@ module _ (other : Other) (st : State) (ch : ℕ) (r : Receiver) (low : ch < 16) 
       → OnlyOn ch (Speaks t n v) r (hearBytes other st (bytesOf (pressMessages ch s t (pos n) v)) r)
   press-speaks s t n v i k h =
       changed (pressed s t (pos n) v) (Speaks t n v) (press-received other st ch s t (pos n) v r low i h) (speaks t n v (stopped s (r ch)) k)
+
+-- ---- the value of a tuned channel
+
+-- it is the number that was sent
+pub tuned-value : (kind : TuningKind) (d : Float) (x : Channel) → valueIn kind (tuned (sentAs kind d) x) ≡ valueOf (sentAs kind d)
+unfolding sentAs tuningOf
+tuned-value FineTuning d x = refl
+tuned-value ByBend d x = refl
+
+-- a note leaves it
+noted-value : (kind : TuningKind) (s : Bool) (note : ℤ) (x : Channel) → valueIn kind (noted s note x) ≡ valueIn kind x
+noted-value kind s (pos n) x = by kind (ltb n 128)
+  where
+    by : (kind : TuningKind) (b : Bool) → valueIn kind (cond b (withNote n s x) x) ≡ valueIn kind x
+    by FineTuning true = refl
+    by FineTuning false = refl
+    by ByBend true = refl
+    by ByBend false = refl
+noted-value kind s (negsuc n) x = refl
+
+pub pressed-value :
+    (kind : TuningKind) (d : Float) (s : Option ℤ) (note : ℤ) (v : ℕ) (x : Channel)
+    → valueIn kind (pressed s (sentAs kind d) note v x) ≡ valueOf (sentAs kind d)
+pressed-value kind d s note v x = noted-value kind (ltb 0 v) note (tuned (sentAs kind d) (stopped s x)) ∙ tuned-value kind d (stopped s x)

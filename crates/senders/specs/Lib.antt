@@ -7,6 +7,7 @@ pub mod Tuner
 pub mod Aot
 pub mod Jit
 pub mod Passage
+pub mod Retuning
 pub mod Answers
 pub mod Entries
 pub mod Reader

@@ -14,6 +14,7 @@ use Rattle.models.specs.Steps.{sentAs}
 use Rattle.senders.specs.Message.{isData}
 use Rattle.senders.specs.Receiver.{Channel, Receiver, on, withChoice, withFine, withBend, withNote, parameter, fineShift, bendShift, sensitivityCents}
 use Rattle.models.specs.declared.steps.TuningKind.{TuningKind}
+use Rattle.models.specs.declared.steps.TuningKind.the-variants.{FineTuning, Bend as ByBend}
 use Rattle.models.specs.declared.steps.Tuning.{Tuning}
 use Rattle.models.specs.declared.steps.Tuning.the-variants.{Fine, Bend}
 use Rattle.senders.specs.declared.tuner.NoteMessage.{NoteMessage}
@@ -77,6 +78,11 @@ stepSize (Bend b) x = sensitivityCents (x .sensitivity)
 abbrev pub shift : Tuning → Channel → ℤ
 shift (Fine v) x = fineShift x
 shift (Bend b) x = bendShift x
+
+-- the value that a channel has of a kind of tuning
+abbrev pub valueIn : TuningKind → Channel → ℤ
+valueIn FineTuning x = pos (x .fine)
+valueIn ByBend x = x .bent
 
 -- ---- the tunings of a plan
 

@@ -121,7 +121,7 @@ impl AotTuner {
         send_checked_to_all(kind, channels, message, out)
     }
 
-    // Nothing is sent: a plan holds no key, and whoever pressed one releases it.
+    // Sends nothing: a plan tuner does not know which keys are pressed, so whoever pressed one releases it.
     pub fn stop(self, out: &mut [u8]) -> Sent
         ensures { λ r. ⌜ Answers (stopRule (tuner self)) (now (out .entry)) (sentAnswer r) (now (out .exit)) ⌝ }
     {
