@@ -1,5 +1,6 @@
 -- What the contracts of the exported functions cite. Assumes nothing.
 pub mod Lent
+pub mod Returned
 pub mod Numbers
 pub mod Events
 pub mod Plans
