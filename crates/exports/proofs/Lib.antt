@@ -5,3 +5,4 @@ mod Results
 mod PlanAnswers
 mod Calls
 mod Counts
+pub mod Demand1

@@ -8,3 +8,4 @@ pub mod Messages
 pub mod Calls
 pub mod PoolTuner
 pub mod PlanTuner
+pub mod Functions
