@@ -114,6 +114,7 @@ pub extern "C" fn tune_plan_tuner(
     refusal
 }
 
+// All events in order, from a tuner on.
 fn play_all(
     first: AotTuner,
     pitch_keys: &[u8],

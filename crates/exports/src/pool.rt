@@ -101,6 +101,7 @@ pub extern "C" fn tune_pool(
     refusal
 }
 
+// All events in order, from a model on.
 fn play_all(
     first: JitTuningModel,
     kinds: &[u8],

@@ -100,6 +100,7 @@ pub extern "C" fn tune_pool_tuner(
     refusal
 }
 
+// All events in order, from a tuner on.
 fn play_all(
     first: JitTuner,
     kinds: &[u8],
