@@ -11,6 +11,7 @@ mod plan_tuners;
 mod plans;
 mod pool_tuners;
 mod pools;
+mod refused;
 mod report;
 mod speed;
 mod steps;
@@ -30,6 +31,7 @@ fn compare(seed: u64) -> u64 {
     bytes::run(&mut chance, &mut rows);
     pool_tuners::run(&mut chance, &mut rows);
     plan_tuners::run(&mut chance, &mut rows);
+    refused::run(&mut rows);
     report::summary(&rows)
 }
 

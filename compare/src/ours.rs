@@ -20,20 +20,20 @@ unsafe extern "C" {
         notes: *const i32, n_notes: usize,
         detunings: *const f64, n_detunings: usize,
         asked: *const u8, n_asked: usize,
-        kind: *mut u8, n_kind: usize,
+        count: *mut u16, n_count: usize,
         seat_channels: *mut u8, n_seat_channels: usize,
         seat_notes: *mut i32, n_seat_notes: usize,
-    ) -> u16;
+    ) -> u8;
     fn tune_plan_of_pitches(
         channels: *const u8, n_channels: usize,
         group_by: u8,
         keys: *const u8, n_keys: usize,
         pitches: *const f64, n_pitches: usize,
         asked: *const u8, n_asked: usize,
-        kind: *mut u8, n_kind: usize,
+        count: *mut u16, n_count: usize,
         seat_channels: *mut u8, n_seat_channels: usize,
         seat_notes: *mut i32, n_seat_notes: usize,
-    ) -> u16;
+    ) -> u8;
     fn tune_entries(
         channels: *const u8, n_channels: usize,
         group_by: u8,
@@ -45,7 +45,7 @@ unsafe extern "C" {
         entry_kinds: *mut u8, n_entry_kinds: usize,
         entry_groups: *mut i32, n_entry_groups: usize,
         entry_detunings: *mut f64, n_entry_detunings: usize,
-    );
+    ) -> u8;
     fn tune_pool(
         channels: *const u8, n_channels: usize,
         letters: bool,
@@ -65,16 +65,16 @@ unsafe extern "C" {
         second: u8,
         bend: i16,
         channel: u8,
-        refusal: *mut u8, n_refusal: usize,
+        count: *mut usize, n_count: usize,
         out: *mut u8, n_out: usize,
-    ) -> usize;
+    ) -> u8;
     fn tune_channel_tuning(
         bends: bool,
         channel: u8,
         detuning: f64,
-        refusal: *mut u8, n_refusal: usize,
+        count: *mut usize, n_count: usize,
         out: *mut u8, n_out: usize,
-    ) -> usize;
+    ) -> u8;
     fn tune_pool_tuner(
         channels: *const u8, n_channels: usize,
         bends: bool,
@@ -169,7 +169,10 @@ fn tuning(kind: u8, count: u16) -> Tuning {
     match kind {
         FOUND => Tuning::Tuned(count.into()),
         NOTHING => Tuning::Untuned(count.into()),
-        number => Tuning::Refused(number),
+        number => {
+            assert_eq!(count, u16::MAX, "a refused plan wrote its count");
+            Tuning::Refused(number)
+        }
     }
 }
 
@@ -179,8 +182,8 @@ pub const NOT_FOUND: u8 = 255;
 /// A plan of keys with their notes and detunings; the channel and the note of each key asked for are written.
 #[allow(clippy::too_many_arguments)]
 pub fn plan(channels: &[u8], group_by: u8, keys: &[u8], notes: &[i32], detunings: &[f64], asked: &[u8], at: &mut [u8], sounds: &mut [i32]) -> Tuning {
-    let mut kind = 99;
-    let count = unsafe {
+    let mut count = u16::MAX;
+    let kind = unsafe {
         tune_plan(
             channels.as_ptr(), channels.len(),
             group_by,
@@ -188,7 +191,7 @@ pub fn plan(channels: &[u8], group_by: u8, keys: &[u8], notes: &[i32], detunings
             notes.as_ptr(), notes.len(),
             detunings.as_ptr(), detunings.len(),
             asked.as_ptr(), asked.len(),
-            &mut kind, 1,
+            &mut count, 1,
             at.as_mut_ptr(), at.len(),
             sounds.as_mut_ptr(), sounds.len(),
         )
@@ -198,15 +201,15 @@ pub fn plan(channels: &[u8], group_by: u8, keys: &[u8], notes: &[i32], detunings
 
 /// The same of keys with their pitches.
 pub fn plan_of_pitches(channels: &[u8], group_by: u8, keys: &[u8], pitches: &[f64], asked: &[u8], at: &mut [u8], sounds: &mut [i32]) -> Tuning {
-    let mut kind = 99;
-    let count = unsafe {
+    let mut count = u16::MAX;
+    let kind = unsafe {
         tune_plan_of_pitches(
             channels.as_ptr(), channels.len(),
             group_by,
             keys.as_ptr(), keys.len(),
             pitches.as_ptr(), pitches.len(),
             asked.as_ptr(), asked.len(),
-            &mut kind, 1,
+            &mut count, 1,
             at.as_mut_ptr(), at.len(),
             sounds.as_mut_ptr(), sounds.len(),
         )
@@ -214,28 +217,46 @@ pub fn plan_of_pitches(channels: &[u8], group_by: u8, keys: &[u8], pitches: &[f6
     tuning(kind, count)
 }
 
-/// For each channel asked for and a group beside it, the channel's first entry from that group on.
-pub fn entries(channels: &[u8], group_by: u8, keys: &[u8], notes: &[i32], detunings: &[f64], asked: &[(u8, i32)]) -> Vec<Option<(i32, f64)>> {
-    let n = asked.len();
+/// Room for the entries of a plan.
+#[derive(Clone, Debug, PartialEq)]
+pub struct Entries {
+    pub kinds: Vec<u8>,
+    pub groups: Vec<i32>,
+    pub detunings: Vec<f64>,
+}
+
+impl Entries {
+    pub fn room(n: usize) -> Entries {
+        Entries { kinds: vec![UNANSWERED; n], groups: vec![9999; n], detunings: vec![-1.0; n] }
+    }
+
+    /// For each channel asked for and a group beside it, the channel's first entry from that group on.
+    #[allow(clippy::too_many_arguments)]
+    pub fn find(&mut self, channels: &[u8], group_by: u8, keys: &[u8], notes: &[i32], detunings: &[f64], asked: &[u8], from: &[i32]) -> u8 {
+        unsafe {
+            tune_entries(
+                channels.as_ptr(), channels.len(),
+                group_by,
+                keys.as_ptr(), keys.len(),
+                notes.as_ptr(), notes.len(),
+                detunings.as_ptr(), detunings.len(),
+                asked.as_ptr(), asked.len(),
+                from.as_ptr(), from.len(),
+                self.kinds.as_mut_ptr(), self.kinds.len(),
+                self.groups.as_mut_ptr(), self.groups.len(),
+                self.detunings.as_mut_ptr(), self.detunings.len(),
+            )
+        }
+    }
+}
+
+/// What the plan answers, and the entries.
+pub fn entries(channels: &[u8], group_by: u8, keys: &[u8], notes: &[i32], detunings: &[f64], asked: &[(u8, i32)]) -> (u8, Vec<Option<(i32, f64)>>) {
     let (asked_channels, asked_groups): (Vec<u8>, Vec<i32>) = asked.iter().copied().unzip();
-    let mut kinds = vec![99; n];
-    let mut groups = vec![9999; n];
-    let mut found = vec![-1.0; n];
-    unsafe {
-        tune_entries(
-            channels.as_ptr(), channels.len(),
-            group_by,
-            keys.as_ptr(), keys.len(),
-            notes.as_ptr(), notes.len(),
-            detunings.as_ptr(), detunings.len(),
-            asked_channels.as_ptr(), n,
-            asked_groups.as_ptr(), n,
-            kinds.as_mut_ptr(), n,
-            groups.as_mut_ptr(), n,
-            found.as_mut_ptr(), n,
-        )
-    };
-    (0..n).map(|i| (kinds[i] == FOUND).then_some((groups[i], found[i]))).collect()
+    let mut found = Entries::room(asked.len());
+    let kind = found.find(channels, group_by, keys, notes, detunings, &asked_channels, &asked_groups);
+    let entry = |i: usize| (found.kinds[i] == FOUND).then_some((found.groups[i], found.detunings[i]));
+    (kind, (0..asked.len()).map(entry).collect())
 }
 
 pub const PRESS: u8 = 0;
@@ -245,6 +266,9 @@ pub const LOOKUP: u8 = 3;
 /// An answer's kind: found or accepted; not found or rejected; the others are refusals.
 pub const FOUND: u8 = 0;
 pub const NOTHING: u8 = 20;
+
+/// What stands in a list of kinds before it is lent.
+pub const UNANSWERED: u8 = 99;
 
 /// Stands where a press stopped no note.
 pub const NO_NOTE: i32 = 1000;
@@ -258,7 +282,7 @@ pub struct Events {
     pub answers: Answers,
 }
 
-#[derive(Default)]
+#[derive(Clone, Debug, Default, PartialEq)]
 pub struct Answers {
     pub kinds: Vec<u8>,
     pub channels: Vec<u8>,
@@ -277,8 +301,8 @@ impl Events {
     /// Makes room for the answers.
     pub fn ready(&mut self) {
         let n = self.kinds.len();
-        self.answers.kinds.resize(n, 99);
-        self.answers.channels.resize(n, 99);
+        self.answers.kinds.resize(n, UNANSWERED);
+        self.answers.channels.resize(n, UNANSWERED);
         self.answers.notes.resize(n, 9999);
         self.answers.stopped.resize(n, 9999);
         self.answers.detunings.resize(n, -1.0);
@@ -313,18 +337,21 @@ pub struct Message {
     pub bend: i16,
 }
 
+/// What stands in a count before it is lent.
+pub const UNCOUNTED: usize = usize::MAX;
+
 /// Writes a message on a channel; the refusal, 0 where there is none, and how many bytes were written.
 pub fn message(message: Message, channel: u8, out: &mut [u8]) -> (u8, usize) {
-    let mut refusal = 99;
+    let mut count = UNCOUNTED;
     let Message { kind, first, second, bend } = message;
-    let count = unsafe { tune_message(kind, first, second, bend, channel, &mut refusal, 1, out.as_mut_ptr(), out.len()) };
+    let refusal = unsafe { tune_message(kind, first, second, bend, channel, &mut count, 1, out.as_mut_ptr(), out.len()) };
     (refusal, count)
 }
 
 /// Writes the tuning of a channel by a detuning.
 pub fn channel_tuning(bends: bool, channel: u8, detuning: f64, out: &mut [u8]) -> (u8, usize) {
-    let mut refusal = 99;
-    let count = unsafe { tune_channel_tuning(bends, channel, detuning, &mut refusal, 1, out.as_mut_ptr(), out.len()) };
+    let mut count = UNCOUNTED;
+    let refusal = unsafe { tune_channel_tuning(bends, channel, detuning, &mut count, 1, out.as_mut_ptr(), out.len()) };
     (refusal, count)
 }
 
@@ -358,13 +385,13 @@ pub struct Lists {
 pub const FILL: u8 = 0xa5;
 
 /// The events of a tuner as the port takes them, and room for the answers and the bytes.
-#[derive(Default)]
+#[derive(Clone, Debug, Default, PartialEq)]
 pub struct Calls {
-    kinds: Vec<u8>,
-    keys: Vec<u8>,
-    values: Vec<u8>,
-    pitches: Vec<f64>,
-    bends: Vec<i16>,
+    pub kinds: Vec<u8>,
+    pub keys: Vec<u8>,
+    pub values: Vec<u8>,
+    pub pitches: Vec<f64>,
+    pub bends: Vec<i16>,
     pub answers: Vec<u8>,
     pub counts: Vec<usize>,
     /// How many channels a tuning needs.
@@ -376,7 +403,7 @@ impl Calls {
     /// The events, with so many bytes of room.
     pub fn new(events: &[Event], room: usize) -> Calls {
         let n = events.len();
-        let mut calls = Calls { answers: vec![99; n], counts: vec![usize::MAX; n], channels: vec![0; n], out: vec![FILL; room], ..Calls::default() };
+        let mut calls = Calls { answers: vec![UNANSWERED; n], counts: vec![UNCOUNTED; n], channels: vec![0; n], out: vec![FILL; room], ..Calls::default() };
         for &event in events {
             let (kind, key, value, hz, bend) = match event {
                 Event::Press(key, hz, velocity) => (0, key, velocity, hz, 0),
@@ -397,7 +424,7 @@ impl Calls {
         calls
     }
 
-    /// Plays them on a pool tuner; the refusal of the channel list, 0 where there is none.
+    /// Plays them on a pool tuner; the refusal of the lists, 0 where there is none.
     pub fn play_pool(&mut self, channels: &[u8], bends: bool, mode: u8) -> u8 {
         unsafe {
             tune_pool_tuner(
@@ -415,6 +442,7 @@ impl Calls {
             )
         }
     }
+
     /// Plays them on a plan tuner.
     pub fn play_plan(&mut self, channels: &[u8], bends: bool, lists: &Lists) -> u8 {
         unsafe {

@@ -18,6 +18,7 @@ use crate::ours::Calls;
 use crate::ours::Event;
 use crate::ours::Lists;
 use crate::ours::Message;
+use crate::pools::first_answer;
 use crate::plans::at_limit;
 use crate::plans::judge_notes;
 use crate::plans::judge_pitches;
@@ -351,8 +352,7 @@ pub fn run(chance: &mut Chance, rows: &mut Vec<Row>) {
         let lists = lists(&vec![(1, 440.0)], &Lines::new());
         let mut calls = Calls::new(&[Event::TuneByPitches], 20);
         let answer = calls.play_plan(list, false, &lists);
-        let kind = if refusal == 0 && !list.is_empty() { 0 } else { ours::NOTHING };
-        if (answer, calls.answers[0], calls.channels[0]) != (refusal, kind, 1) {
+        if (answer, calls.answers[0], calls.channels[0]) != (refusal, first_answer(refusal, list), u16::from(refusal == 0)) {
             row.differs(Kind::Unexpected, list.len(), || format!("{list:?}: {answer}, not {refusal}"));
         } else if refusal != 0 {
             row.differs(Kind::Refusal, list.len(), || format!("{list:?}: refusal {refusal}"));

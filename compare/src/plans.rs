@@ -173,8 +173,9 @@ fn compare(fed: &mut Row, by_pitch: &mut Row, keys: &[u8], pitches: &[f64], pres
                 asked.push((channel as u8, from));
                 entries.push(None);
             }
-            same &= ours::entries(&list, group, keys, &notes, &detunings, &asked) == entries;
+            same &= ours::entries(&list, group, keys, &notes, &detunings, &asked) == (ours::FOUND, entries);
         } else {
+            same &= ours::entries(&list, group, keys, &notes, &detunings, &[(0, i32::MIN)]) == (ours::NOTHING, vec![None]);
             fed.meets("untuned");
         }
         for pair in notes.iter().zip(&detunings).collect::<Vec<_>>().windows(2) {
@@ -296,9 +297,9 @@ fn damaged(row: &mut Row, chance: &mut Chance) {
             _ => {}
         }
         let group = (turn % 3) as u8;
-        let mut at = [99; 256];
-        let mut sounds = [9999; 256];
         for by_pitch in [false, true] {
+            let mut at = [99; 256];
+            let mut sounds = [9999; 256];
             let (answer, judged) = if by_pitch {
                 (ours::plan_of_pitches(&[0, 1, 2], group, &keys, &pitches, &ALL, &mut at, &mut sounds), judge_pitches(&keys, &pitches))
             } else {
@@ -308,7 +309,7 @@ fn damaged(row: &mut Row, chance: &mut Chance) {
             let wrong = match (answer, judged) {
                 (Tuning::Refused(number), Some(judged)) if number == judged => {
                     row.differs(Kind::Refusal, n, || format!("{n} lines: refusal {number}"));
-                    at.iter().any(|&channel| channel != ours::NOT_FOUND)
+                    at != [99; 256] || sounds != [9999; 256]
                 }
                 (Tuning::Tuned(_) | Tuning::Untuned(_), None) => false,
                 _ => true,

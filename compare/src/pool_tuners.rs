@@ -20,6 +20,7 @@ use crate::ours;
 use crate::ours::Calls;
 use crate::ours::Event;
 use crate::ours::Message;
+use crate::pools::first_answer;
 use crate::pools::rust_group;
 use crate::pools::rust_mode;
 use crate::pools::sure;
@@ -310,8 +311,7 @@ pub fn run(chance: &mut Chance, rows: &mut Vec<Row>) {
         row.cases += 1;
         let mut calls = Calls::new(&[Event::Press(1, 440.0, 64)], 20);
         let answer = calls.play_pool(list, false, 0);
-        let kind = if refusal == 0 && !list.is_empty() { 0 } else { ours::NOTHING };
-        if (answer, calls.answers[0]) != (refusal, kind) {
+        if (answer, calls.answers[0]) != (refusal, first_answer(refusal, list)) {
             row.differs(Kind::Unexpected, list.len(), || format!("{list:?}: {answer}, not {refusal}"));
         } else if refusal != 0 {
             row.differs(Kind::Refusal, list.len(), || format!("{list:?}: refusal {refusal}"));

@@ -1,11 +1,12 @@
 -- A pool that is played from lists of events. Assumes nothing.
 use Prim.Native.Nat.{ℕ, zero, suc}
-use mathlib.Core.Bool.{Bool, cond}
+use mathlib.Core.Bool.{Bool, cond, _&&_}
 use mathlib.Core.List.{List}
 use mathlib.Core.Option.{Option, some, none}
 use lib.Dec.{eqb}
 use lib.IntN.{ℤ, pos}
 use lib.Ieee.{Float}
+use lib.ListN.{length}
 use Rattle.arithmetic.specs.Outcome.{Outcome, value, refused}
 use Rattle.models.specs.Pool.{Place, State, Press, accepted, rejected, found, released, registerRule, repitchRule, replied}
 use Rattle.models.specs.JitModel.{view}
@@ -58,11 +59,6 @@ repitchAnswer (value (some r)) = record { kind = 0; channel = r .0 .channel; not
 repitchAnswer (value none) = noPlace nothing
 repitchAnswer (refused n) = noPlace n
 
--- the number of a channel list's refusal, 0 where there is none
-unfoldable pub listRefusal : Outcome (List ℕ) → ℕ
-listRefusal (value cs) = 0
-listRefusal (refused n) = n
-
 -- ---- the events
 
 -- An event of a kind: 0 is a press, 1 a release, 2 a repitch, any other a lookup.
@@ -77,6 +73,9 @@ pub record Events : Type 0 where
   pub kinds : List ℕ
   pub keys : List ℕ
   pub pitches : List Float
+
+abbrev pub equalLists : Events → Bool
+equalLists es = eqb (length (es .keys)) (length (es .kinds)) && eqb (length (es .pitches)) (length (es .kinds))
 
 -- event i in a state
 abbrev pub eventIn : Events → ℕ → State → Answer × State

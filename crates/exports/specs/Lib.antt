@@ -1,5 +1,6 @@
 -- What the contracts of the exported functions cite. Assumes nothing.
 pub mod Lent
+pub mod Returned
 pub mod Numbers
 pub mod Events
 pub mod Plans
@@ -7,3 +8,4 @@ pub mod Messages
 pub mod Calls
 pub mod PoolTuner
 pub mod PlanTuner
+pub mod Functions

@@ -1,6 +1,6 @@
 -- A plan tuner that is played from lists of events, tunings among them. Assumes nothing.
 use Prim.Native.Nat.{ℕ, _-_}
-use mathlib.Core.Bool.{cond}
+use mathlib.Core.Bool.{Bool, cond, _&&_}
 use mathlib.Core.List.{List}
 use lib.Dec.{eqb}
 use lib.IntN.{ℤ}
@@ -39,8 +39,8 @@ pub record Lists : Type 0 where
   pub notes : List ℤ
   pub detunings : List Float
 
--- An event of a kind: 0 is a press, 1 a release, 3 a pressure, 4 a stop; these hand no tuner back. Kinds that are not named are messages of that kind
--- to all channels, whose first data byte stands for the key.
+-- An event of a kind: 0 is a press, 1 a release, 3 a pressure, 4 a stop. Any other is a message to all channels: 8 to 13 by their status (the high four
+-- bits), the rest a bend; the key is its first data byte, the value its second. None of these hands a tuner back.
 unfoldable pub sendRule : ℕ → ℕ → ℕ → ℤ → Tuner → Answer
 sendRule kind key v bend t =
     cond (eqb kind 0) (noteOnRule t key v)
@@ -61,6 +61,9 @@ pub record Events : Type 0 where
   pub keys : List ℕ
   pub values : List ℕ
   pub bends : List ℤ
+
+abbrev pub equalLists : Events → Bool
+equalLists es = eqb (length (es .keys)) (length (es .kinds)) && eqb (length (es .values)) (length (es .kinds)) && eqb (length (es .bends)) (length (es .kinds))
 
 -- event i
 abbrev pub eventIn : Lists → Events → ℕ → Tuner → Call Tuner

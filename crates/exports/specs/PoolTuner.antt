@@ -1,10 +1,11 @@
 -- A pool tuner that is played from lists of events. Assumes nothing.
 use Prim.Native.Nat.{ℕ}
-use mathlib.Core.Bool.{cond}
+use mathlib.Core.Bool.{Bool, cond, _&&_}
 use mathlib.Core.List.{List}
 use lib.Dec.{eqb}
 use lib.IntN.{ℤ}
 use lib.Ieee.{Float}
+use lib.ListN.{length}
 use Rattle.arithmetic.specs.Outcome.{Outcome, value, refused}
 use Rattle.senders.specs.Jit.{Tuner, Pressed, sounds, rejects, noteOnRule, noteOffRule, notePitchRule, noteAttrRule, globalAttrRule, stopRule}
 use Rattle.exports.specs.Lent.{byteAt, numberAt, floatAt}
@@ -25,8 +26,8 @@ pressHeard (refused n) = refusedBy n
 
 -- ---- the events
 
--- An event of a kind: 0 is a press, 1 a release, 2 a repitch, 3 a pressure, 4 a stop, any other a message of that kind to all channels, whose first
--- data byte stands for the key.
+-- An event of a kind: 0 is a press, 1 a release, 2 a repitch, 3 a pressure, 4 a stop. Any other is a message to all channels: 8 to 13 by their status
+-- (the high four bits), the rest a bend; the key is its first data byte, the value its second.
 unfoldable pub happens : ℕ → ℕ → ℕ → Float → ℤ → Tuner → Call Tuner
 happens kind key v hz bend t =
     cond (eqb kind 0) (saying pressSaid (λ s. s) (noteOnRule t key hz v))
@@ -43,6 +44,9 @@ pub record Events : Type 0 where
   pub values : List ℕ
   pub pitches : List Float
   pub bends : List ℤ
+
+abbrev pub equalLists : Events → Bool
+equalLists es = eqb (length (es .keys)) (length (es .kinds)) && eqb (length (es .values)) (length (es .kinds)) && eqb (length (es .pitches)) (length (es .kinds)) && eqb (length (es .bends)) (length (es .kinds))
 
 -- event i
 abbrev pub eventIn : Events → ℕ → Tuner → Call Tuner

@@ -1,5 +1,5 @@
 // What a program in another language calls: whole lists at once, on numbers and lent slices. Each function is thin: it calls the public entry and
-// writes its answer. Names begin with `tune_`, since a name is the whole program's.
+// writes its answer, or returns a refusal and writes nothing. Names begin with `tune_`, since a name is the whole program's.
 mod lent;
 pub mod message;
 pub mod nearest;
@@ -7,3 +7,4 @@ pub mod plan;
 pub mod plan_tuner;
 pub mod pool;
 pub mod pool_tuner;
+mod returned;

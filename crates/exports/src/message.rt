@@ -6,8 +6,10 @@ ghost use Rattle.senders.specs.Lent.{Answers, fitted, told, left};
 ghost use Rattle.senders.specs.Midi.{messageRule};
 ghost use Rattle.senders.specs.Mts.{channelTuningRule};
 ghost use Rattle.senders.specs.Answers.{sentAnswer};
+ghost use Rattle.exports.specs.Returned.{unlessRefused};
 ghost use Rattle.exports.specs.Messages.{messageOf, kindOf, sentHeard};
-use crate::lent::put_byte;
+use crate::lent::put_count;
+use crate::returned::is_result;
 use models::steps::TuningKind;
 use senders::midi::ChannelMessageType;
 use senders::midi::Sent;
@@ -37,8 +39,8 @@ pub(crate) struct Heard {
     pub(crate) channels: u16,
 }
 
-// Writes a message on a channel to the buffer's start: its data bytes are `first` and `second`, or it is a bend. Writes the refusal, 0 where there
-// is none. Answers how many bytes it wrote.
+// Writes a message on a channel to the buffer's start, and how many bytes that is: its data bytes are `first` and `second`, or it is a bend. Returns the
+// refusal, 0 where there is none.
 #[no_mangle]
 pub extern "C" fn tune_message(
     kind: u8,
@@ -46,41 +48,50 @@ pub extern "C" fn tune_message(
     second: u8,
     bend: i16,
     channel: u8,
-    refusal: &mut [u8],
+    count: &mut [usize],
     out: &mut [u8],
-) -> usize
+) -> u8
     ensures { λ r.
         let end = fitted (length (now (out .entry))) (messageRule channel (messageOf kind first second bend)) in
-        ⌜ (r ≡ sentHeard (told end) .count)
-        × (now (refusal .exit) ≡ set (now (refusal .entry)) 0 (sentHeard (told end) .kind))
+        ⌜ (r ≡ sentHeard (told end) .kind)
+        × (now (count .exit) ≡ unlessRefused r (λ l. set l 0 (sentHeard (told end) .count)) (now (count .entry)))
         × (now (out .exit) ≡ left end (now (out .entry))) ⌝ }
 {
     let sent = message_of(kind, first, second, bend).to_raw_message(channel, out);
-    let heard = sent_heard(sent);
-    put_byte(refusal, 0, heard.kind);
-    heard.count
+    tell_sent(sent, count)
 }
 
-// Writes the tuning of a channel by a detuning, a fine tuning or a bend, to the buffer's start. Writes the refusal, 0 where there is none. Answers
-// how many bytes it wrote.
+// Writes the tuning of a channel by a detuning, a fine tuning or a bend, to the buffer's start, and how many bytes that is. Returns the refusal, 0 where
+// there is none.
 #[no_mangle]
 pub extern "C" fn tune_channel_tuning(
     bends: bool,
     channel: u8,
     detuning: f64,
-    refusal: &mut [u8],
+    count: &mut [usize],
     out: &mut [u8],
-) -> usize
+) -> u8
     ensures { λ r.
         let end = fitted (length (now (out .entry))) (channelTuningRule (kindOf bends) channel detuning) in
-        ⌜ (r ≡ sentHeard (told end) .count)
-        × (now (refusal .exit) ≡ set (now (refusal .entry)) 0 (sentHeard (told end) .kind))
+        ⌜ (r ≡ sentHeard (told end) .kind)
+        × (now (count .exit) ≡ unlessRefused r (λ l. set l 0 (sentHeard (told end) .count)) (now (count .entry)))
         × (now (out .exit) ≡ left end (now (out .entry))) ⌝ }
 {
     let sent = channel_tuning(bends, channel, detuning, out);
+    tell_sent(sent, count)
+}
+
+// The answer to what was sent: how many bytes, unless it was refused.
+fn tell_sent(sent: Sent, count: &mut [usize]) -> u8
+    ensures { λ r.
+        let heard = sentHeard (sentAnswer sent) in
+        ⌜ (r ≡ heard .kind) × (now (count .exit) ≡ unlessRefused r (λ l. set l 0 (heard .count)) (now (count .entry))) ⌝ }
+{
     let heard = sent_heard(sent);
-    put_byte(refusal, 0, heard.kind);
-    heard.count
+    if is_result(heard.kind) {
+        put_count(count, 0, heard.count);
+    }
+    heard.kind
 }
 
 fn channel_tuning(bends: bool, channel: u8, detuning: f64, out: &mut [u8]) -> Sent

@@ -1,29 +1,31 @@
 // Plans of whole lists.
 
 ghost use mathlib.Core.Path.{_≡_};
-ghost use lib.ListN.{length, set};
-ghost use Rattle.models.specs.ChannelList.{channelsAnswer};
+ghost use mathlib.Core.Bool.{true};
+ghost use lib.Dec.{eqb};
+ghost use lib.ListN.{length};
 ghost use Rattle.models.specs.PlanLists.{noteLists, pitchLists};
 ghost use Rattle.models.specs.AotModel.{openRule, setTuning, setTuningOfPitches, Smallest, modelOf, planAnswer, accessAnswer, nextAnswer};
 ghost use Rattle.exports.specs.Lent.{filled};
-ghost use Rattle.exports.specs.Plans.{groupOf, kindOf, countOf, seatOf, seatAt, entryOf, entryFrom};
+ghost use Rattle.exports.specs.Returned.{listRefusal, unlessRefused};
+ghost use Rattle.exports.specs.Plans.{groupOf, kindOf, countOf, seatOf, seatAt, Told, entryOf, entryFrom};
 use crate::lent::byte_at;
 use crate::lent::number_at;
 use crate::lent::put_byte;
+use crate::lent::put_fine;
 use crate::lent::put_float;
 use crate::lent::put_number;
+use crate::returned::DONE;
+use crate::returned::UNTUNED;
+use crate::returned::is_result;
+use crate::returned::list_refusal;
 use models::aot::AotTuningModel;
 use models::aot::GroupBy;
 use models::aot::NextAnswer;
 use models::aot::PlanAnswer;
-use models::channels::ChannelsAnswer;
 use models::keys::AccessKeyResult;
 
-// The kinds of answer; 1 to 13 are refusals.
-const TUNED: u8 = 0;
-
-const UNTUNED: u8 = 20;
-
+// The kind of an entry, and of none.
 const FOUND: u8 = 0;
 
 const NOTHING: u8 = 20;
@@ -42,8 +44,9 @@ struct Entry {
     detuning: f64,
 }
 
-// Opens a model on a channel list, for 0 notes, 1 letters or 2 whole channels, and plans keys with their notes and detunings. Writes the kind of the
-// answer, and the channel and the note of each key that is asked for. Answers the count.
+// Opens a model on a channel list, for 0 notes, 1 letters or 2 whole channels, and plans keys with their notes and detunings. Writes the count of
+// channels, and the channel and the note of each key that is asked for. Returns 0 for tuned, 20 for untuned, or the refusal: the channel list's, then
+// the plan's.
 #[no_mangle]
 pub extern "C" fn tune_plan(
     channels: &[u8],
@@ -52,18 +55,15 @@ pub extern "C" fn tune_plan(
     notes: &[i32],
     detunings: &[f64],
     asked: &[u8],
-    kind: &mut [u8],
+    count: &mut [u16],
     seat_channels: &mut [u8],
     seat_notes: &mut [i32],
-) -> u16
+) -> u8
     ensures { λ r.
         let opened = openRule (now (channels .entry)) (groupOf «group_by») in
         let plan = setTuning (opened .0) (now (keys .entry)) (now (notes .entry)) (now (detunings .entry)) in
-        let n = length (now (asked .entry)) in
-        ⌜ (r ≡ countOf (plan .1))
-        × (now (kind .exit) ≡ set (now (kind .entry)) 0 (kindOf (opened .1) (plan .1)))
-        × (now («seat_channels» .exit) ≡ filled (λ i. seatAt (plan .0) (now (asked .entry)) i .channel) n (now («seat_channels» .entry)))
-        × (now («seat_notes» .exit) ≡ filled (λ i. seatAt (plan .0) (now (asked .entry)) i .note) n (now («seat_notes» .entry))) ⌝ }
+        ⌜ Told (listRefusal (opened .1) true) plan (now (asked .entry)) r
+        (now (count .entry)) (now (count .exit)) (now («seat_channels» .entry)) (now («seat_channels» .exit)) (now («seat_notes» .entry)) (now («seat_notes» .exit)) ⌝ }
     ensures { λ r.
         let fresh = openRule (now (channels .entry)) (groupOf «group_by») .0 in
         ⌜ Smallest fresh (noteLists (now (keys .entry)) (now (notes .entry)) (now (detunings .entry)))
@@ -72,12 +72,19 @@ pub extern "C" fn tune_plan(
     let opened = AotTuningModel::open(channels, group_of(group_by));
     let listed = opened.answer;
     let model = opened.model;
+    let refusal = list_refusal(listed, true);
     let planned = model.set_tuning(keys, notes, detunings);
     let answer = planned.answer;
     let next = planned.model;
-    put_byte(kind, 0, kind_of(listed, answer));
-    look_up(next, asked, seat_channels, seat_notes);
-    count_of(answer)
+    tell_seats(
+        refusal,
+        answer,
+        next,
+        asked,
+        count,
+        seat_channels,
+        seat_notes,
+    )
 }
 
 // The same of keys with their pitches.
@@ -88,18 +95,15 @@ pub extern "C" fn tune_plan_of_pitches(
     keys: &[u8],
     pitches: &[f64],
     asked: &[u8],
-    kind: &mut [u8],
+    count: &mut [u16],
     seat_channels: &mut [u8],
     seat_notes: &mut [i32],
-) -> u16
+) -> u8
     ensures { λ r.
         let opened = openRule (now (channels .entry)) (groupOf «group_by») in
         let plan = setTuningOfPitches (opened .0) (now (keys .entry)) (now (pitches .entry)) in
-        let n = length (now (asked .entry)) in
-        ⌜ (r ≡ countOf (plan .1))
-        × (now (kind .exit) ≡ set (now (kind .entry)) 0 (kindOf (opened .1) (plan .1)))
-        × (now («seat_channels» .exit) ≡ filled (λ i. seatAt (plan .0) (now (asked .entry)) i .channel) n (now («seat_channels» .entry)))
-        × (now («seat_notes» .exit) ≡ filled (λ i. seatAt (plan .0) (now (asked .entry)) i .note) n (now («seat_notes» .entry))) ⌝ }
+        ⌜ Told (listRefusal (opened .1) true) plan (now (asked .entry)) r
+        (now (count .entry)) (now (count .exit)) (now («seat_channels» .entry)) (now («seat_channels» .exit)) (now («seat_notes» .entry)) (now («seat_notes» .exit)) ⌝ }
     ensures { λ r.
         let fresh = openRule (now (channels .entry)) (groupOf «group_by») .0 in
         ⌜ Smallest fresh (pitchLists (now (keys .entry)) (now (pitches .entry))) (setTuningOfPitches fresh (now (keys .entry)) (now (pitches .entry))) ⌝ }
@@ -107,16 +111,23 @@ pub extern "C" fn tune_plan_of_pitches(
     let opened = AotTuningModel::open(channels, group_of(group_by));
     let listed = opened.answer;
     let model = opened.model;
+    let refusal = list_refusal(listed, true);
     let planned = model.set_tuning_of_pitches(keys, pitches);
     let answer = planned.answer;
     let next = planned.model;
-    put_byte(kind, 0, kind_of(listed, answer));
-    look_up(next, asked, seat_channels, seat_notes);
-    count_of(answer)
+    tell_seats(
+        refusal,
+        answer,
+        next,
+        asked,
+        count,
+        seat_channels,
+        seat_notes,
+    )
 }
 
 // Plans keys with their notes and detunings as `tune_plan` does. Writes, for each channel that is asked for and a group beside it, the channel's first
-// entry from that group on.
+// entry from that group on. Returns as `tune_plan` does, with 12 for channels and groups of unequal length behind the channel list's refusal.
 #[no_mangle]
 pub extern "C" fn tune_entries(
     channels: &[u8],
@@ -129,31 +140,61 @@ pub extern "C" fn tune_entries(
     entry_kinds: &mut [u8],
     entry_groups: &mut [i32],
     entry_detunings: &mut [f64],
-)
+) -> u8
     ensures { λ r.
-        let plan = setTuning (openRule (now (channels .entry)) (groupOf «group_by») .0) (now (keys .entry)) (now (notes .entry)) (now (detunings .entry)) in
+        let opened = openRule (now (channels .entry)) (groupOf «group_by») in
+        let plan = setTuning (opened .0) (now (keys .entry)) (now (notes .entry)) (now (detunings .entry)) in
         let entry = entryFrom (plan .0) (now («asked_channels» .entry)) (now («asked_groups» .entry)) in
         let n = length (now («asked_channels» .entry)) in
-        ⌜ (now («entry_kinds» .exit) ≡ filled (λ i. entry i .kind) n (now («entry_kinds» .entry)))
-        × (now («entry_groups» .exit) ≡ filled (λ i. entry i .group) n (now («entry_groups» .entry)))
-        × (now («entry_detunings» .exit) ≡ filled (λ i. entry i .detuning) n (now («entry_detunings» .entry))) ⌝ }
+        ⌜ (r ≡ kindOf (listRefusal (opened .1) (eqb (length (now («asked_groups» .entry))) n)) (plan .1))
+        × (now («entry_kinds» .exit) ≡ unlessRefused r (filled (λ i. entry i .kind) n) (now («entry_kinds» .entry)))
+        × (now («entry_groups» .exit) ≡ unlessRefused r (filled (λ i. entry i .group) n) (now («entry_groups» .entry)))
+        × (now («entry_detunings» .exit) ≡ unlessRefused r (filled (λ i. entry i .detuning) n) (now («entry_detunings» .entry))) ⌝ }
     ensures { λ r.
         let fresh = openRule (now (channels .entry)) (groupOf «group_by») .0 in
         ⌜ Smallest fresh (noteLists (now (keys .entry)) (now (notes .entry)) (now (detunings .entry)))
         (setTuning fresh (now (keys .entry)) (now (notes .entry)) (now (detunings .entry))) ⌝ }
 {
     let opened = AotTuningModel::open(channels, group_of(group_by));
+    let listed = opened.answer;
     let model = opened.model;
+    let refusal = list_refusal(listed, asked_groups.len() == asked_channels.len());
     let planned = model.set_tuning(keys, notes, detunings);
+    let answer = planned.answer;
     let next = planned.model;
-    list_entries(
-        next,
-        asked_channels,
-        asked_groups,
-        entry_kinds,
-        entry_groups,
-        entry_detunings,
-    );
+    let kind = kind_of(refusal, answer);
+    if is_result(kind) {
+        list_entries(
+            next,
+            asked_channels,
+            asked_groups,
+            entry_kinds,
+            entry_groups,
+            entry_detunings,
+        );
+    }
+    kind
+}
+
+// The answer to a plan, unless lists before it were refused: the count, and the seats of the keys that are asked for.
+fn tell_seats(
+    refusal: u8,
+    answer: PlanAnswer,
+    model: AotTuningModel,
+    asked: &[u8],
+    count: &mut [u16],
+    seat_channels: &mut [u8],
+    seat_notes: &mut [i32],
+) -> u8
+    ensures { λ r. ⌜ Told refusal (modelOf model, planAnswer answer) (now (asked .entry)) r
+        (now (count .entry)) (now (count .exit)) (now («seat_channels» .entry)) (now («seat_channels» .exit)) (now («seat_notes» .entry)) (now («seat_notes» .exit)) ⌝ }
+{
+    let kind = kind_of(refusal, answer);
+    if is_result(kind) {
+        put_fine(count, 0, count_of(answer));
+        look_up(model, asked, seat_channels, seat_notes);
+    }
+    kind
 }
 
 fn look_up(model: AotTuningModel, asked: &[u8], seat_channels: &mut [u8], seat_notes: &mut [i32])
@@ -213,16 +254,16 @@ fn group_of(number: u8) -> GroupBy
     GroupBy::Channel
 }
 
-fn kind_of(listed: ChannelsAnswer, answer: PlanAnswer) -> u8
-    ensures { λ r. ⌜ r ≡ kindOf (channelsAnswer listed) (planAnswer answer) ⌝ }
+fn kind_of(refusal: u8, answer: PlanAnswer) -> u8
+    ensures { λ r. ⌜ r ≡ kindOf refusal (planAnswer answer) ⌝ }
 {
-    match listed {
-        ChannelsAnswer::Listed(_) => match answer {
-            PlanAnswer::Tuned(_) => TUNED,
-            PlanAnswer::Untuned(_) => UNTUNED,
-            PlanAnswer::Refused(number) => number,
-        },
-        ChannelsAnswer::Refused(number) => number,
+    if refusal != DONE {
+        return refusal;
+    }
+    match answer {
+        PlanAnswer::Tuned(_) => DONE,
+        PlanAnswer::Untuned(_) => UNTUNED,
+        PlanAnswer::Refused(number) => number,
     }
 }
 

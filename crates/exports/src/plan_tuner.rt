@@ -6,10 +6,10 @@ ghost use Rattle.senders.specs.Lent.{Answers, written};
 ghost use Rattle.senders.specs.Aot.{tuner, startRule};
 ghost use Rattle.senders.specs.Answers.{sentAnswer, planSent};
 ghost use Rattle.exports.specs.Lent.{filled};
-ghost use Rattle.exports.specs.Events.{listRefusal};
+ghost use Rattle.exports.specs.Returned.{listRefusal, unlessRefused};
 ghost use Rattle.exports.specs.Messages.{kindOf};
 ghost use Rattle.exports.specs.Calls.{Called, begun, wentBefore, heardAt};
-ghost use Rattle.exports.specs.PlanTuner.{planHeard, sendRule, happens, eventIn, AllSmallest};
+ghost use Rattle.exports.specs.PlanTuner.{planHeard, sendRule, happens, equalLists, eventIn, AllSmallest};
 use crate::lent::bend_at;
 use crate::lent::byte_at;
 use crate::lent::put_byte;
@@ -20,15 +20,15 @@ use crate::message::SENT;
 use crate::message::kind_of;
 use crate::message::message_of;
 use crate::message::sent_heard;
-use crate::pool::list_refusal;
+use crate::returned::UNTUNED;
+use crate::returned::is_result;
+use crate::returned::list_refusal;
 use senders::aot::AotTuner;
 use senders::aot::PlanSent;
 use senders::midi::Sent;
 
-// The kind of the answer to a tuning for which there are too few channels.
-const UNTUNED: u8 = 20;
-
-// The kinds of event; any other is a message of that kind to all channels.
+// The kinds of event. Any other is a message to all channels: 8 to 13 by their status (the high four bits), the rest a bend; the key is its first data byte,
+// the value its second.
 const PRESS: u8 = 0;
 
 const RELEASE: u8 = 1;
@@ -48,7 +48,7 @@ struct Played {
 
 // Starts a tuner on a channel list, which tunes by bends or by fine tuning; plays the events in order, and writes the kind of each answer, how many
 // bytes each sent and how many channels each tuning needs, and all bytes one behind the other. A tuning is of the keys with pitches, or of the keys
-// with notes and detunings. Answers the refusal of the channel list, 0 where there is none.
+// with notes and detunings. Returns the refusal of the channel list, then 12 for lists of events of unequal length, and 0 where there is none.
 #[no_mangle]
 pub extern "C" fn tune_plan_tuner(
     channels: &[u8],
@@ -67,9 +67,72 @@ pub extern "C" fn tune_plan_tuner(
     answer_channels: &mut [u16],
     out: &mut [u8],
 ) -> u8
-    ensures { λ r. ⌜ r ≡ listRefusal (startRule (now (channels .entry)) (kindOf bends) .0) ⌝ }
+    ensures { λ r. ⌜ r ≡ listRefusal (startRule (now (channels .entry)) (kindOf bends) .0)
+        (equalLists (record { kinds = now (kinds .entry); keys = now (keys .entry); values = now (values .entry); bends = now («bend_values» .entry) })) ⌝ }
     ensures { λ r.
         let start = begun (startRule (now (channels .entry)) (kindOf bends) .1) in
+        let rules = eventIn
+        (record { pitchKeys = now («pitch_keys» .entry); pitches = now (pitches .entry); noteKeys = now («note_keys» .entry); notes = now (notes .entry); detunings = now (detunings .entry) })
+        (record { kinds = now (kinds .entry); keys = now (keys .entry); values = now (values .entry); bends = now («bend_values» .entry) }) in
+        let room = length (now (out .entry)) in
+        let n = length (now (kinds .entry)) in
+        ⌜ (now («answer_kinds» .exit) ≡ unlessRefused r (filled (λ i. heardAt room rules start i .kind) n) (now («answer_kinds» .entry)))
+        × (now («answer_counts» .exit) ≡ unlessRefused r (filled (λ i. heardAt room rules start i .count) n) (now («answer_counts» .entry)))
+        × (now («answer_channels» .exit) ≡ unlessRefused r (filled (λ i. heardAt room rules start i .channels) n) (now («answer_channels» .entry)))
+        × (now (out .exit) ≡ unlessRefused r (written (wentBefore room rules start n .bytes)) (now (out .entry))) ⌝ }
+    ensures { λ r. ⌜ AllSmallest (length (now (out .entry)))
+        (record { pitchKeys = now («pitch_keys» .entry); pitches = now (pitches .entry); noteKeys = now («note_keys» .entry); notes = now (notes .entry); detunings = now (detunings .entry) })
+        (record { kinds = now (kinds .entry); keys = now (keys .entry); values = now (values .entry); bends = now («bend_values» .entry) })
+        (begun (startRule (now (channels .entry)) (kindOf bends) .1)) ⌝ }
+{
+    let opened = AotTuner::start(channels, kind_of(bends));
+    let listed = opened.answer;
+    let tuner = opened.tuner;
+    let n = kinds.len();
+    let refusal = list_refusal(
+        listed,
+        (keys.len() == n) & (values.len() == n) & (bend_values.len() == n),
+    );
+    if is_result(refusal) {
+        play_all(
+            tuner,
+            pitch_keys,
+            pitches,
+            note_keys,
+            notes,
+            detunings,
+            kinds,
+            keys,
+            values,
+            bend_values,
+            answer_kinds,
+            answer_counts,
+            answer_channels,
+            out,
+        );
+    }
+    refusal
+}
+
+// All events in order, from a tuner on.
+fn play_all(
+    first: AotTuner,
+    pitch_keys: &[u8],
+    pitches: &[f64],
+    note_keys: &[u8],
+    notes: &[i32],
+    detunings: &[f64],
+    kinds: &[u8],
+    keys: &[u8],
+    values: &[u8],
+    bend_values: &[i16],
+    answer_kinds: &mut [u8],
+    answer_counts: &mut [usize],
+    answer_channels: &mut [u16],
+    out: &mut [u8],
+)
+    ensures { λ r.
+        let start = begun (tuner first) in
         let rules = eventIn
         (record { pitchKeys = now («pitch_keys» .entry); pitches = now (pitches .entry); noteKeys = now («note_keys» .entry); notes = now (notes .entry); detunings = now (detunings .entry) })
         (record { kinds = now (kinds .entry); keys = now (keys .entry); values = now (values .entry); bends = now («bend_values» .entry) }) in
@@ -79,14 +142,8 @@ pub extern "C" fn tune_plan_tuner(
         × (now («answer_counts» .exit) ≡ filled (λ i. heardAt room rules start i .count) n (now («answer_counts» .entry)))
         × (now («answer_channels» .exit) ≡ filled (λ i. heardAt room rules start i .channels) n (now («answer_channels» .entry)))
         × (now (out .exit) ≡ written (wentBefore room rules start n .bytes) (now (out .entry))) ⌝ }
-    ensures { λ r. ⌜ AllSmallest (length (now (out .entry)))
-        (record { pitchKeys = now («pitch_keys» .entry); pitches = now (pitches .entry); noteKeys = now («note_keys» .entry); notes = now (notes .entry); detunings = now (detunings .entry) })
-        (record { kinds = now (kinds .entry); keys = now (keys .entry); values = now (values .entry); bends = now («bend_values» .entry) })
-        (begun (startRule (now (channels .entry)) (kindOf bends) .1)) ⌝ }
 {
-    let opened = AotTuner::start(channels, kind_of(bends));
-    let listed = opened.answer;
-    let mut tuner = opened.tuner;
+    let mut tuner = first;
     let n = kinds.len();
     let mut at: usize = 0;
     let mut i: usize = 0;
@@ -114,7 +171,6 @@ pub extern "C" fn tune_plan_tuner(
         at += answer.count;
         i += 1;
     }
-    list_refusal(listed)
 }
 
 // Event i.

@@ -4,16 +4,17 @@ ghost use mathlib.Core.Path.{_≡_};
 ghost use lib.ListN.{length};
 ghost use Rattle.models.specs.Pool.{openRule};
 ghost use Rattle.models.specs.JitModel.{view, place, press, repitched, stoppedNote};
-ghost use Rattle.models.specs.ChannelList.{channelsAnswer};
 ghost use Rattle.exports.specs.Lent.{filled};
-ghost use Rattle.exports.specs.Events.{groupOf, modeOf, noPlace, noteOr, pressAnswer, placeAnswer, repitchAnswer, listRefusal, happens, answerTo, playedOf};
+ghost use Rattle.exports.specs.Returned.{listRefusal, unlessRefused};
+ghost use Rattle.exports.specs.Events.{groupOf, modeOf, noPlace, noteOr, pressAnswer, placeAnswer, repitchAnswer, happens, equalLists, answerTo, playedOf};
 use crate::lent::byte_at;
 use crate::lent::float_at;
 use crate::lent::put_byte;
 use crate::lent::put_float;
 use crate::lent::put_number;
+use crate::returned::is_result;
+use crate::returned::list_refusal;
 use arithmetic::pitch::Pitch;
-use models::channels::ChannelsAnswer;
 use models::jit::JitTuningModel;
 use models::jit::PoolGroupBy;
 use models::jit::PoolingMode;
@@ -52,7 +53,7 @@ struct Played {
 }
 
 // Opens a pool on a channel list, for letters or for whole channels, in mode 0 Block, 1 Stop or 2 Ignore; plays the events in order, and writes the
-// answer of each. Answers the refusal of the channel list, 0 where there is none.
+// answer of each. Returns the refusal of the channel list, then 12 for lists of events of unequal length, and 0 where there is none.
 #[no_mangle]
 pub extern "C" fn tune_pool(
     channels: &[u8],
@@ -67,10 +68,53 @@ pub extern "C" fn tune_pool(
     answer_stopped: &mut [i32],
     answer_detunings: &mut [f64],
 ) -> u8
-    ensures { λ r. ⌜ r ≡ listRefusal (openRule (now (channels .entry)) (groupOf letters) (modeOf mode) .0) ⌝ }
+    ensures { λ r. ⌜ r ≡ listRefusal (openRule (now (channels .entry)) (groupOf letters) (modeOf mode) .0)
+        (equalLists (record { kinds = now (kinds .entry); keys = now (keys .entry); pitches = now (pitches .entry) })) ⌝ }
     ensures { λ r.
         let heard = answerTo (openRule (now (channels .entry)) (groupOf letters) (modeOf mode) .1)
         (record { kinds = now (kinds .entry); keys = now (keys .entry); pitches = now (pitches .entry) }) in
+        let n = length (now (kinds .entry)) in
+        ⌜ (now («answer_kinds» .exit) ≡ unlessRefused r (filled (λ i. heard i .kind) n) (now («answer_kinds» .entry)))
+        × (now («answer_channels» .exit) ≡ unlessRefused r (filled (λ i. heard i .channel) n) (now («answer_channels» .entry)))
+        × (now («answer_notes» .exit) ≡ unlessRefused r (filled (λ i. heard i .note) n) (now («answer_notes» .entry)))
+        × (now («answer_stopped» .exit) ≡ unlessRefused r (filled (λ i. heard i .stopped) n) (now («answer_stopped» .entry)))
+        × (now («answer_detunings» .exit) ≡ unlessRefused r (filled (λ i. heard i .detuning) n) (now («answer_detunings» .entry))) ⌝ }
+{
+    let opened = JitTuningModel::open(channels, group_of(letters), mode_of(mode));
+    let listed = opened.answer;
+    let model = opened.model;
+    let n = kinds.len();
+    let refusal = list_refusal(listed, (keys.len() == n) & (pitches.len() == n));
+    if is_result(refusal) {
+        play_all(
+            model,
+            kinds,
+            keys,
+            pitches,
+            answer_kinds,
+            answer_channels,
+            answer_notes,
+            answer_stopped,
+            answer_detunings,
+        );
+    }
+    refusal
+}
+
+// All events in order, from a model on.
+fn play_all(
+    first: JitTuningModel,
+    kinds: &[u8],
+    keys: &[u8],
+    pitches: &[f64],
+    answer_kinds: &mut [u8],
+    answer_channels: &mut [u8],
+    answer_notes: &mut [i32],
+    answer_stopped: &mut [i32],
+    answer_detunings: &mut [f64],
+)
+    ensures { λ r.
+        let heard = answerTo (view first) (record { kinds = now (kinds .entry); keys = now (keys .entry); pitches = now (pitches .entry) }) in
         let n = length (now (kinds .entry)) in
         ⌜ (now («answer_kinds» .exit) ≡ filled (λ i. heard i .kind) n (now («answer_kinds» .entry)))
         × (now («answer_channels» .exit) ≡ filled (λ i. heard i .channel) n (now («answer_channels» .entry)))
@@ -78,9 +122,7 @@ pub extern "C" fn tune_pool(
         × (now («answer_stopped» .exit) ≡ filled (λ i. heard i .stopped) n (now («answer_stopped» .entry)))
         × (now («answer_detunings» .exit) ≡ filled (λ i. heard i .detuning) n (now («answer_detunings» .entry))) ⌝ }
 {
-    let opened = JitTuningModel::open(channels, group_of(letters), mode_of(mode));
-    let listed = opened.answer;
-    let mut model = opened.model;
+    let mut model = first;
     let n = kinds.len();
     let mut i: usize = 0;
     while i < n {
@@ -99,16 +141,6 @@ pub extern "C" fn tune_pool(
         let next = played.model;
         model = next;
         i += 1;
-    }
-    list_refusal(listed)
-}
-
-pub(crate) fn list_refusal(answer: ChannelsAnswer) -> u8
-    ensures { λ r. ⌜ r ≡ listRefusal (channelsAnswer answer) ⌝ }
-{
-    match answer {
-        ChannelsAnswer::Listed(_) => 0,
-        ChannelsAnswer::Refused(number) => number,
     }
 }
 

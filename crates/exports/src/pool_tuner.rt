@@ -6,10 +6,11 @@ ghost use Rattle.senders.specs.Lent.{written};
 ghost use Rattle.senders.specs.Jit.{tuner, startRule};
 ghost use Rattle.senders.specs.Answers.{pressAnswer};
 ghost use Rattle.exports.specs.Lent.{filled};
-ghost use Rattle.exports.specs.Events.{modeOf, listRefusal};
+ghost use Rattle.exports.specs.Returned.{listRefusal, unlessRefused};
+ghost use Rattle.exports.specs.Events.{modeOf};
 ghost use Rattle.exports.specs.Messages.{kindOf};
 ghost use Rattle.exports.specs.Calls.{Called, begun, wentBefore, heardAt};
-ghost use Rattle.exports.specs.PoolTuner.{pressHeard, happens, eventIn};
+ghost use Rattle.exports.specs.PoolTuner.{pressHeard, happens, equalLists, eventIn};
 use crate::lent::bend_at;
 use crate::lent::byte_at;
 use crate::lent::float_at;
@@ -20,8 +21,9 @@ use crate::message::SENT;
 use crate::message::kind_of;
 use crate::message::message_of;
 use crate::message::sent_heard;
-use crate::pool::list_refusal;
 use crate::pool::mode_of;
+use crate::returned::is_result;
+use crate::returned::list_refusal;
 use models::Pitch;
 use senders::jit::JitTuner;
 use senders::jit::PressAnswer;
@@ -29,7 +31,8 @@ use senders::jit::PressAnswer;
 // The kind of the answer to a press that is rejected.
 const REJECTED: u8 = 20;
 
-// The kinds of event; any other is a message of that kind to all channels.
+// The kinds of event. Any other is a message to all channels: 8 to 13 by their status (the high four bits), the rest a bend; the key is its first data byte,
+// the value its second.
 const PRESS: u8 = 0;
 
 const RELEASE: u8 = 1;
@@ -46,8 +49,8 @@ struct Played {
 }
 
 // Starts a tuner on a channel list, which tunes by bends or by fine tuning, in mode 0 Block, 1 Stop or 2 Ignore; plays the events in order, and
-// writes the kind of each answer, how many bytes each sent, and all bytes one behind the other. Answers the refusal of the channel list, 0 where
-// there is none.
+// writes the kind of each answer, how many bytes each sent, and all bytes one behind the other. Returns the refusal of the channel list, then 12 for
+// lists of events of unequal length, and 0 where there is none.
 #[no_mangle]
 pub extern "C" fn tune_pool_tuner(
     channels: &[u8],
@@ -62,9 +65,55 @@ pub extern "C" fn tune_pool_tuner(
     answer_counts: &mut [usize],
     out: &mut [u8],
 ) -> u8
-    ensures { λ r. ⌜ r ≡ listRefusal (startRule (now (channels .entry)) (kindOf bends) (modeOf mode) .0) ⌝ }
+    ensures { λ r. ⌜ r ≡ listRefusal (startRule (now (channels .entry)) (kindOf bends) (modeOf mode) .0)
+        (equalLists (record { kinds = now (kinds .entry); keys = now (keys .entry); values = now (values .entry); pitches = now (pitches .entry); bends = now («bend_values» .entry) })) ⌝ }
     ensures { λ r.
         let start = begun (startRule (now (channels .entry)) (kindOf bends) (modeOf mode) .1) in
+        let rules = eventIn (record { kinds = now (kinds .entry); keys = now (keys .entry); values = now (values .entry); pitches = now (pitches .entry); bends = now («bend_values» .entry) }) in
+        let room = length (now (out .entry)) in
+        let n = length (now (kinds .entry)) in
+        ⌜ (now («answer_kinds» .exit) ≡ unlessRefused r (filled (λ i. heardAt room rules start i .kind) n) (now («answer_kinds» .entry)))
+        × (now («answer_counts» .exit) ≡ unlessRefused r (filled (λ i. heardAt room rules start i .count) n) (now («answer_counts» .entry)))
+        × (now (out .exit) ≡ unlessRefused r (written (wentBefore room rules start n .bytes)) (now (out .entry))) ⌝ }
+{
+    let opened = JitTuner::start(channels, kind_of(bends), mode_of(mode));
+    let listed = opened.answer;
+    let tuner = opened.tuner;
+    let n = kinds.len();
+    let refusal = list_refusal(
+        listed,
+        (keys.len() == n) & (values.len() == n) & (pitches.len() == n) & (bend_values.len() == n),
+    );
+    if is_result(refusal) {
+        play_all(
+            tuner,
+            kinds,
+            keys,
+            values,
+            pitches,
+            bend_values,
+            answer_kinds,
+            answer_counts,
+            out,
+        );
+    }
+    refusal
+}
+
+// All events in order, from a tuner on.
+fn play_all(
+    first: JitTuner,
+    kinds: &[u8],
+    keys: &[u8],
+    values: &[u8],
+    pitches: &[f64],
+    bend_values: &[i16],
+    answer_kinds: &mut [u8],
+    answer_counts: &mut [usize],
+    out: &mut [u8],
+)
+    ensures { λ r.
+        let start = begun (tuner first) in
         let rules = eventIn (record { kinds = now (kinds .entry); keys = now (keys .entry); values = now (values .entry); pitches = now (pitches .entry); bends = now («bend_values» .entry) }) in
         let room = length (now (out .entry)) in
         let n = length (now (kinds .entry)) in
@@ -72,9 +121,7 @@ pub extern "C" fn tune_pool_tuner(
         × (now («answer_counts» .exit) ≡ filled (λ i. heardAt room rules start i .count) n (now («answer_counts» .entry)))
         × (now (out .exit) ≡ written (wentBefore room rules start n .bytes) (now (out .entry))) ⌝ }
 {
-    let opened = JitTuner::start(channels, kind_of(bends), mode_of(mode));
-    let listed = opened.answer;
-    let mut tuner = opened.tuner;
+    let mut tuner = first;
     let n = kinds.len();
     let mut at: usize = 0;
     let mut i: usize = 0;
@@ -97,7 +144,6 @@ pub extern "C" fn tune_pool_tuner(
         at += answer.count;
         i += 1;
     }
-    list_refusal(listed)
 }
 
 // Event i.

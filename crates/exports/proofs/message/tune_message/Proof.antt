@@ -1,8 +1,7 @@
--- `message::tune_message` meets its contract. Assumes nothing.
+-- `message::tune_message` meets its contract: from those of the sender and of what is told. Assumes nothing.
 use mir.Facts.{toZ-ofZ}
 use mathlib.Core.Path.{_∙_, ap}
-use Rattle.exports.specs.Messages.{messageOf, sentHeard}
-use Rattle.exports.specs.declared.message.Heard.{Heard}
+use Rattle.exports.specs.Messages.{messageOf}
 use borrow.Author.Needs.{needs}
 use Rattle.exports.proofs.message.tune_message.Statement.{statement}
 use Rattle.exports.proofs.message.tune_message.Tie as tie
@@ -13,11 +12,8 @@ message-of-requires c κs = search needs
 to-raw-message-requires : tie.Need-to-raw-message-requires
 to-raw-message-requires c κs = search needs
 
-sent-heard-requires : tie.Need-sent-heard-requires
-sent-heard-requires c κs = search needs
-
-put-byte-requires : tie.Need-put-byte-requires
-put-byte-requires c κs = search needs
+tell-sent-requires : tie.Need-tell-sent-requires
+tell-sent-requires c κs = search needs
 
 same-length : tie.Need-same-length
 same-length c = search needs
@@ -27,10 +23,10 @@ same-length-2 c = search needs
 
 returns : tie.Need-returns
 returns c =
-    let a = c .before .before .before .before .before .before .before .before .before .before .before .before .args in
-    let sent = rw (c .before .before .before .before .before .before .before .before .before .message-of .ensures ∙ ap (messageOf (a .kind) (a .first) (a .second)) (toZ-ofZ (c .before .before .before .before .before .before .before .before .before .before .before .before .fits .bend))) at (c .before .before .before .before .before .before .before .to-raw-message .ensures) in
-    let heard = c .before .before .before .before .sent-heard .ensures ∙ ap sentHeard (sent .told-is) in
-    (ap (λ (h : Heard). h .count) heard, rw (ap (λ (h : Heard). h .kind) heard) at (c .before .before .put-byte .ensures), sent .left-is)
+    let a = c .before .before .before .before .before .before .before .before .before .before .before .args in
+    let sent = rw (c .before .before .before .before .before .before .before .before .message-of .ensures ∙ ap (messageOf (a .kind) (a .first) (a .second)) (toZ-ofZ (c .before .before .before .before .before .before .before .before .before .before .before .fits .bend))) at (c .before .before .before .before .before .before .to-raw-message .ensures) in
+    let told = rw (sent .told-is) at (c .before .before .tell-sent .ensures) in
+    (told .0, told .1, sent .left-is)
 
 pub tune-message-spec : {M : Type 1} → statement M
 tune-message-spec =
@@ -38,8 +34,7 @@ tune-message-spec =
     (tie.spec
     message-of-requires
     to-raw-message-requires
-    sent-heard-requires
-    put-byte-requires
+    tell-sent-requires
     same-length
     same-length-2
     returns)

@@ -1,10 +1,13 @@
 -- `plan::tune_entries` meets its contract: from those of the opening, the plan and the list of entries. Assumes nothing.
-use mathlib.Core.Path.{ap, subst, _∙_}
+use mathlib.Core.Path.{_∙_, ap, sym}
+use lib.Dec.{eqb}
 use lib.ListN.{length}
-use Rattle.exports.specs.Lent.{filled}
 use Rattle.models.specs.PlanLists.{noteLists}
-use Rattle.models.specs.AotModel.{openRule, setTuning, Smallest}
+use Rattle.models.specs.AotModel.{Model, Answer, openRule}
+use Rattle.exports.specs.Lent.{filled}
 use Rattle.exports.specs.Plans.{entryFrom}
+use Rattle.exports.proofs.Results.{refused-leaves, writes-from}
+use Rattle.exports.proofs.PlanAnswers.{plan-is, smallest, kind-is}
 use borrow.Author.Needs.{needs}
 use Rattle.exports.proofs.plan.tune_entries.Statement.{statement}
 use Rattle.exports.proofs.plan.tune_entries.Tie as tie
@@ -15,8 +18,17 @@ group-of-requires c κs = search needs
 open-requires : tie.Need-open-requires
 open-requires c κs = search needs
 
+list-refusal-requires : tie.Need-list-refusal-requires
+list-refusal-requires c κs = search needs
+
 set-tuning-requires : tie.Need-set-tuning-requires
 set-tuning-requires c κs = search needs
+
+kind-of-requires : tie.Need-kind-of-requires
+kind-of-requires c κs = search needs
+
+is-result-requires : tie.Need-is-result-requires
+is-result-requires c κs = search needs
 
 list-entries-requires : tie.Need-list-entries-requires
 list-entries-requires c κs = search needs
@@ -32,17 +44,32 @@ same-length-3 c = search needs
 
 returns : tie.Need-returns
 returns c =
-    let start = c .before .before .before .before .before .before .before .before .before .before .before .before .before .before .before .before .before .before .before .before .args in
-    let fresh = c .before .before .before .before .before .before .before .before .before .before .before .before .«open» .ensures ∙ ap (openRule (start .channels .now)) (c .before .before .before .before .before .before .before .before .before .before .before .before .before .group-of .ensures) in
-    let smallest = subst (λ o. Smallest (o .0) (noteLists (start .keys .now) (start .notes .now) (start .detunings .now)) (setTuning (o .0) (start .keys .now) (start .notes .now) (start .detunings .now))) fresh (subst (Smallest _ (noteLists (start .keys .now) (start .notes .now) (start .detunings .now))) (c .before .before .before .before .before .before .before .before .before .before .set-tuning .ensures .0) (c .before .before .before .before .before .before .before .before .before .before .set-tuning .ensures .1)) in
-    let told = c .before .before .before .before .before .before .before .before .before .before .set-tuning .ensures .0 ∙ ap (λ o. setTuning (o .0) (start .keys .now) (start .notes .now) (start .detunings .now)) fresh in (
+    let a = c .before .before .before .before .before .before .before .before .before .before .before .before .before .before .before .before .before .before .before .before .before .before .before .before .args in
+    let n = length (a .asked-channels .now) in
+    let fresh = c .before .before .before .before .before .before .before .before .before .before .before .before .before .before .before .before .«open» .ensures ∙ ap (openRule (a .channels .now)) (c .before .before .before .before .before .before .before .before .before .before .before .before .before .before .before .before .before .group-of .ensures) in
+    let plan = c .before .before .before .before .before .before .before .before .before .before .before .before .before .set-tuning .ensures in
+    let lines = noteLists (a .keys .now) (a .notes .now) (a .detunings .now) in
+    let kind = kind-is lines fresh (plan .0) (eqb (length (a .asked-groups .now)) (length (a .asked-channels .now))) (c .before .before .before .before .before .before .before .before .before .before .before .before .before .before .list-refusal .ensures) (c .before .before .before .before .before .before .before .before .before .before .before .kind-of .ensures) in
+    let told = plan-is lines fresh (plan .0) in
+    let yes = sym (c .before .before .before .before .before .before .before .before .before .before .is-result .ensures) ∙ c .before .before .before .before .before .before .before .before .before .if1 .taken in (
       (
-        c .before .before .before .before .before .list-entries .ensures .0 ∙ ap (λ r. filled (λ i. entryFrom (r .0) (start .asked-channels .now) (start .asked-groups .now) i .kind) (length (start .asked-channels .now)) (start .entry-kinds .now)) told,
-        c .before .before .before .before .before .list-entries .ensures .1 ∙ ap (λ r. filled (λ i. entryFrom (r .0) (start .asked-channels .now) (start .asked-groups .now) i .group) (length (start .asked-channels .now)) (start .entry-groups .now)) told,
-        c .before .before .before .before .before .list-entries .ensures .2 ∙ ap (λ r. filled (λ i. entryFrom (r .0) (start .asked-channels .now) (start .asked-groups .now) i .detuning) (length (start .asked-channels .now)) (start .entry-detunings .now)) told,
+        kind,
+        writes-from _ (λ (p : Model × Answer). filled (λ i. entryFrom (p .0) (a .asked-channels .now) (a .asked-groups .now) i .kind) n) _ told yes (c .before .before .before .before .before .list-entries .ensures .0),
+        writes-from _ (λ (p : Model × Answer). filled (λ i. entryFrom (p .0) (a .asked-channels .now) (a .asked-groups .now) i .group) n) _ told yes (c .before .before .before .before .before .list-entries .ensures .1),
+        writes-from _ (λ (p : Model × Answer). filled (λ i. entryFrom (p .0) (a .asked-channels .now) (a .asked-groups .now) i .detuning) n) _ told yes (c .before .before .before .before .before .list-entries .ensures .2),
       ),
-      smallest,
+      smallest lines fresh (plan .0) (plan .1),
     )
+
+returns-2 : tie.Need-returns-2
+returns-2 c =
+    let a = c .before .before .before .before .before .before .before .before .before .before .before .before .before .before .before .args in
+    let fresh = c .before .before .before .before .before .before .before .«open» .ensures ∙ ap (openRule (a .channels .now)) (c .before .before .before .before .before .before .before .before .group-of .ensures) in
+    let plan = c .before .before .before .before .set-tuning .ensures in
+    let lines = noteLists (a .keys .now) (a .notes .now) (a .detunings .now) in
+    let kind = kind-is lines fresh (plan .0) (eqb (length (a .asked-groups .now)) (length (a .asked-channels .now))) (c .before .before .before .before .before .list-refusal .ensures) (c .before .before .kind-of .ensures) in
+    let no = sym (c .before .is-result .ensures) ∙ c .if1 .left in
+    ((kind, refused-leaves _ _ _ no, refused-leaves _ _ _ no, refused-leaves _ _ _ no), smallest lines fresh (plan .0) (plan .1))
 
 pub tune-entries-spec : {M : Type 1} → statement M
 tune-entries-spec =
@@ -50,9 +77,13 @@ tune-entries-spec =
     (tie.spec
     group-of-requires
     open-requires
+    list-refusal-requires
     set-tuning-requires
+    kind-of-requires
+    is-result-requires
     list-entries-requires
     same-length
     same-length-2
     same-length-3
-    returns)
+    returns
+    returns-2)

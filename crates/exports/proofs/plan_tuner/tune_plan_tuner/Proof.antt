@@ -1,145 +1,81 @@
--- `plan_tuner::tune_plan_tuner` meets its contract: each turn plays one event more. Assumes nothing.
+-- `plan_tuner::tune_plan_tuner` meets its contract: the events are played unless the lists are refused. Assumes nothing.
 use borrow.Author.Needs.{needs}
-use borrow.Rule.Slice.PartMut.{putMid}
-use mathlib.Core.Path.{_≡_, refl, ap, _∙_}
-use Prim.Native.Nat.{ℕ, _≤_, _-_, _+_}
+use mathlib.Core.Path.{_∙_, ap, sym}
 use lib.ListN.{length}
-use native.Mathlib.Omega.{arith}
-use Rattle.models.specs.declared.steps.TuningKind.{TuningKind}
 use Rattle.models.specs.PlanLists.{noteLists, pitchLists}
 use Rattle.senders.specs.Lent.{written}
-use Rattle.senders.specs.Aot.{Tuner, tuner as view, startRule}
-use Rattle.exports.specs.Lent.{filled}
-use Rattle.exports.specs.Events.{listRefusal}
-use Rattle.exports.specs.Calls.{begun, wentBefore, heardAt}
-use Rattle.exports.specs.PlanTuner.{Lists, Events, eventIn}
-use Rattle.exports.specs.declared.message.Heard.{Heard}
+use Rattle.senders.specs.Aot.{Tuner, startRule}
 use Rattle.senders.proofs.PlanCalls.{notes-fine, pitches-fine, rule-smallest}
-use Rattle.exports.proofs.Filled.{filled-turn, filled-all, length-filled}
-use Rattle.exports.proofs.Calls.{Going, none-sent, sent-length, going-none, going-heard, going-turn}
+use Rattle.exports.specs.Lent.{filled}
+use Rattle.exports.specs.Returned.{listRefusal}
+use Rattle.exports.specs.Calls.{begun, wentBefore, heardAt}
+use Rattle.exports.specs.PlanTuner.{Lists, Events, equalLists, eventIn}
+use Rattle.exports.proofs.Results.{refused-leaves, writes-from}
 use Rattle.exports.proofs.plan_tuner.tune_plan_tuner.Statement.{statement}
 use Rattle.exports.proofs.plan_tuner.tune_plan_tuner.Tie as tie
 
-abbrev Inv-loop : tie.InvT-loop
-Inv-loop channels bends pitch-keys pitches note-keys notes detunings kinds keys values bend-values answer-kinds₀ answer-counts₀ answer-channels₀ out₀ listed tuner₀ n at₀ i₀ answer-kinds answer-counts answer-channels out tuner at i =
-    let rules = eventIn (record { pitchKeys = pitch-keys; pitches = pitches; noteKeys = note-keys; notes = notes; detunings = detunings }) (record { kinds = kinds; keys = keys; values = values; bends = bend-values }) in
-    (i ≤ n)
-    × Going out₀ rules (begun (view tuner₀)) i (view tuner) at out
-    × (answer-kinds ≡ filled (λ k. heardAt (length out₀) rules (begun (view tuner₀)) k .kind) i answer-kinds₀)
-    × (answer-counts ≡ filled (λ k. heardAt (length out₀) rules (begun (view tuner₀)) k .count) i answer-counts₀)
-    × (answer-channels ≡ filled (λ k. heardAt (length out₀) rules (begun (view tuner₀)) k .channels) i answer-channels₀)
-
-abbrev μ-loop : tie.MeasureT-loop
-μ-loop channels bends pitch-keys pitches note-keys notes detunings kinds keys values bend-values answer-kinds₀ answer-counts₀ answer-channels₀ out₀ listed tuner₀ n at₀ i₀ answer-kinds answer-counts answer-channels out tuner at i = n - i
-
-kind-of-requires : tie.Need-kind-of-requires Inv-loop μ-loop
+kind-of-requires : tie.Need-kind-of-requires
 kind-of-requires c κs = search needs
 
-start-requires : tie.Need-start-requires Inv-loop μ-loop
+start-requires : tie.Need-start-requires
 start-requires c κs = search needs
 
-loop-holds : tie.Need-loop-holds Inv-loop μ-loop
-unfolding filled
-loop-holds c = (omega arith, going-none _ _ _ (none-sent _ _), refl, refl, refl)
-
-sub-play : tie.Need-sub-play Inv-loop μ-loop
-sub-play c = omega (arith, c .before .loop .inv .1 .sent .within, sent-length (c .before .loop .inv .1 .sent))
-
-part-play-start : tie.Need-part-play-start Inv-loop μ-loop
-part-play-start c = omega (arith, c .before .loop .inv .1 .sent .within, sent-length (c .before .loop .inv .1 .sent))
-
-part-play-end : tie.Need-part-play-end Inv-loop μ-loop
-part-play-end c = omega arith
-
-play-requires : tie.Need-play-requires Inv-loop μ-loop
-play-requires c κs = search needs
-
-put-byte-requires : tie.Need-put-byte-requires Inv-loop μ-loop
-put-byte-requires c κs = search needs
-
-put-count-requires : tie.Need-put-count-requires Inv-loop μ-loop
-put-count-requires c κs = search needs
-
-put-fine-requires : tie.Need-put-fine-requires Inv-loop μ-loop
-put-fine-requires c κs = search needs
-
--- the event that a turn plays
-turned : (c : tie.After-struct-known Inv-loop μ-loop)
-    → let a = c .before .before .before .before .before .before .before .before .before .before .before .before .before .before .before .before .before .before .before .before .before .before .before .before .before .before .before .before .before .before .before .before .before .before .before .before .args in
-    let ls : Lists = record { pitchKeys = a .pitch-keys .now; pitches = a .pitches .now; noteKeys = a .note-keys .now; notes = a .notes .now; detunings = a .detunings .now } in
-    let es : Events = record { kinds = a .kinds .now; keys = a .keys .now; values = a .values .now; bends = a .bend-values .now } in
-    let rules = eventIn ls es in
-    let l = c .before .before .before .before .before .before .before .before .before .before .before .before .before .before .before .before .before .before .before .before .loop in
-    let start = begun (view (c .before .before .before .before .before .before .before .before .before .before .before .before .before .before .before .before .before .before .before .before .before .before .start .result .tuner)) in
-    let r = c .before .before .before .before .before .before .before .before .before .before .before .before .before .before .before .before .before .play .result in
-    Going (a .out .now) rules start (l .i + 1) (view (r .tuner)) (l .at + r .answer .count) (putMid (l .at) (length (l .out) - l .at) (l .out) (c .before .before .before .before .before .before .before .before .before .before .before .before .before .before .before .before .before .play .last .1 .1 .1 .1 .1 .1 .1 .1 .1 .1 .1 .0))
-    × (r .answer ≡ heardAt (length (a .out .now)) rules start (l .i))
-turned c =
-    let g = c .before .before .before .before .before .before .before .before .before .before .before .before .before .before .before .before .before .before .before .before .loop .inv .1 in
-    let p = c .before .before .before .before .before .before .before .before .before .before .before .before .before .before .before .before .before .play .ensures in
-    (going-turn _ _ _ g p, going-heard _ _ _ g p)
-
-add-at : tie.Need-add-at Inv-loop μ-loop
-add-at c = omega (arith, turned c .0 .sent .within, c .before .before .before .before .before .before .before .before .before .before .before .before .before .before .before .before .before .before .before .before .before .before .before .before .before .before .before .before .before .before .before .before .before .before .before .before .good)
-
-add-i : tie.Need-add-i Inv-loop μ-loop
-add-i c = omega (arith, c .before .before .before .before .before .before .before .before .before .before .before .before .before .before .before .before .before .before .before .loop-test .taken, c .before .before .before .before .before .before .before .before .before .before .before .before .before .before .before .before .before .before .before .before .before .before .before .before .before .before .before .before .before .before .before .before .before .before .before .before .good)
-
-loop-less : tie.Need-loop-less Inv-loop μ-loop
-loop-less c = omega (arith, c .before .before .before .before .before .before .before .before .before .before .before .before .before .before .before .before .before .before .before .loop-test .taken)
-
-loop-again : tie.Need-loop-again Inv-loop μ-loop
-loop-again c =
-    let a = c .before .before .before .before .before .before .before .before .before .before .before .before .before .before .before .before .before .before .before .before .before .before .before .before .before .before .before .before .before .before .before .before .before .before .before .before .args in
-    let ls : Lists = record { pitchKeys = a .pitch-keys .now; pitches = a .pitches .now; noteKeys = a .note-keys .now; notes = a .notes .now; detunings = a .detunings .now } in
-    let es : Events = record { kinds = a .kinds .now; keys = a .keys .now; values = a .values .now; bends = a .bend-values .now } in
-    let rules = eventIn ls es in
-    let start = begun (view (c .before .before .before .before .before .before .before .before .before .before .before .before .before .before .before .before .before .before .before .before .before .before .start .result .tuner)) in
-    let inv = c .before .before .before .before .before .before .before .before .before .before .before .before .before .before .before .before .before .before .before .before .loop .inv in
-    let t = turned c in (
-      omega (arith, c .before .before .before .before .before .before .before .before .before .before .before .before .before .before .before .before .before .before .before .loop-test .taken),
-      t .0,
-      filled-turn (λ k. heardAt (length (a .out .now)) rules start k .kind) (a .answer-kinds .now) _ _ _ _ (c .before .before .before .before .before .before .before .before .before .before .before .before .put-byte .ensures) (inv .2) (ap (λ (h : Heard). h .kind) (t .1)),
-      filled-turn (λ k. heardAt (length (a .out .now)) rules start k .count) (a .answer-counts .now) _ _ _ _ (c .before .before .before .before .before .before .before .before .put-count .ensures) (inv .3) (ap (λ (h : Heard). h .count) (t .1)),
-      filled-turn (λ k. heardAt (length (a .out .now)) rules start k .channels) (a .answer-channels .now) _ _ _ _ (c .before .before .before .before .put-fine .ensures) (inv .4) (ap (λ (h : Heard). h .channels) (t .1)),
-    )
-
-list-refusal-requires : tie.Need-list-refusal-requires Inv-loop μ-loop
+list-refusal-requires : tie.Need-list-refusal-requires
 list-refusal-requires c κs = search needs
 
-same-length : tie.Need-same-length Inv-loop μ-loop
-same-length c = ap length (c .before .before .loop .inv .2) ∙ length-filled _ _ _
+is-result-requires : tie.Need-is-result-requires
+is-result-requires c κs = search needs
 
-same-length-2 : tie.Need-same-length-2 Inv-loop μ-loop
-same-length-2 c = ap length (c .before .before .loop .inv .3) ∙ length-filled _ _ _
+play-all-requires : tie.Need-play-all-requires
+play-all-requires c κs = search needs
 
-same-length-3 : tie.Need-same-length-3 Inv-loop μ-loop
-same-length-3 c = ap length (c .before .before .loop .inv .4) ∙ length-filled _ _ _
+same-length : tie.Need-same-length
+same-length c = search needs
 
-same-length-4 : tie.Need-same-length-4 Inv-loop μ-loop
-same-length-4 c = sent-length (c .before .before .loop .inv .1 .sent)
+same-length-2 : tie.Need-same-length-2
+same-length-2 c = search needs
 
-returns : tie.Need-returns Inv-loop μ-loop
+same-length-3 : tie.Need-same-length-3
+same-length-3 c = search needs
+
+same-length-4 : tie.Need-same-length-4
+same-length-4 c = search needs
+
+returns : tie.Need-returns
 returns c =
-    let a = c .before .before .before .before .before .before .before .before .before .before .before .before .before .before .before .before .before .before .args in
+    let a = c .before .before .before .before .before .before .before .before .before .before .before .before .before .before .before .before .before .before .before .before .before .before .before .before .before .before .before .before .before .before .before .args in
     let ls : Lists = record { pitchKeys = a .pitch-keys .now; pitches = a .pitches .now; noteKeys = a .note-keys .now; notes = a .notes .now; detunings = a .detunings .now } in
     let es : Events = record { kinds = a .kinds .now; keys = a .keys .now; values = a .values .now; bends = a .bend-values .now } in
     let rules = eventIn ls es in
-    let l = c .before .before .loop in
     let room = length (a .out .now) in
-    let n = length (a .kinds .now) in
-    let all : l .i ≡ n = omega (arith, c .before .loop-test .left, l .inv .0) in
-    let fresh = c .before .before .before .before .start .ensures ∙ ap (λ (k : TuningKind). startRule (a .channels .now) k) (c .before .before .before .before .before .kind-of .ensures) in
-    let start = begun (view (c .before .before .before .before .start .result .tuner)) in
-    let state = ap (λ r. r .1) fresh in (
-      c .list-refusal .ensures ∙ ap (λ r. listRefusal (r .0)) fresh,
+    let n = length (es .kinds) in
+    let fresh = c .before .before .before .before .before .before .before .before .before .before .before .before .before .before .before .before .before .start .ensures ∙ ap (startRule (a .channels .now)) (c .before .before .before .before .before .before .before .before .before .before .before .before .before .before .before .before .before .before .kind-of .ensures) in
+    let yes = sym (c .before .before .before .before .before .before .before .before .before .before .before .before .before .before .is-result .ensures) ∙ c .before .before .before .before .before .before .before .before .before .before .before .before .before .if1 .taken in
+    let state = ap (λ o. o .1) fresh in (
+      c .before .before .before .before .before .before .before .before .before .before .before .before .before .before .before .list-refusal .ensures ∙ ap (λ o. listRefusal (o .0) (equalLists es)) fresh,
       (
         (
-          filled-all (λ k. heardAt room rules start k .kind) (a .answer-kinds .now) _ _ _ (l .inv .2) all ∙ ap (λ (t : Tuner). filled (λ k. heardAt room rules (begun t) k .kind) n (a .answer-kinds .now)) state,
-          filled-all (λ k. heardAt room rules start k .count) (a .answer-counts .now) _ _ _ (l .inv .3) all ∙ ap (λ (t : Tuner). filled (λ k. heardAt room rules (begun t) k .count) n (a .answer-counts .now)) state,
-          filled-all (λ k. heardAt room rules start k .channels) (a .answer-channels .now) _ _ _ (l .inv .4) all ∙ ap (λ (t : Tuner). filled (λ k. heardAt room rules (begun t) k .channels) n (a .answer-channels .now)) state,
-          l .inv .1 .sent .out-is ∙ ap (λ (k : ℕ). written (wentBefore room rules start k .bytes) (a .out .now)) all ∙ ap (λ (t : Tuner). written (wentBefore room rules (begun t) n .bytes) (a .out .now)) state,
+          writes-from _ (λ (t : Tuner). filled (λ k. heardAt room rules (begun t) k .kind) n) _ state yes (c .before .before .before .before .before .before .before .before .play-all .ensures .0),
+          writes-from _ (λ (t : Tuner). filled (λ k. heardAt room rules (begun t) k .count) n) _ state yes (c .before .before .before .before .before .before .before .before .play-all .ensures .1),
+          writes-from _ (λ (t : Tuner). filled (λ k. heardAt room rules (begun t) k .channels) n) _ state yes (c .before .before .before .before .before .before .before .before .play-all .ensures .2),
+          writes-from _ (λ (t : Tuner). written (wentBefore room rules (begun t) n .bytes)) _ state yes (c .before .before .before .before .before .before .before .before .play-all .ensures .3),
         ),
+        λ i. (
+          rule-smallest _ _ (pitchLists (a .pitch-keys .now) (a .pitches .now)) (pitches-fine (a .pitch-keys .now) (a .pitches .now) (λ j. c .before .before .before .before .before .before .before .before .before .before .before .before .before .before .before .before .before .before .before .before .before .before .before .before .before .before .before .before .before .shared-slice-known2 .given j .fits)),
+          rule-smallest _ _ (noteLists (a .note-keys .now) (a .notes .now) (a .detunings .now)) (notes-fine (a .note-keys .now) (a .notes .now) (a .detunings .now) (λ j. c .before .before .before .before .before .before .before .before .before .before .before .before .before .before .before .before .before .before .before .before .before .before .before .before .before .before .before .shared-slice-known4 .given j .fits) (λ j. c .before .before .before .before .before .before .before .before .before .before .before .before .before .before .before .before .before .before .before .before .before .before .before .before .before .before .shared-slice-known5 .given j)),
+        ),
+      ),
+    )
+
+returns-2 : tie.Need-returns-2
+returns-2 c =
+    let a = c .before .before .before .before .before .before .before .before .before .before .before .before .before .before .before .before .before .before .args in
+    let es : Events = record { kinds = a .kinds .now; keys = a .keys .now; values = a .values .now; bends = a .bend-values .now } in
+    let fresh = c .before .before .before .before .start .ensures ∙ ap (startRule (a .channels .now)) (c .before .before .before .before .before .kind-of .ensures) in
+    let no = sym (c .before .is-result .ensures) ∙ c .if1 .left in (
+      c .before .before .list-refusal .ensures ∙ ap (λ o. listRefusal (o .0) (equalLists es)) fresh,
+      (
+        (refused-leaves _ _ _ no, refused-leaves _ _ _ no, refused-leaves _ _ _ no, refused-leaves _ _ _ no),
         λ i. (
           rule-smallest _ _ (pitchLists (a .pitch-keys .now) (a .pitches .now)) (pitches-fine (a .pitch-keys .now) (a .pitches .now) (λ j. c .before .before .before .before .before .before .before .before .before .before .before .before .before .before .before .before .shared-slice-known2 .given j .fits)),
           rule-smallest _ _ (noteLists (a .note-keys .now) (a .notes .now) (a .detunings .now)) (notes-fine (a .note-keys .now) (a .notes .now) (a .detunings .now) (λ j. c .before .before .before .before .before .before .before .before .before .before .before .before .before .before .shared-slice-known4 .given j .fits) (λ j. c .before .before .before .before .before .before .before .before .before .before .before .before .before .shared-slice-known5 .given j)),
@@ -151,25 +87,14 @@ pub tune-plan-tuner-spec : {M : Type 1} → statement M
 tune-plan-tuner-spec =
     tie.close
     (tie.spec
-    Inv-loop
-    μ-loop
     kind-of-requires
     start-requires
-    loop-holds
-    sub-play
-    part-play-start
-    part-play-end
-    play-requires
-    put-byte-requires
-    put-count-requires
-    put-fine-requires
-    add-at
-    add-i
-    loop-less
-    loop-again
     list-refusal-requires
+    is-result-requires
+    play-all-requires
     same-length
     same-length-2
     same-length-3
     same-length-4
-    returns)
+    returns
+    returns-2)

@@ -1,179 +1,97 @@
--- `pool::tune_pool` meets its contract: each turn plays one event more. Assumes nothing.
+-- `pool::tune_pool` meets its contract: the events are played unless the lists are refused. Assumes nothing.
 use Rattle.models.specs.declared.jit.PoolGroupBy.{PoolGroupBy}
 use borrow.Author.Needs.{needs}
-use mathlib.Core.Path.{_≡_, refl, ap, _∙_}
-use Prim.Native.Nat.{ℕ, _≤_, _-_, _+_}
-use native.Mathlib.Numerals.{add-one}
+use mathlib.Core.Path.{_∙_, ap, sym}
 use lib.ListN.{length}
-use native.Mathlib.Omega.{arith}
-use mir.Facts.{toZ-ofZ}
-use mir.Syntax.{w32}
-use Rattle.exports.specs.Lent.{filled}
-use Rattle.models.specs.JitModel.{view, opened}
+use Rattle.models.specs.JitModel.{opened}
 use Rattle.models.specs.Pool.{State, openRule}
-use Rattle.exports.specs.Events.{Events, eventIn, answerTo, stateBefore, playedOf, listRefusal, groupOf}
-use Rattle.exports.proofs.Filled.{filled-turn, filled-all, length-filled}
+use Rattle.exports.specs.Lent.{filled}
+use Rattle.exports.specs.Returned.{listRefusal}
+use Rattle.exports.specs.Events.{Events, equalLists, answerTo, groupOf}
+use Rattle.exports.proofs.Results.{refused-leaves, writes-from}
 use Rattle.exports.proofs.pool.tune_pool.Statement.{statement}
 use Rattle.exports.proofs.pool.tune_pool.Tie as tie
 
-abbrev Inv-loop : tie.InvT-loop
-Inv-loop channels letters mode kinds keys pitches answer-kinds₀ answer-channels₀ answer-notes₀ answer-stopped₀ answer-detunings₀ listed model₀ n i₀ answer-kinds answer-channels answer-notes answer-stopped answer-detunings model i =
-    (i ≤ n)
-    × (view model ≡ stateBefore (view model₀) (record { kinds = kinds; keys = keys; pitches = pitches }) i)
-    × (answer-kinds ≡ filled (λ k. answerTo (view model₀) (record { kinds = kinds; keys = keys; pitches = pitches }) k .kind) i answer-kinds₀)
-    × (answer-channels ≡ filled (λ k. answerTo (view model₀) (record { kinds = kinds; keys = keys; pitches = pitches }) k .channel) i answer-channels₀)
-    × (answer-notes ≡ filled (λ k. answerTo (view model₀) (record { kinds = kinds; keys = keys; pitches = pitches }) k .note) i answer-notes₀)
-    × (answer-stopped ≡ filled (λ k. answerTo (view model₀) (record { kinds = kinds; keys = keys; pitches = pitches }) k .stopped) i answer-stopped₀)
-    × (answer-detunings ≡ filled (λ k. answerTo (view model₀) (record { kinds = kinds; keys = keys; pitches = pitches }) k .detuning) i answer-detunings₀)
-
-abbrev μ-loop : tie.MeasureT-loop
-μ-loop channels letters mode kinds keys pitches answer-kinds₀ answer-channels₀ answer-notes₀ answer-stopped₀ answer-detunings₀ listed model₀ n i₀ answer-kinds answer-channels answer-notes answer-stopped answer-detunings model i = n - i
-
-group-of-requires : tie.Need-group-of-requires Inv-loop μ-loop
+group-of-requires : tie.Need-group-of-requires
 group-of-requires c κs = search needs
 
-mode-of-requires : tie.Need-mode-of-requires Inv-loop μ-loop
+mode-of-requires : tie.Need-mode-of-requires
 mode-of-requires c κs = search needs
 
-open-requires : tie.Need-open-requires Inv-loop μ-loop
+open-requires : tie.Need-open-requires
 open-requires c κs = search needs
 
-loop-holds : tie.Need-loop-holds Inv-loop μ-loop
-unfolding filled stateBefore
-loop-holds c = (omega arith, refl, refl, refl, refl, refl, refl)
-
-byte-at-requires : tie.Need-byte-at-requires Inv-loop μ-loop
-byte-at-requires c κs = search needs
-
-byte-at-requires-2 : tie.Need-byte-at-requires-2 Inv-loop μ-loop
-byte-at-requires-2 c κs = search needs
-
-float-at-requires : tie.Need-float-at-requires Inv-loop μ-loop
-float-at-requires c κs = search needs
-
-play-requires : tie.Need-play-requires Inv-loop μ-loop
-play-requires c κs = search needs
-
-put-byte-requires : tie.Need-put-byte-requires Inv-loop μ-loop
-put-byte-requires c κs = search needs
-
-put-byte-requires-2 : tie.Need-put-byte-requires-2 Inv-loop μ-loop
-put-byte-requires-2 c κs = search needs
-
-put-number-requires : tie.Need-put-number-requires Inv-loop μ-loop
-put-number-requires c κs = search needs
-
-put-number-requires-2 : tie.Need-put-number-requires-2 Inv-loop μ-loop
-put-number-requires-2 c κs = search needs
-
-put-float-requires : tie.Need-put-float-requires Inv-loop μ-loop
-put-float-requires c κs = search needs
-
-add-i : tie.Need-add-i Inv-loop μ-loop
-add-i c = omega (arith, c .before .before .before .before .before .before .before .before .before .before .before .before .before .before .before .before .before .before .before .before .before .before .before .before .before .before .loop-test .taken, c .before .before .before .before .before .before .before .before .before .before .before .before .before .before .before .before .before .before .before .before .before .before .before .before .before .before .before .before .before .before .before .before .before .before .before .before .before .before .before .good .1 .1 .1 .0 .0)
-
-loop-less : tie.Need-loop-less Inv-loop μ-loop
-loop-less c = omega (arith, c .before .before .before .before .before .before .before .before .before .before .before .before .before .before .before .before .before .before .before .before .before .before .before .before .before .before .loop-test .taken)
-
--- the state after an event is the state before the next one
-state-turn : (s : State) (es : Events) (i : ℕ) (t : State) → t ≡ eventIn es i (stateBefore s es i) .1 → t ≡ stateBefore s es (i + 1)
-unfolding stateBefore
-state-turn s es i t e = e ∙ rw (add-one i)
-
--- the event that a turn plays
-played : (c : tie.After-next Inv-loop μ-loop)
-    → let start = c .before .before .before .before .before .before .before .before .before .before .before .before .before .before .before .before .before .before .before .before .before .before .before .before .before .before .before .before .before .before .before .before .before .before .before .before .before .before .before in
-    let es : Events = record { kinds = start .args .kinds .now; keys = start .args .keys .now; pitches = start .args .pitches .now } in
-    let i = c .before .before .before .before .before .before .before .before .before .before .before .before .before .before .before .before .before .before .before .before .before .before .before .before .before .before .before .loop .i in
-    (c .before .before .before .before .before .before .before .before .before .before .before .before .before .before .before .before .before .before .before .before .before .before .play .result .answer, view (c .before .before .before .before .before .before .before .before .before .before .before .before .before .before .before .before .before .before .before .before .before .before .play .result .model)) ≡ eventIn es i (stateBefore (view (c .before .before .before .before .before .before .before .before .before .before .before .before .before .before .before .before .before .before .before .before .before .before .before .before .before .before .before .before .before .«open» .result .model)) es i)
-unfolding playedOf
-played c = c .before .before .before .before .before .before .before .before .before .before .before .before .before .before .before .before .before .before .before .before .before .before .play .ensures
-    ∙ rw (c .before .before .before .before .before .before .before .before .before .before .before .before .before .before .before .before .before .before .before .before .before .before .before .before .before .byte-at .ensures, c .before .before .before .before .before .before .before .before .before .before .before .before .before .before .before .before .before .before .before .before .before .before .before .before .byte-at2 .ensures, c .before .before .before .before .before .before .before .before .before .before .before .before .before .before .before .before .before .before .before .before .before .before .before .float-at .ensures, c .before .before .before .before .before .before .before .before .before .before .before .before .before .before .before .before .before .before .before .before .before .before .before .before .before .before .before .loop .inv .1)
-
-loop-again : tie.Need-loop-again Inv-loop μ-loop
-loop-again c =
-    let start = c .before .before .before .before .before .before .before .before .before .before .before .before .before .before .before .before .before .before .before .before .before .before .before .before .before .before .before .before .before .before .before .before .before .before .before .before .before .before .before in
-    let es : Events = record { kinds = start .args .kinds .now; keys = start .args .keys .now; pitches = start .args .pitches .now } in
-    let s = view (c .before .before .before .before .before .before .before .before .before .before .before .before .before .before .before .before .before .before .before .before .before .before .before .before .before .before .before .before .before .«open» .result .model) in
-    let i = c .before .before .before .before .before .before .before .before .before .before .before .before .before .before .before .before .before .before .before .before .before .before .before .before .before .before .before .loop .i in
-    let inv = c .before .before .before .before .before .before .before .before .before .before .before .before .before .before .before .before .before .before .before .before .before .before .before .before .before .before .before .loop .inv in
-    let told = played c in (
-      omega (arith, c .before .before .before .before .before .before .before .before .before .before .before .before .before .before .before .before .before .before .before .before .before .before .before .before .before .before .loop-test .taken),
-      state-turn s es i _ (ap (λ r. r .1) told),
-      filled-turn (λ k. answerTo s es k .kind) (start .args .answer-kinds .now) i _ _ _ (c .before .before .before .before .before .before .before .before .before .before .before .before .before .before .before .before .before .before .before .put-byte .ensures) (inv .2) (ap (λ r. r .0 .kind) told),
-      filled-turn (λ k. answerTo s es k .channel) (start .args .answer-channels .now) i _ _ _ (c .before .before .before .before .before .before .before .before .before .before .before .before .before .before .before .put-byte2 .ensures) (inv .3) (ap (λ r. r .0 .channel) told),
-      filled-turn (λ k. answerTo s es k .note) (start .args .answer-notes .now) i _ _ _ (c .before .before .before .before .before .before .before .before .before .before .put-number .ensures) (inv .4) (toZ-ofZ {w = w32} {z = c .before .before .before .before .before .before .before .before .before .before .before .before .before .before .before .before .before .before .before .before .before .before .play .result .answer .note} (record { sfits = c .before .before .before .before .before .before .before .before .before .before .before .struct-told .given .1 .1 .0 .1 }) ∙ ap (λ r. r .0 .note) told),
-      filled-turn (λ k. answerTo s es k .stopped) (start .args .answer-stopped .now) i _ _ _ (c .before .before .before .before .before .before .put-number2 .ensures) (inv .5) (toZ-ofZ {w = w32} {z = c .before .before .before .before .before .before .before .before .before .before .before .before .before .before .before .before .before .before .before .before .before .before .play .result .answer .stopped} (record { sfits = c .before .before .before .before .before .before .before .struct-told2 .given .1 .1 .1 .0 .1 }) ∙ ap (λ r. r .0 .stopped) told),
-      filled-turn (λ k. answerTo s es k .detuning) (start .args .answer-detunings .now) i _ _ _ (c .before .before .before .put-float .ensures) (inv .6) (ap (λ r. r .0 .detuning) told),
-    )
-
-list-refusal-requires : tie.Need-list-refusal-requires Inv-loop μ-loop
+list-refusal-requires : tie.Need-list-refusal-requires
 list-refusal-requires c κs = search needs
 
-same-length : tie.Need-same-length Inv-loop μ-loop
-same-length c = ap length (c .before .before .loop .inv .2) ∙ length-filled _ _ _
+is-result-requires : tie.Need-is-result-requires
+is-result-requires c κs = search needs
 
-same-length-2 : tie.Need-same-length-2 Inv-loop μ-loop
-same-length-2 c = ap length (c .before .before .loop .inv .3) ∙ length-filled _ _ _
+play-all-requires : tie.Need-play-all-requires
+play-all-requires c κs = search needs
 
-same-length-3 : tie.Need-same-length-3 Inv-loop μ-loop
-same-length-3 c = ap length (c .before .before .loop .inv .4) ∙ length-filled _ _ _
+same-length : tie.Need-same-length
+same-length c = search needs
 
-same-length-4 : tie.Need-same-length-4 Inv-loop μ-loop
-same-length-4 c = ap length (c .before .before .loop .inv .5) ∙ length-filled _ _ _
+same-length-2 : tie.Need-same-length-2
+same-length-2 c = search needs
 
-same-length-5 : tie.Need-same-length-5 Inv-loop μ-loop
-same-length-5 c = ap length (c .before .before .loop .inv .6) ∙ length-filled _ _ _
+same-length-3 : tie.Need-same-length-3
+same-length-3 c = search needs
 
-returns : tie.Need-returns Inv-loop μ-loop
+same-length-4 : tie.Need-same-length-4
+same-length-4 c = search needs
+
+same-length-5 : tie.Need-same-length-5
+same-length-5 c = search needs
+
+returns : tie.Need-returns
 unfolding opened
 returns c =
-    let start = c .before .before .before .before .before .before .before .before .before .before .before .before .before .before .args in
-    let cs = start .channels .now in
-    let es : Events = record { kinds = start .kinds .now; keys = start .keys .now; pitches = start .pitches .now } in
-    let l = c .before .before .loop in
-    let all : l .i ≡ length (es .kinds) = omega (arith, c .before .loop-test .left, l .inv .0) in
-    let fresh = c .before .before .before .before .«open» .ensures
-    ∙ ap (λ (g : PoolGroupBy). openRule cs g (c .before .before .before .before .before .mode-of .result)) (c .before .before .before .before .before .before .group-of .ensures)
-    ∙ ap (openRule cs (groupOf (start .letters))) (c .before .before .before .before .before .mode-of .ensures) in
-    let s = view (c .before .before .before .before .«open» .result .model) in
-    let state = ap (λ r. r .1) fresh in (
-      c .list-refusal .ensures ∙ ap (λ r. listRefusal (r .0)) fresh,
+    let a = c .before .before .before .before .before .before .before .before .before .before .before .before .before .before .before .before .before .before .before .before .before .before .before .before .before .before .before .before .args in
+    let es : Events = record { kinds = a .kinds .now; keys = a .keys .now; pitches = a .pitches .now } in
+    let fresh = c .before .before .before .before .before .before .before .before .before .before .before .before .before .before .before .before .before .before .«open» .ensures
+    ∙ ap (λ (g : PoolGroupBy). openRule (a .channels .now) g (c .before .before .before .before .before .before .before .before .before .before .before .before .before .before .before .before .before .before .before .mode-of .result)) (c .before .before .before .before .before .before .before .before .before .before .before .before .before .before .before .before .before .before .before .before .group-of .ensures)
+    ∙ ap (openRule (a .channels .now) (groupOf (a .letters))) (c .before .before .before .before .before .before .before .before .before .before .before .before .before .before .before .before .before .before .before .mode-of .ensures) in
+    let yes = sym (c .before .before .before .before .before .before .before .before .before .before .before .before .before .before .before .is-result .ensures) ∙ c .before .before .before .before .before .before .before .before .before .before .before .before .before .before .if1 .taken in
+    let state = ap (λ o. o .1) fresh in (
+      c .before .before .before .before .before .before .before .before .before .before .before .before .before .before .before .before .list-refusal .ensures ∙ ap (λ o. listRefusal (o .0) (equalLists es)) fresh,
       (
-        filled-all (λ k. answerTo s es k .kind) (start .answer-kinds .now) _ _ _ (l .inv .2) all ∙ ap (λ (t : State). filled (λ k. answerTo t es k .kind) (length (es .kinds)) (start .answer-kinds .now)) state,
-        filled-all (λ k. answerTo s es k .channel) (start .answer-channels .now) _ _ _ (l .inv .3) all ∙ ap (λ (t : State). filled (λ k. answerTo t es k .channel) (length (es .kinds)) (start .answer-channels .now)) state,
-        filled-all (λ k. answerTo s es k .note) (start .answer-notes .now) _ _ _ (l .inv .4) all ∙ ap (λ (t : State). filled (λ k. answerTo t es k .note) (length (es .kinds)) (start .answer-notes .now)) state,
-        filled-all (λ k. answerTo s es k .stopped) (start .answer-stopped .now) _ _ _ (l .inv .5) all ∙ ap (λ (t : State). filled (λ k. answerTo t es k .stopped) (length (es .kinds)) (start .answer-stopped .now)) state,
-        filled-all (λ k. answerTo s es k .detuning) (start .answer-detunings .now) _ _ _ (l .inv .6) all ∙ ap (λ (t : State). filled (λ k. answerTo t es k .detuning) (length (es .kinds)) (start .answer-detunings .now)) state,
+        writes-from _ (λ (s : State). filled (λ k. answerTo s es k .kind) (length (es .kinds))) _ state yes (c .before .before .before .before .before .before .before .before .play-all .ensures .0),
+        writes-from _ (λ (s : State). filled (λ k. answerTo s es k .channel) (length (es .kinds))) _ state yes (c .before .before .before .before .before .before .before .before .play-all .ensures .1),
+        writes-from _ (λ (s : State). filled (λ k. answerTo s es k .note) (length (es .kinds))) _ state yes (c .before .before .before .before .before .before .before .before .play-all .ensures .2),
+        writes-from _ (λ (s : State). filled (λ k. answerTo s es k .stopped) (length (es .kinds))) _ state yes (c .before .before .before .before .before .before .before .before .play-all .ensures .3),
+        writes-from _ (λ (s : State). filled (λ k. answerTo s es k .detuning) (length (es .kinds))) _ state yes (c .before .before .before .before .before .before .before .before .play-all .ensures .4),
       ),
+    )
+
+returns-2 : tie.Need-returns-2
+unfolding opened
+returns-2 c =
+    let a = c .before .before .before .before .before .before .before .before .before .before .before .before .before .before .args in
+    let es : Events = record { kinds = a .kinds .now; keys = a .keys .now; pitches = a .pitches .now } in
+    let fresh = c .before .before .before .before .«open» .ensures
+    ∙ ap (λ (g : PoolGroupBy). openRule (a .channels .now) g (c .before .before .before .before .before .mode-of .result)) (c .before .before .before .before .before .before .group-of .ensures)
+    ∙ ap (openRule (a .channels .now) (groupOf (a .letters))) (c .before .before .before .before .before .mode-of .ensures) in
+    let no = sym (c .before .is-result .ensures) ∙ c .if1 .left in (
+      c .before .before .list-refusal .ensures ∙ ap (λ o. listRefusal (o .0) (equalLists es)) fresh,
+      (refused-leaves _ _ _ no, refused-leaves _ _ _ no, refused-leaves _ _ _ no, refused-leaves _ _ _ no, refused-leaves _ _ _ no),
     )
 
 pub tune-pool-spec : {M : Type 1} → statement M
 tune-pool-spec =
     tie.close
     (tie.spec
-    Inv-loop
-    μ-loop
     group-of-requires
     mode-of-requires
     open-requires
-    loop-holds
-    byte-at-requires
-    byte-at-requires-2
-    float-at-requires
-    play-requires
-    put-byte-requires
-    put-byte-requires-2
-    put-number-requires
-    put-number-requires-2
-    put-float-requires
-    add-i
-    loop-less
-    loop-again
     list-refusal-requires
+    is-result-requires
+    play-all-requires
     same-length
     same-length-2
     same-length-3
     same-length-4
     same-length-5
-    returns)
+    returns
+    returns-2)

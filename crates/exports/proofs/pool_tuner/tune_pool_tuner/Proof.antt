@@ -1,158 +1,89 @@
--- `pool_tuner::tune_pool_tuner` meets its contract: each turn plays one event more. Assumes nothing.
+-- `pool_tuner::tune_pool_tuner` meets its contract: the events are played unless the lists are refused. Assumes nothing.
 use borrow.Author.Needs.{needs}
-use borrow.Rule.Slice.PartMut.{putMid}
-use mathlib.Core.Path.{_≡_, refl, ap, _∙_}
-use Prim.Native.Nat.{ℕ, _≤_, _-_, _+_}
+use mathlib.Core.Path.{_∙_, ap, sym}
 use lib.ListN.{length}
-use native.Mathlib.Omega.{arith}
-use Rattle.models.specs.declared.jit.PoolingMode.{PoolingMode}
 use Rattle.models.specs.declared.steps.TuningKind.{TuningKind}
 use Rattle.senders.specs.Lent.{written}
-use Rattle.senders.specs.Jit.{Tuner, tuner as view, startRule}
+use Rattle.senders.specs.Jit.{Tuner, startRule}
 use Rattle.exports.specs.Lent.{filled}
-use Rattle.exports.specs.Events.{listRefusal, modeOf}
+use Rattle.exports.specs.Returned.{listRefusal}
 use Rattle.exports.specs.Messages.{kindOf}
 use Rattle.exports.specs.Calls.{begun, wentBefore, heardAt}
-use Rattle.exports.specs.PoolTuner.{Events, eventIn}
-use Rattle.exports.specs.declared.message.Heard.{Heard}
-use Rattle.exports.proofs.Filled.{filled-turn, filled-all, length-filled}
-use Rattle.exports.proofs.Calls.{Going, none-sent, sent-length, going-none, going-heard, going-turn}
+use Rattle.exports.specs.PoolTuner.{Events, equalLists, eventIn}
+use Rattle.exports.proofs.Results.{refused-leaves, writes-from}
 use Rattle.exports.proofs.pool_tuner.tune_pool_tuner.Statement.{statement}
 use Rattle.exports.proofs.pool_tuner.tune_pool_tuner.Tie as tie
 
-abbrev Inv-loop : tie.InvT-loop
-Inv-loop channels bends mode kinds keys values pitches bend-values answer-kinds₀ answer-counts₀ out₀ listed tuner₀ n at₀ i₀ answer-kinds answer-counts out tuner at i =
-    (i ≤ n)
-    × Going out₀ (eventIn (record { kinds = kinds; keys = keys; values = values; pitches = pitches; bends = bend-values })) (begun (view tuner₀)) i (view tuner) at out
-    × (answer-kinds ≡ filled (λ k. heardAt (length out₀) (eventIn (record { kinds = kinds; keys = keys; values = values; pitches = pitches; bends = bend-values })) (begun (view tuner₀)) k .kind) i answer-kinds₀)
-    × (answer-counts ≡ filled (λ k. heardAt (length out₀) (eventIn (record { kinds = kinds; keys = keys; values = values; pitches = pitches; bends = bend-values })) (begun (view tuner₀)) k .count) i answer-counts₀)
-
-abbrev μ-loop : tie.MeasureT-loop
-μ-loop channels bends mode kinds keys values pitches bend-values answer-kinds₀ answer-counts₀ out₀ listed tuner₀ n at₀ i₀ answer-kinds answer-counts out tuner at i = n - i
-
-kind-of-requires : tie.Need-kind-of-requires Inv-loop μ-loop
+kind-of-requires : tie.Need-kind-of-requires
 kind-of-requires c κs = search needs
 
-mode-of-requires : tie.Need-mode-of-requires Inv-loop μ-loop
+mode-of-requires : tie.Need-mode-of-requires
 mode-of-requires c κs = search needs
 
-start-requires : tie.Need-start-requires Inv-loop μ-loop
+start-requires : tie.Need-start-requires
 start-requires c κs = search needs
 
-loop-holds : tie.Need-loop-holds Inv-loop μ-loop
-unfolding filled
-loop-holds c = (omega arith, going-none _ _ _ (none-sent _ _), refl, refl)
-
-sub-play : tie.Need-sub-play Inv-loop μ-loop
-sub-play c = omega (arith, c .before .loop .inv .1 .sent .within, sent-length (c .before .loop .inv .1 .sent))
-
-part-play-start : tie.Need-part-play-start Inv-loop μ-loop
-part-play-start c = omega (arith, c .before .loop .inv .1 .sent .within, sent-length (c .before .loop .inv .1 .sent))
-
-part-play-end : tie.Need-part-play-end Inv-loop μ-loop
-part-play-end c = omega arith
-
-play-requires : tie.Need-play-requires Inv-loop μ-loop
-play-requires c κs = search needs
-
-put-byte-requires : tie.Need-put-byte-requires Inv-loop μ-loop
-put-byte-requires c κs = search needs
-
-put-count-requires : tie.Need-put-count-requires Inv-loop μ-loop
-put-count-requires c κs = search needs
-
--- the event that a turn plays
-turned : (c : tie.After-struct-known Inv-loop μ-loop)
-    → let a = c .before .before .before .before .before .before .before .before .before .before .before .before .before .before .before .before .before .before .before .before .before .before .before .before .before .before .before .before .before .args in
-    let es : Events = record { kinds = a .kinds .now; keys = a .keys .now; values = a .values .now; pitches = a .pitches .now; bends = a .bend-values .now } in
-    let l = c .before .before .before .before .before .before .before .before .before .before .before .before .before .before .before .before .loop in
-    let start = begun (view (c .before .before .before .before .before .before .before .before .before .before .before .before .before .before .before .before .before .before .start .result .tuner)) in
-    let r = c .before .before .before .before .before .before .before .before .before .before .before .before .before .play .result in
-    Going (a .out .now) (eventIn es) start (l .i + 1) (view (r .tuner)) (l .at + r .answer .count) (putMid (l .at) (length (l .out) - l .at) (l .out) (c .before .before .before .before .before .before .before .before .before .before .before .before .before .play .last .1 .1 .1 .1 .1 .1 .1 .0))
-    × (r .answer ≡ heardAt (length (a .out .now)) (eventIn es) start (l .i))
-turned c =
-    let g = c .before .before .before .before .before .before .before .before .before .before .before .before .before .before .before .before .loop .inv .1 in
-    let p = c .before .before .before .before .before .before .before .before .before .before .before .before .before .play .ensures in
-    (going-turn _ _ _ g p, going-heard _ _ _ g p)
-
-add-at : tie.Need-add-at Inv-loop μ-loop
-add-at c = omega (arith, turned c .0 .sent .within, c .before .before .before .before .before .before .before .before .before .before .before .before .before .before .before .before .before .before .before .before .before .before .before .before .before .before .before .before .before .good)
-
-add-i : tie.Need-add-i Inv-loop μ-loop
-add-i c = omega (arith, c .before .before .before .before .before .before .before .before .before .before .before .before .before .before .before .loop-test .taken, c .before .before .before .before .before .before .before .before .before .before .before .before .before .before .before .before .before .before .before .before .before .before .before .before .before .before .before .before .before .good)
-
-loop-less : tie.Need-loop-less Inv-loop μ-loop
-loop-less c = omega (arith, c .before .before .before .before .before .before .before .before .before .before .before .before .before .before .before .loop-test .taken)
-
-loop-again : tie.Need-loop-again Inv-loop μ-loop
-loop-again c =
-    let a = c .before .before .before .before .before .before .before .before .before .before .before .before .before .before .before .before .before .before .before .before .before .before .before .before .before .before .before .before .before .args in
-    let es : Events = record { kinds = a .kinds .now; keys = a .keys .now; values = a .values .now; pitches = a .pitches .now; bends = a .bend-values .now } in
-    let start = begun (view (c .before .before .before .before .before .before .before .before .before .before .before .before .before .before .before .before .before .before .start .result .tuner)) in
-    let inv = c .before .before .before .before .before .before .before .before .before .before .before .before .before .before .before .before .loop .inv in
-    let t = turned c in (
-      omega (arith, c .before .before .before .before .before .before .before .before .before .before .before .before .before .before .before .loop-test .taken),
-      t .0,
-      filled-turn (λ k. heardAt (length (a .out .now)) (eventIn es) start k .kind) (a .answer-kinds .now) _ _ _ _ (c .before .before .before .before .before .before .before .before .put-byte .ensures) (inv .2) (ap (λ (h : Heard). h .kind) (t .1)),
-      filled-turn (λ k. heardAt (length (a .out .now)) (eventIn es) start k .count) (a .answer-counts .now) _ _ _ _ (c .before .before .before .before .put-count .ensures) (inv .3) (ap (λ (h : Heard). h .count) (t .1)),
-    )
-
-list-refusal-requires : tie.Need-list-refusal-requires Inv-loop μ-loop
+list-refusal-requires : tie.Need-list-refusal-requires
 list-refusal-requires c κs = search needs
 
-same-length : tie.Need-same-length Inv-loop μ-loop
-same-length c = ap length (c .before .before .loop .inv .2) ∙ length-filled _ _ _
+is-result-requires : tie.Need-is-result-requires
+is-result-requires c κs = search needs
 
-same-length-2 : tie.Need-same-length-2 Inv-loop μ-loop
-same-length-2 c = ap length (c .before .before .loop .inv .3) ∙ length-filled _ _ _
+play-all-requires : tie.Need-play-all-requires
+play-all-requires c κs = search needs
 
-same-length-3 : tie.Need-same-length-3 Inv-loop μ-loop
-same-length-3 c = sent-length (c .before .before .loop .inv .1 .sent)
+same-length : tie.Need-same-length
+same-length c = search needs
 
-returns : tie.Need-returns Inv-loop μ-loop
+same-length-2 : tie.Need-same-length-2
+same-length-2 c = search needs
+
+same-length-3 : tie.Need-same-length-3
+same-length-3 c = search needs
+
+returns : tie.Need-returns
 returns c =
-    let a = c .before .before .before .before .before .before .before .before .before .before .before .before .before .before .before .args in
-    let cs = a .channels .now in
+    let a = c .before .before .before .before .before .before .before .before .before .before .before .before .before .before .before .before .before .before .before .before .before .before .before .before .before .args in
     let es : Events = record { kinds = a .kinds .now; keys = a .keys .now; values = a .values .now; pitches = a .pitches .now; bends = a .bend-values .now } in
-    let l = c .before .before .loop in
     let room = length (a .out .now) in
     let n = length (es .kinds) in
-    let all : l .i ≡ n = omega (arith, c .before .loop-test .left, l .inv .0) in
-    let fresh = c .before .before .before .before .start .ensures
-    ∙ ap (λ (k : TuningKind). startRule cs k (c .before .before .before .before .before .mode-of .result)) (c .before .before .before .before .before .before .kind-of .ensures)
-    ∙ ap (λ (m : PoolingMode). startRule cs (kindOf (a .bends)) m) (c .before .before .before .before .before .mode-of .ensures) in
-    let start = begun (view (c .before .before .before .before .start .result .tuner)) in
-    let state = ap (λ r. r .1) fresh in (
-      c .list-refusal .ensures ∙ ap (λ r. listRefusal (r .0)) fresh,
+    let fresh = c .before .before .before .before .before .before .before .before .before .before .before .before .before .before .start .ensures
+    ∙ ap (λ (k : TuningKind). startRule (a .channels .now) k (c .before .before .before .before .before .before .before .before .before .before .before .before .before .before .before .mode-of .result)) (c .before .before .before .before .before .before .before .before .before .before .before .before .before .before .before .before .kind-of .ensures)
+    ∙ ap (startRule (a .channels .now) (kindOf (a .bends))) (c .before .before .before .before .before .before .before .before .before .before .before .before .before .before .before .mode-of .ensures) in
+    let yes = sym (c .before .before .before .before .before .before .before .before .before .before .before .is-result .ensures) ∙ c .before .before .before .before .before .before .before .before .before .before .if1 .taken in
+    let state = ap (λ o. o .1) fresh in (
+      c .before .before .before .before .before .before .before .before .before .before .before .before .list-refusal .ensures ∙ ap (λ o. listRefusal (o .0) (equalLists es)) fresh,
       (
-        filled-all (λ k. heardAt room (eventIn es) start k .kind) (a .answer-kinds .now) _ _ _ (l .inv .2) all ∙ ap (λ (t : Tuner). filled (λ k. heardAt room (eventIn es) (begun t) k .kind) n (a .answer-kinds .now)) state,
-        filled-all (λ k. heardAt room (eventIn es) start k .count) (a .answer-counts .now) _ _ _ (l .inv .3) all ∙ ap (λ (t : Tuner). filled (λ k. heardAt room (eventIn es) (begun t) k .count) n (a .answer-counts .now)) state,
-        l .inv .1 .sent .out-is ∙ ap (λ (k : ℕ). written (wentBefore room (eventIn es) start k .bytes) (a .out .now)) all ∙ ap (λ (t : Tuner). written (wentBefore room (eventIn es) (begun t) n .bytes) (a .out .now)) state,
+        writes-from _ (λ (t : Tuner). filled (λ k. heardAt room (eventIn es) (begun t) k .kind) n) _ state yes (c .before .before .before .before .before .before .play-all .ensures .0),
+        writes-from _ (λ (t : Tuner). filled (λ k. heardAt room (eventIn es) (begun t) k .count) n) _ state yes (c .before .before .before .before .before .before .play-all .ensures .1),
+        writes-from _ (λ (t : Tuner). written (wentBefore room (eventIn es) (begun t) n .bytes)) _ state yes (c .before .before .before .before .before .before .play-all .ensures .2),
       ),
+    )
+
+returns-2 : tie.Need-returns-2
+returns-2 c =
+    let a = c .before .before .before .before .before .before .before .before .before .before .before .before .before .before .before .args in
+    let es : Events = record { kinds = a .kinds .now; keys = a .keys .now; values = a .values .now; pitches = a .pitches .now; bends = a .bend-values .now } in
+    let fresh = c .before .before .before .before .start .ensures
+    ∙ ap (λ (k : TuningKind). startRule (a .channels .now) k (c .before .before .before .before .before .mode-of .result)) (c .before .before .before .before .before .before .kind-of .ensures)
+    ∙ ap (startRule (a .channels .now) (kindOf (a .bends))) (c .before .before .before .before .before .mode-of .ensures) in
+    let no = sym (c .before .is-result .ensures) ∙ c .if1 .left in (
+      c .before .before .list-refusal .ensures ∙ ap (λ o. listRefusal (o .0) (equalLists es)) fresh,
+      (refused-leaves _ _ _ no, refused-leaves _ _ _ no, refused-leaves _ _ _ no),
     )
 
 pub tune-pool-tuner-spec : {M : Type 1} → statement M
 tune-pool-tuner-spec =
     tie.close
     (tie.spec
-    Inv-loop
-    μ-loop
     kind-of-requires
     mode-of-requires
     start-requires
-    loop-holds
-    sub-play
-    part-play-start
-    part-play-end
-    play-requires
-    put-byte-requires
-    put-count-requires
-    add-at
-    add-i
-    loop-less
-    loop-again
     list-refusal-requires
+    is-result-requires
+    play-all-requires
     same-length
     same-length-2
     same-length-3
-    returns)
+    returns
+    returns-2)
