@@ -1,9 +1,8 @@
 -- What an accepted press was made of: the nearest note of its pitch, and the detuning from it, which lies from 0.96 to 1.04. Assumes nothing.
 use mathlib.Core.Path.{_≡_, sym, ap, subst, _∙_}
 use mathlib.Core.Bool.{not}
-use mathlib.Core.Option.{Option, some, none}
+use mathlib.Core.Option.{Option}
 use Prim.Native.Nat.{ℕ}
-use native.Mathlib.Omega.{arith}
 use lib.Dec.{T}
 use lib.IntN.{ℤ}
 use lib.Ieee.{Float}
@@ -12,20 +11,12 @@ use Rattle.arithmetic.specs.Pitch.{isPitch, detuningOf}
 use Rattle.arithmetic.specs.Nearest.{nearestNote}
 use Rattle.arithmetic.proofs.Close.{nearest-close}
 use Rattle.arithmetic.proofs.Nearest.{nearest-detuning}
-use Rattle.models.specs.Lists.{first}
-use Rattle.models.specs.Pool.{State, Press, accepted, pool, found, roomFor, pressedOn, pressed, unlessHeld, registerRule, isHeld}
+use Rattle.models.specs.Pool.{State, Press, accepted, found, pressed, unlessHeld, registerRule, isHeld}
 use Rattle.models.specs.Steps.{valueOf, sentAs, StepBound}
 use Rattle.models.specs.declared.steps.TuningKind.{TuningKind}
+use Rattle.models.proofs.PoolPresses.{made-with}
 use Rattle.models.proofs.Pools.{value-by}
 use Rattle.models.proofs.StepBounds.{sent-law}
-
-made-with : (s : State) (key : ℕ) (note : ℤ) (v : Float) {c : ℕ} {st : Option ℤ} {z : ℤ} {d : Float} → pressed s key note v .0 ≡ accepted c st z d → (z ≡ note) × (d ≡ v)
-unfolding pressed pressedOn
-made-with s key note v {c} {st} {z} {d} = go (first (pool (roomFor s note .state) note .free))
-  where
-    go : (x : Option ℕ) → pressedOn x (roomFor s note) s key note v .0 ≡ accepted c st z d → (z ≡ note) × (d ≡ v)
-    go (some x) e = (let f : z ≡ note = cc in f, let f : d ≡ v = cc in f)
-    go none e = let f : _≡_ {A = ℕ} 0 1 = cc in absurd (omega arith)
 
 module _
     (s : State) (key : ℕ) (hz : Float) {c : ℕ} {st : Option ℤ} {z : ℤ} {d : Float} {u : State}

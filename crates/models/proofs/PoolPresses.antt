@@ -35,12 +35,13 @@ measurable : (hz : Float) (z : ℤ) → isPitch hz ≡ true → isNote z ≡ tru
 measurable hz z p n = true-of (positive (detuningOf hz z)) (detuning-positive hz z (subst T (sym p) tt) n)
 
 -- an accepted press answers the detuning that it was made with
-same-detuning : (s : State) (key : ℕ) (note : ℤ) (v : Float) {c : ℕ} {st : Option ℤ} {z : ℤ} {d : Float} → pressed s key note v .0 ≡ accepted c st z d → v ≡ d
+-- an accepted press answers the note and the detuning it was made with
+pub made-with : (s : State) (key : ℕ) (note : ℤ) (v : Float) {c : ℕ} {st : Option ℤ} {z : ℤ} {d : Float} → pressed s key note v .0 ≡ accepted c st z d → (z ≡ note) × (d ≡ v)
 unfolding pressed pressedOn
-same-detuning s key note v {c} {st} {z} {d} = go (first (pool (roomFor s note .state) note .free))
+made-with s key note v {c} {st} {z} {d} = go (first (pool (roomFor s note .state) note .free))
   where
-    go : (x : Option ℕ) → pressedOn x (roomFor s note) s key note v .0 ≡ accepted c st z d → v ≡ d
-    go (some x) e = cc
+    go : (x : Option ℕ) → pressedOn x (roomFor s note) s key note v .0 ≡ accepted c st z d → (z ≡ note) × (d ≡ v)
+    go (some x) e = (let f : z ≡ note = cc in f, let f : d ≡ v = cc in f)
     go none e = let f : _≡_ {A = ℕ} 0 1 = cc in absurd (omega arith)
 
 pub press-measurable :
@@ -53,7 +54,7 @@ press-measurable s key hz {r} e a =
     let tested = value-by 1 r (isPitch hz) (unlessHeld s key note v) (sym e) in
     let new = value-by 11 r (not (isHeld (found s key))) (value (pressed s key note v)) (tested .1) in
     let same : pressed s key note v ≡ r = cc in
-    rw (← (same-detuning s key note v (ap (λ x. x .0) same ∙ a))) (measurable hz note (tested .0) (nearest-is-note hz (subst T (sym (tested .0)) tt)))
+    rw (made-with s key note v (ap (λ x. x .0) same ∙ a) .1) (measurable hz note (tested .0) (nearest-is-note hz (subst T (sym (tested .0)) tt)))
 
 -- a key that is not held is not found
 not-held : (o : Option Place) → not (isHeld o) ≡ true → o ≡ none

@@ -254,6 +254,26 @@ fn refusals() {
     look(model, 1);
 }
 
+// What a press and a release tell, done to the model, then again, and to another.
+fn changes() {
+    let model = open(b"changes", &[0, 1], PoolGroupBy::Channel, PoolingMode::Stop);
+    let pressing = model.press(1, Pitch::from_hz(440.0));
+    let pressed = pressing.change;
+    let once = model.changed(pressed);
+    look(once, 1);
+    let twice = once.changed(pressed);
+    let twice = press(twice, 2, 450.0);
+    let releasing = twice.release(1);
+    let released = releasing.change;
+    let free = twice.changed(released).changed(released);
+    look(free, 1);
+    let free = press(free, 3, 460.0);
+    let stolen = free.changed(pressed);
+    look(stolen, 1);
+    look(stolen, 2);
+    press(stolen, 4, 470.0);
+}
+
 fn main() {
     examples();
     block();
@@ -261,4 +281,5 @@ fn main() {
     letters();
     no_channels();
     refusals();
+    changes();
 }

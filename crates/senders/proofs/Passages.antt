@@ -89,7 +89,8 @@ played-pool t (c ∷ cs) =
 
 -- ---- the theorems
 
-listed : (l : List ℕ) (i : ℕ) → i < length l → (ch : ℕ) × (getElem? l i ≡ some ch)
+-- an entry of a list that is long enough
+pub listed : (l : List ℕ) (i : ℕ) → i < length l → (ch : ℕ) × (getElem? l i ≡ some ch)
 listed [] i h = absurd (omega arith)
 listed (x ∷ l) zero h = (x, refl)
 listed (x ∷ l) (suc i) h = listed l i (omega arith)

@@ -41,9 +41,8 @@ use Rattle.senders.specs.Retuning.{Lists, notes, pitches, tuneRule, line
 use Rattle.senders.specs.declared.tuner.NoteMessage.the-variants.{On}
 use Rattle.senders.specs.declared.aot.AotTuner.{AotTuner}
 use Rattle.senders.proofs.BothTuners.{key-received}
-use Rattle.senders.proofs.Channels.{has-entry}
 use Rattle.senders.proofs.Lent.{accepted}
-use Rattle.senders.proofs.Passages.{handed-back}
+use Rattle.senders.proofs.Passages.{handed-back, listed}
 use Rattle.senders.proofs.Received.{tuned-value}
 use Rattle.senders.proofs.PlanTuner.{Sound, started-sound, planned-kept, plan-tunes}
 
@@ -179,13 +178,6 @@ result s back (value lines) {old} {new} {n} {w} call = by (planned (tuner s .pla
 lists-accepted : (lists : Lists) (lines : List Line) → Typed lists → linesOf lists ≡ value lines → Accepted lines
 lists-accepted (notes ks ns ds) lines ok e = notes-accepted ks ns ds lines (ok .0) (ok .1) e
 lists-accepted (pitches ks hzs) lines ok e = pitches-accepted ks hzs lines ok e
-
-listed : (l : List ℕ) (i : ℕ) → i < length l → (ch : ℕ) × (getElem? l i ≡ some ch)
-listed l i h = by (getElem? l i) refl
-  where
-    by : (o : Option ℕ) → getElem? l i ≡ o → (ch : ℕ) × (o ≡ some ch)
-    by (some ch) e = (ch, refl)
-    by none e = has-entry l i h e
 
 -- ---- what a tuning comes to
 
