@@ -6,6 +6,7 @@ pub mod Tables
 pub mod Notes
 pub mod Pitches
 pub mod FloatDivision
+pub mod Boundaries
 pub mod Bounds
 pub mod Measure
 pub mod Scaled

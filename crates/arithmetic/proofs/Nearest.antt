@@ -38,27 +38,16 @@ shifted-fits : (z : ℤ) → mag z < 2 ^ 40 → SFits w32 (quotient z (2 ^ 24))
 shifted-fits (pos n) h = record { sfits = omega arith }
 shifted-fits (negsuc n) h = record { sfits = omega arith }
 
--- ---- a small number z moved by a small step y fits its type, and so does that shifted by 24 places
+-- ---- a small number z moved by a small step y
 module _ (z y : ℤ) (f : mag z < 2 ^ 39) (g : mag y < 2 ^ 31) where
   moved-small : mag (z +ℤ y) < 2 ^ 40
   moved-small =
       small-by (2 ^ 40) (z +ℤ y) (plus z + plus y) (less z + less y) (add-parts z y)
       (omega (arith, small-parts z, small-parts y)) (omega (arith, small-parts z, small-parts y))
 
-  pub moved-fits : SFits w64 (z +ℤ y)
-  moved-fits = record { sfits = omega (arith, moved-small) }
-
-  pub moved-shifted : SFits w32 (toZ w64 (ofZ w64 (quotient (toZ w64 (ofZ w64 (z +ℤ y))) (2 ^ 24))))
-  moved-shifted =
-      let s = shifted-fits (z +ℤ y) moved-small in
-      rw (toZ-ofZ w64 (z +ℤ y) moved-fits, toZ-ofZ w64 (quotient (z +ℤ y) (2 ^ 24)) (sfits-widen {w = w32} {w′ = w64} tt s)) s
-
--- ---- what the code computes of a measure l that fits an i32 fits its type
+-- ---- the semitones of a measure l that fits an i32 fit one too
 module _ (l : ℤ) (f : SFits w32 l) where
-  pub product-fits : SFits w64 (l *ℤ pos 12)
-  product-fits = fits-by w64 (l *ℤ pos 12) (plus l * 12) (less l * 12) (mul-parts l 12) (omega (arith, fits-parts w32 l f)) (omega (arith, fits-parts w32 l f))
-
-  pub raised-small : mag (l *ℤ pos 12 +ℤ pos 8388608) < 2 ^ 39
+  raised-small : mag (l *ℤ pos 12 +ℤ pos 8388608) < 2 ^ 39
   raised-small =
       small-by (2 ^ 39) (l *ℤ pos 12 +ℤ pos 8388608) (plus l * 12 + 8388608) (less l * 12)
       (omega (arith, mul-parts l 12, add-parts (l *ℤ pos 12) (pos 8388608)))

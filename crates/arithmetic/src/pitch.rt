@@ -7,7 +7,9 @@ ghost use lib.IntN.{pos, _-ℤ_};
 ghost use lib.Ieee.{fin, binary64, div, le, lt};
 ghost use Rattle.arithmetic.specs.Pitch.{isPitch, negligible};
 ghost use Rattle.arithmetic.specs.Measure.{digits, measure, measureRule};
+ghost use Rattle.arithmetic.specs.Outcome.{value};
 ghost use Rattle.arithmetic.specs.Answers.{measured};
+ghost use Rattle.arithmetic.specs.Inside.{Writes};
 use crate::refusal::NOT_MEASURABLE;
 
 // A pitch in Hz. It holds any f64; what needs one from 2^-20 to 2^40 refuses (1) others.
@@ -79,6 +81,13 @@ pub enum Measured {
     Refused(u8),
 }
 
+// A positive finite number from 2^(octave - 1074) on and below twice that, with its first 32 digits in base 2.
+pub(crate) enum Binary {
+    Digits { octave: u64, first: u64 },
+    // Of any other.
+    Nothing,
+}
+
 impl Ratio {
     pub fn from_float(float_value: f64) -> Ratio
         ensures { λ r. ⌜ r .«float_value» ≡ «float_value» ⌝ }
@@ -136,35 +145,46 @@ impl Ratio {
     pub fn measure(self) -> Measured
         ensures { λ r. ⌜ measured r ≡ measureRule (self .«float_value») ⌝ }
     {
+        match self.binary() {
+            Binary::Digits { octave, first } => {
+                let level = octave * 0x100_0000 + squarings(first);
+                Measured::Measure((level as i64) - 1074 * 0x100_0000)
+            }
+            Binary::Nothing => Measured::Refused(NOT_MEASURABLE),
+        }
+    }
+
+    // The first digits of a ratio that is positive and finite.
+    pub(crate) fn binary(self) -> Binary
+        ensures { λ r. ⌜ Writes r (measureRule (self .«float_value»)) ⌝ }
+    {
         let v = self.float_value;
         if v > 0.0 {
             let bits = f64::to_bits(v);
             let exponent = bits / 0x10_0000_0000_0000;
             let fraction = bits % 0x10_0000_0000_0000;
             if exponent == 0 {
-                return Measured::Measure(measure_scaled(fraction, 0));
+                return first_digits(fraction, 0);
             }
             if exponent < 2047 {
-                return Measured::Measure(measure_scaled(
-                    fraction + 0x10_0000_0000_0000,
-                    exponent - 1,
-                ));
+                return first_digits(fraction + 0x10_0000_0000_0000, exponent - 1);
             }
         }
-        Measured::Refused(NOT_MEASURABLE)
+        Binary::Nothing
     }
 }
 
-// The measure of m * 2^(k - 1074).
-fn measure_scaled(m: u64, k: u64) -> i64
+// The first digits of m * 2^(k - 1074).
+fn first_digits(m: u64, k: u64) -> Binary
     requires { ⌜ (0 < m) × (m < 2 ^ 53) × (k < 2046) ⌝ }
-    ensures { λ r. ⌜ r ≡ measure (fin false m (pos k -ℤ pos 1074)) ⌝ }
+    ensures { λ r. ⌜ Writes r (value (measure (fin false m (pos k -ℤ pos 1074)))) ⌝ }
 {
     let zeros = u64::leading_zeros(m) as u64;
     let first = (m << zeros) / 0x1_0000_0000;
-    let written = squarings(first);
-    let level = (k + 63 - zeros) * 0x100_0000 + written;
-    (level as i64) - 1074 * 0x100_0000
+    Binary::Digits {
+        octave: k + 63 - zeros,
+        first,
+    }
 }
 
 // The 24 digits of y, the first highest.

@@ -2,20 +2,19 @@
 
 ghost use mathlib.Core.Path.{_≡_};
 ghost use mathlib.Core.Bool.{true};
-ghost use Prim.Native.Nat.{_<_};
-ghost use lib.IntN.{pos, negsuc, _+ℤ_};
+ghost use Prim.Native.Nat.{_+_, _*_, _^_, _<_};
+ghost use lib.IntN.{pos, negsuc, _+ℤ_, _-ℤ_};
 ghost use lib.Signed.{_≤ℤ_};
-ghost use mir.Syntax.{w32};
-ghost use mir.Val.{SFits};
 ghost use Rattle.arithmetic.specs.Note.{isNote};
 ghost use Rattle.arithmetic.specs.Pitch.{isPitch, octavePitch, factor, pitchOf, pitchRule, detuningRule};
-ghost use Rattle.arithmetic.specs.Nearest.{semitones, nearestNote, nearestRule};
+ghost use Rattle.arithmetic.specs.Measure.{digits};
+ghost use Rattle.arithmetic.specs.Nearest.{semitones, within, nearestNote, nearestRule};
 ghost use Rattle.arithmetic.specs.Answers.{pitchAnswer, ratioAnswer, approximation};
 use crate::math::i32_div_u;
 use crate::math::i32_rem_u;
 use crate::note::A4;
 use crate::note::is_note;
-use crate::pitch::Measured;
+use crate::pitch::Binary;
 use crate::pitch::Pitch;
 use crate::pitch::Ratio;
 use crate::refusal::NOTE_OUT_OF_RANGE;
@@ -42,11 +41,22 @@ pub enum Approximation {
 
 const A4_HZ: f64 = 440.0;
 
-// Half a semitone in steps of the measure times 12.
-const HALF_SEMITONE: i64 = 8388608;
-
-// A pitch so little above the middle of two notes goes to the lower one: 1.000001 as a ratio.
-const ROUND_TO_LOWER_STEP: i64 = 290;
+// Where the nearest note changes within an octave: the least numbers of 32 binary digits whose measure, times 12, has come to the middle of two notes and 290
+// steps more, 1.000001 as a ratio. A pitch so little above the middle goes to the lower note.
+const BOUNDARIES: [u64; 12] = [
+    2210411945,
+    2341849944,
+    2481103554,
+    2628637612,
+    2784944615,
+    2950545999,
+    3125994551,
+    3311875951,
+    3508810295,
+    3717454961,
+    3938506445,
+    4172702168,
+];
 
 // 440 Hz times 2^j, j from -31 to 35.
 const OCTAVE_PITCHES: [f64; 67] = [
@@ -170,25 +180,42 @@ pub fn find_by_pitch(pitch: Pitch) -> Approximation
     Approximation::Nearest(note, deviation.as_float())
 }
 
-// The note nearest to a pitch in range, by the measure of the ratio to A4.
+// The note nearest to a pitch in range, by the first digits of the ratio to A4.
 fn nearest_note(pitch: Pitch) -> i32
     requires { ⌜ isPitch (pitch .hz) ≡ true ⌝ }
     ensures { λ r. ⌜ r ≡ nearestNote (pitch .hz) ⌝ }
 {
     let over_a4 = Ratio::between_pitches(Pitch::from_hz(A4_HZ), pitch);
-    let Measured::Measure(l) = over_a4.measure() else {
+    let Binary::Digits { octave, first } = over_a4.binary() else {
         // Not reached: a pitch over 440 Hz is positive and finite.
         return A4;
     };
-    A4 + semitones(l)
+    A4 + semitones(octave, first)
 }
 
-// How many semitones above A4 the nearest note is, from the measure of the ratio to A4. The shift rounds down.
-fn semitones(l: i64) -> i32
-    requires { ⌜ SFits w32 l ⌝ }
-    ensures { λ r. ⌜ r ≡ semitones l ⌝ }
+// How many semitones above A4 the nearest note is.
+fn semitones(octave: u64, first: u64) -> i32
+    requires { ⌜ (octave < 2 ^ 12) × (first < 2 ^ 32) ⌝ }
+    ensures { λ r. ⌜ r ≡ semitones (pos (octave * 2 ^ 24 + digits 24 first) -ℤ pos (1074 * 2 ^ 24)) ⌝ }
 {
-    ((l * 12 + HALF_SEMITONE - ROUND_TO_LOWER_STEP) >> 24) as i32
+    let above = octave * 12 + within(first);
+    (above as i32) - 1074 * 12
+}
+
+// The part of them within an octave: how many boundaries the first digits have come to.
+fn within(first: u64) -> u64
+    requires { ⌜ first < 2 ^ 32 ⌝ }
+    ensures { λ r. ⌜ r ≡ within first ⌝ }
+{
+    let mut passed: u64 = 0;
+    let mut i: usize = 0;
+    while i < 12 {
+        if first >= BOUNDARIES[i] {
+            passed += 1;
+        }
+        i += 1;
+    }
+    passed
 }
 
 // The pitch of a note: that of A4, moved by whole octaves and then by up to 11 semitones.

@@ -1,68 +1,58 @@
--- `arithmetic::tuning::semitones` meets its contract: each of the machine's results fits, whatever the two steps are, so it is read back as it was.
--- Assumes nothing.
-use mathlib.Core.Path.{_≡_, _∙_}
-use Prim.Native.Nat.{_^_, _<_}
-use lib.Dec.{lit<}
+-- `tuning::semitones` meets its contract: octaves of 12, and what is within one; each of the machine's results fits. Assumes nothing.
+use mathlib.Core.Path.{_≡_, sym, ap, _∙_}
+use Prim.Native.Nat.{ℕ, _+_, _*_, _^_, _<_}
 use native.Mathlib.Omega.{arith}
-use lib.IntN.{ℤ, pos, negsuc, _+ℤ_, _-ℤ_, _*ℤ_}
-use lib.Signed.{mag}
-use mir.Syntax.{w32, w64}
+use lib.Dec.{lit≤}
+use lib.IntN.{ℤ, pos, _-ℤ_}
+use mir.Syntax.{w32}
 use mir.Val.{SFits, toZ, ofZ}
-use mir.ValLaws.{toZ-ofZ}
-use mir.Facts.{sfits-widen}
-use Rattle.arithmetic.specs.Division.{quotient}
-use Rattle.arithmetic.specs.Nearest.{semitones}
-use Rattle.arithmetic.proofs.Nearest.{product-fits, raised-small, moved-fits, moved-shifted, semitones-fits}
+use mir.Facts.{toZ-pos, toZ-ofZ}
+use Rattle.arithmetic.proofs.Integers.{mag-sub}
+use Rattle.arithmetic.proofs.Boundaries.{within-small, split}
+use borrow.Author.Needs.{needs}
 use Rattle.arithmetic.proofs.tuning.semitones.Statement.{statement}
 use Rattle.arithmetic.proofs.tuning.semitones.Tie as tie
 
--- each step of the machine, read back
-module _ (c : tie.Start) where
-  abbrev l : ℤ
-  l = c .args .l
+-- the sum before the subtraction
+level : tie.After-within → ℕ
+level c = c .before .args .octave * 12 + c .within .result
 
-  product : toZ w64 (ofZ w64 l) *ℤ pos 12 ≡ l *ℤ pos 12
-  product = rw (toZ-ofZ w64 l (c .fits .l))
+level-small : (c : tie.After-within) → level c < 2 ^ 31
+unfolding level
+level-small c = omega (arith, c .within .ensures, within-small (c .before .args .first), c .before .pre .0)
 
-  raised : toZ w64 (ofZ w64 (toZ w64 (ofZ w64 l) *ℤ pos 12)) +ℤ pos 8388608 ≡ l *ℤ pos 12 +ℤ pos 8388608
-  raised = rw (product, toZ-ofZ w64 (l *ℤ pos 12) (product-fits l (c .pre)))
+difference-fits : (c : tie.After-within) → SFits w32 (toZ w32 (level c) -ℤ pos (1074 * 12))
+difference-fits c = rw (toZ-pos w32 (level-small c)) (record { sfits = mag-sub (level c) (1074 * 12) (2 ^ 31) (level-small c) (lit≤ tt) })
 
-  raised-fits : SFits w64 (l *ℤ pos 12 +ℤ pos 8388608)
-  raised-fits = record { sfits = omega (arith, raised-small l (c .pre)) }
+mul-above : tie.Need-mul-above
+mul-above c = search needs
 
-  abbrev held : ℤ
-  held = toZ w64 (ofZ w64 (toZ w64 (ofZ w64 (toZ w64 (ofZ w64 l) *ℤ pos 12)) +ℤ pos 8388608))
+within-requires : tie.Need-within-requires
+within-requires c κs = search needs
 
-  held-is : held ≡ l *ℤ pos 12 +ℤ pos 8388608
-  held-is = rw raised (toZ-ofZ w64 (l *ℤ pos 12 +ℤ pos 8388608) raised-fits)
-
-  held-small : mag held < 2 ^ 39
-  held-small = rw held-is (raised-small l (c .pre))
-
-  back : toZ w64 (ofZ w64 (semitones l)) ≡ semitones l
-  back = toZ-ofZ w64 (semitones l) (sfits-widen {w = w32} {w′ = w64} tt (semitones-fits l (c .pre)))
-
-mul-result : tie.Need-mul-result
-mul-result c = rw (product c) (product-fits (l c) (c .pre))
-
-add-result : tie.Need-add-result
-add-result c = rw (raised c) (raised-fits c)
-
-sub-result : tie.Need-sub-result
-sub-result c = moved-fits (held c) _ (held-small c) (lit< tt)
-
--- what the machine answers
-answer-is : (c : tie.Start) → toZ w32 (ofZ w32 (toZ w64 (ofZ w64 (quotient (toZ w64 (ofZ w64 (held c -ℤ pos 290))) (2 ^ 24))))) ≡ semitones (l c)
-unfolding semitones
-answer-is c =
-    rw (held-is c, toZ-ofZ w64 (l c *ℤ pos 12 +ℤ pos 8388608 -ℤ pos 290) (moved-fits (l c *ℤ pos 12 +ℤ pos 8388608) (negsuc 289) (raised-small (l c) (c .pre)) (lit< tt)), back c)
-    (toZ-ofZ w32 (semitones (l c)) (semitones-fits (l c) (c .pre)))
-
-returns : tie.Need-returns
-returns c = answer-is c
+add-above : tie.Need-add-above
+unfolding level
+add-above c = record { fits = omega (arith, level-small c) }
 
 cast-result : tie.Need-cast-result
-cast-result c = moved-shifted (held c) _ (held-small c) (lit< tt)
+unfolding level
+cast-result c = record { sfits = level-small c }
+
+mul-result : tie.Need-mul-result
+mul-result c = search needs
+
+sub-result : tie.Need-sub-result
+unfolding level
+sub-result c = difference-fits c
+
+returns : tie.Need-returns
+unfolding level
+returns c =
+    let a = c .before .args in
+    toZ-ofZ (difference-fits c)
+    ∙ ap (λ (x : ℤ). x -ℤ pos (1074 * 12)) (toZ-pos w32 (level-small c))
+    ∙ ap (λ (x : ℕ). pos (a .octave * 12 + x) -ℤ pos (1074 * 12)) (c .within .ensures)
+    ∙ sym (split (a .octave) (a .first))
 
 pub semitones-spec : {M : Type 1} → statement M
-semitones-spec = tie.close (tie.spec mul-result add-result sub-result cast-result returns)
+semitones-spec = tie.close (tie.spec mul-above within-requires add-above cast-result mul-result sub-result returns)
