@@ -1,23 +1,20 @@
 -- The nearest note: what the code computes of a measure fits, and for every pitch the measure is small and the note is from -276 to 444.
 -- Assumes nothing.
 use mathlib.Core.Path.{_≡_, refl, sym, ap, _∙_, subst}
-use mathlib.Core.Bool.{Bool, true, false, _&&_, cond}
-use Prim.Native.Nat.{ℕ, suc, _+_, _*_, _/_, _^_, _≤_, _<_, zero-le}
-use native.Mathlib.Nat.{le-of-eq, lt-of-le-of-lt, lt-of-lt-of-le, lt-of-not-le, not-le-of-lt, lt-of-mul-lt-mul-right, mul-right-comm, mul-comm, mul-le-mul-right, mul-lt-mul-of-pos-right, pow-le-pow-left, pow-lt-pow-left, one-le-pow, le-of-suc-le-suc}
+use mathlib.Core.Bool.{true}
+use Prim.Native.Nat.{ℕ, _+_, _*_, _/_, _^_, _≤_, _<_}
+use native.Mathlib.Nat.{le-of-eq, lt-of-le-of-lt, lt-of-lt-of-le, lt-of-not-le, not-le-of-lt, lt-of-mul-lt-mul-right, mul-right-comm, mul-comm, mul-le-mul-right, mul-lt-mul-of-pos-right, pow-le-pow-left, pow-lt-pow-left, one-le-pow}
 use native.Mathlib.Omega.{arith}
-use lib.Dec.{T, lit<, lit≤, le→leb}
-use borrow.Author.Tests.{le-leb}
+use lib.Dec.{T, lit<, lit≤}
 use lib.Pow.{pow-pos, pow-add, pow-mono}
 use lib.Ieee.{Float, up, down, binary64, div, le}
 use lib.Ieee.Fits.{and-l, and-r}
 use lib.Ieee.Bits.{is-true}
 use lib.Ieee.Positive.{num, den, den-pos, positive, le→cross, cross→le, through, between}
 use lib.IntN.{ℤ, pos, negsuc, _+ℤ_, _-ℤ_, _*ℤ_}
-use lib.Signed.{mag, mag-shr, _≤ℤ_}
-use mir.Syntax.{w32, w64}
-use mir.Val.{SFits, toZ, ofZ}
-use mir.ValLaws.{sfits-le, toZ-ofZ}
-use mir.Facts.{sfits-widen}
+use lib.Signed.{mag, _≤ℤ_}
+use mir.Syntax.{w32}
+use mir.Val.{SFits}
 use Rattle.arithmetic.specs.Outcome.{Outcome, value, refused}
 use Rattle.arithmetic.specs.Division.{quotient}
 use Rattle.arithmetic.specs.Measure.{measure, measureRule}

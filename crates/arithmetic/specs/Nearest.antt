@@ -1,5 +1,5 @@
 -- The note nearest to a pitch (document 01, "Nearest note"). Assumes nothing.
-use Prim.Native.Nat.{ℕ, _+_, _*_, _/_, _^_}
+use Prim.Native.Nat.{ℕ, _^_}
 use lib.IntN.{ℤ, pos, _+ℤ_, _-ℤ_, _*ℤ_}
 use lib.Ieee.{Float, binary64, div}
 use Rattle.arithmetic.specs.Refusal.{pitchOutOfRange}
@@ -7,7 +7,7 @@ use Rattle.arithmetic.specs.Outcome.{Outcome, value, refuse_unless_then_
 use Rattle.arithmetic.specs.Division.{quotient}
 use Rattle.arithmetic.specs.Note.{a4}
 use Rattle.arithmetic.specs.Pitch.{isPitch, a4Pitch, detuningOf}
-use Rattle.arithmetic.specs.Measure.{digits, measure}
+use Rattle.arithmetic.specs.Measure.{measure}
 use Rattle.arithmetic.specs.Powers.{Above, Below}
 
 -- half a semitone, in the steps of 12 L: 2 ^ 23
@@ -21,10 +21,6 @@ roundToLowerStep = pos 290
 -- how many semitones above A4, from the measure L of the pitch over A4's: (12 × L + 8,388,608 - 290) divided by 2^24, rounded down
 unfoldable pub semitones : ℤ → ℤ
 semitones l = quotient (l *ℤ pos 12 +ℤ halfSemitone -ℤ roundToLowerStep) (2 ^ 24)
-
--- the part of them within an octave, from the first 32 bits y: from 0 to 12
-unfoldable pub within : ℕ → ℕ
-within y = (digits 24 y * 12 + 8388318) / 2 ^ 24
 
 -- "v is hz divided by 440 in f64"
 unfoldable pub overA4 : Float → Float

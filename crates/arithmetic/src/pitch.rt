@@ -147,6 +147,7 @@ impl Ratio {
     {
         match self.binary() {
             Binary::Digits { octave, first } => {
+                // An octave has 2^24 steps, and octaves are counted from 2^-1074, the smallest positive f64.
                 let level = octave * 0x100_0000 + squarings(first);
                 Measured::Measure((level as i64) - 1074 * 0x100_0000)
             }

@@ -8,7 +8,8 @@ ghost use lib.Signed.{_≤ℤ_};
 ghost use Rattle.arithmetic.specs.Note.{isNote};
 ghost use Rattle.arithmetic.specs.Pitch.{isPitch, octavePitch, factor, pitchOf, pitchRule, detuningRule};
 ghost use Rattle.arithmetic.specs.Measure.{digits};
-ghost use Rattle.arithmetic.specs.Nearest.{semitones, within, nearestNote, nearestRule};
+ghost use Rattle.arithmetic.specs.Nearest.{semitones, nearestNote, nearestRule};
+ghost use Rattle.arithmetic.specs.Inside.{within};
 ghost use Rattle.arithmetic.specs.Answers.{pitchAnswer, ratioAnswer, approximation};
 use crate::math::i32_div_u;
 use crate::math::i32_rem_u;
@@ -199,6 +200,7 @@ fn semitones(octave: u64, first: u64) -> i32
     ensures { λ r. ⌜ r ≡ semitones (pos (octave * 2 ^ 24 + digits 24 first) -ℤ pos (1074 * 2 ^ 24)) ⌝ }
 {
     let above = octave * 12 + within(first);
+    // Octaves are counted from 2^-1074, the smallest positive f64.
     (above as i32) - 1074 * 12
 }
 

@@ -18,7 +18,7 @@ use Rattle.exports.specs.Lent.{zeroFloat, byteAt, floatAt}
 use Rattle.exports.specs.declared.pool.Answer.{Answer}
 use Rattle.exports.specs.declared.pool.Played.{Played}
 
--- ---- the settings, by number
+-- ---- the settings, by number: any number from 2 on is Ignore
 
 unfoldable pub groupOf : Bool → PoolGroupBy
 groupOf letters = cond letters NoteLetter Channel

@@ -16,7 +16,7 @@ use Rattle.exports.specs.Returned.{unlessRefused}
 use Rattle.exports.specs.declared.plan.Seat.{Seat}
 use Rattle.exports.specs.declared.plan.Entry.{Entry}
 
--- what is retuned together, by number
+-- what is retuned together, by number: any from 2 on is a whole channel
 unfoldable pub groupOf : ℕ → GroupBy
 groupOf number = cond (eqb number 0) Note (cond (eqb number 1) NoteLetter Channel)
 

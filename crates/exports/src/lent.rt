@@ -48,7 +48,7 @@ pub(crate) fn put_byte(out: &mut [u8], i: usize, x: u8)
     }
 }
 
-pub(crate) fn put_fine(out: &mut [u16], i: usize, x: u16)
+pub(crate) fn put_short(out: &mut [u16], i: usize, x: u16)
     ensures { λ _. ⌜ now (out .exit) ≡ set (now (out .entry)) i x ⌝ }
 {
     if i < out.len() {

@@ -10,9 +10,9 @@ ghost use Rattle.exports.specs.Numbers.{foundNote, refusalOf, fineOf, be
 use crate::lent::float_at;
 use crate::lent::put_bend;
 use crate::lent::put_byte;
-use crate::lent::put_fine;
 use crate::lent::put_float;
 use crate::lent::put_number;
+use crate::lent::put_short;
 use arithmetic::pitch::Pitch;
 use arithmetic::tuning::Approximation;
 use arithmetic::tuning::find_by_pitch;
@@ -70,7 +70,7 @@ pub extern "C" fn tune_values(
         let fine = tuning_of(TuningKind::FineTuning, detuning);
         let bend = tuning_of(TuningKind::Bend, detuning);
         put_byte(refusals, i, refusal_of(fine));
-        put_fine(fines, i, fine_of(fine));
+        put_short(fines, i, fine_of(fine));
         put_bend(bends, i, bend_of(bend));
         i += 1;
     }

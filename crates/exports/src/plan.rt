@@ -12,9 +12,9 @@ ghost use Rattle.exports.specs.Plans.{groupOf, kindOf, countOf, seatOf, 
 use crate::lent::byte_at;
 use crate::lent::number_at;
 use crate::lent::put_byte;
-use crate::lent::put_fine;
 use crate::lent::put_float;
 use crate::lent::put_number;
+use crate::lent::put_short;
 use crate::returned::DONE;
 use crate::returned::UNTUNED;
 use crate::returned::is_result;
@@ -44,7 +44,7 @@ struct Entry {
     detuning: f64,
 }
 
-// Opens a model on a channel list, for 0 notes, 1 letters or 2 whole channels, and plans keys with their notes and detunings. Writes the count of
+// Opens a model on a channel list, for 0 notes, 1 letters or any other number whole channels, and plans keys with their notes and detunings. Writes the count of
 // channels, and the channel and the note of each key that is asked for. Returns 0 for tuned, 20 for untuned, or the refusal: the channel list's, then
 // the plan's.
 #[no_mangle]
@@ -191,7 +191,7 @@ fn tell_seats(
 {
     let kind = kind_of(refusal, answer);
     if is_result(kind) {
-        put_fine(count, 0, count_of(answer));
+        put_short(count, 0, count_of(answer));
         look_up(model, asked, seat_channels, seat_notes);
     }
     kind

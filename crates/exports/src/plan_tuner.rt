@@ -14,7 +14,7 @@ use crate::lent::bend_at;
 use crate::lent::byte_at;
 use crate::lent::put_byte;
 use crate::lent::put_count;
-use crate::lent::put_fine;
+use crate::lent::put_short;
 use crate::message::Heard;
 use crate::message::SENT;
 use crate::message::kind_of;
@@ -165,7 +165,7 @@ fn play_all(
         let answer = played.answer;
         put_byte(answer_kinds, i, answer.kind);
         put_count(answer_counts, i, answer.count);
-        put_fine(answer_channels, i, answer.channels);
+        put_short(answer_channels, i, answer.channels);
         let next = played.tuner;
         tuner = next;
         at += answer.count;

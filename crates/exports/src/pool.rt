@@ -52,7 +52,7 @@ struct Played {
     answer: Answer,
 }
 
-// Opens a pool on a channel list, for letters or for whole channels, in mode 0 Block, 1 Stop or 2 Ignore; plays the events in order, and writes the
+// Opens a pool on a channel list, for letters or for whole channels, in mode 0 Block, 1 Stop or any other Ignore; plays the events in order, and writes the
 // answer of each. Returns the refusal of the channel list, then 12 for lists of events of unequal length, and 0 where there is none.
 #[no_mangle]
 pub extern "C" fn tune_pool(

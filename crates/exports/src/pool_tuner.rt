@@ -48,7 +48,7 @@ struct Played {
     answer: Heard,
 }
 
-// Starts a tuner on a channel list, which tunes by bends or by fine tuning, in mode 0 Block, 1 Stop or 2 Ignore; plays the events in order, and
+// Starts a tuner on a channel list, which tunes by bends or by fine tuning, in mode 0 Block, 1 Stop or any other Ignore; plays the events in order, and
 // writes the kind of each answer, how many bytes each sent, and all bytes one behind the other. Returns the refusal of the channel list, then 12 for
 // lists of events of unequal length, and 0 where there is none.
 #[no_mangle]

@@ -3,7 +3,7 @@ use Prim.Native.Nat.{ℕ, _+_, _-_, _≤_, _<_}
 use native.Mathlib.Nat.{zero-add, add-zero, sub-zero}
 use native.Mathlib.Omega.{arith}
 use mathlib.Core.Path.{_≡_, refl, sym, _∙_, ap, subst}
-use mathlib.Core.Bool.{true, _&&_}
+use mathlib.Core.Bool.{true}
 use mathlib.Core.List.{List, [], _++_, append-nil}
 use lib.ListN.{length, take, drop, length-drop, drop-of-length-le, take-append-drop}
 use lib.Seq.{drop-drop, length-take-le, take-length}
@@ -14,7 +14,7 @@ use Rattle.senders.specs.Answers.{sentAnswer}
 use Rattle.models.specs.Change.{changed, isNone}
 use Rattle.models.specs.declared.jit.Change as C
 use Rattle.models.specs.declared.jit.Change.{Change}
-use Rattle.senders.specs.Jit.{Tuner, after, withPool}
+use Rattle.senders.specs.Jit.{Tuner, after}
 use Rattle.senders.proofs.Lent.{tail-part, tail-back}
 use Rattle.senders.specs.declared.midi.Sent.{Sent}
 use Rattle.senders.specs.declared.midi.Sent.the-variants.{Written, Refused}

@@ -12,7 +12,7 @@ use lib.Dec.{eqb, eqb-refl}
 use lib.ListN.{length, length-take, length-map, getD, take, set, List·getD-map}
 use lib.Seq.{getD-take, take-set-lt, getD-set-same, getD-set-other, set-set}
 use borrow.Author.Tests.{eqb-true, eqb-false}
-use Rattle.models.specs.Lists.{first, member}
+use Rattle.models.specs.Lists.{first}
 use Rattle.models.specs.Pool.{Place, Pool, State, Held, poolCount, poolOf, emptyPool, pool, found, withPool, freed, freedIn, forgotten, withKey, behind, takenIn, oldestOf, oldest, room, madeRoom, roomFor, roomBy, Press, accepted, rejected, taken, pressed, released, isHeld, unlessHeld, replied}
 use Rattle.arithmetic.specs.Note.{isNote}
 use Rattle.models.specs.JitModel.{poolView, records, recordOf, noRecord, view}

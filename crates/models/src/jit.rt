@@ -182,7 +182,7 @@ impl JitTuningModel {
     }
 
     // The model after a change: a press for a note takes a channel as `register_key` does, unless the key is held or the number is no note; a release is
-    // that of `deregister_key`. Where nothing changes it is the very same.
+    // that of `deregister_key`. By `Nothing` it is left the very same. It is one function, since each that hands a model on copies it.
     pub fn changed(self, change: Change) -> JitTuningModel
         ensures { λ r. ⌜ (view r ≡ changed (view self) change) × (change ≡ Change.Nothing → r ≡ self) ⌝ }
     {

@@ -193,7 +193,7 @@ impl JitTuner {
         }
     }
 
-    // The tuner after a change. Where nothing changes it is the very same.
+    // The tuner after a change. By `Nothing` it is left the very same.
     pub fn changed(self, change: Change) -> JitTuner
         ensures { λ r. ⌜ (tuner r ≡ after (tuner self) change) × (change ≡ noChange → r ≡ self) ⌝ }
     {

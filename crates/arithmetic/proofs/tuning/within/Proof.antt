@@ -6,7 +6,7 @@ use lib.Dec.{T}
 use Prim.Native.Nat.{ℕ, _+_, _-_, _^_, _≤_, _<_}
 use native.Mathlib.Omega.{arith}
 use Rattle.arithmetic.specs.Measure.{square, digit, next, digits}
-use Rattle.arithmetic.specs.Nearest.{within}
+use Rattle.arithmetic.specs.Inside.{within}
 use Rattle.arithmetic.proofs.Boundaries.{boundary, passed, not-passed, within-small}
 use Rattle.arithmetic.proofs.Tables.{all}
 use borrow.Author.Needs.{needs}

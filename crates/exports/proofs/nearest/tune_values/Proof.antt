@@ -46,8 +46,8 @@ put-byte-requires c κs = search needs
 fine-of-requires : tie.Need-fine-of-requires Inv-loop μ-loop
 fine-of-requires c κs = search needs
 
-put-fine-requires : tie.Need-put-fine-requires Inv-loop μ-loop
-put-fine-requires c κs = search needs
+put-short-requires : tie.Need-put-short-requires Inv-loop μ-loop
+put-short-requires c κs = search needs
 
 bend-of-requires : tie.Need-bend-of-requires Inv-loop μ-loop
 bend-of-requires c κs = search needs
@@ -71,7 +71,7 @@ loop-again c =
     let bend = c .before .before .before .before .before .before .before .before .before .before .before .before .before .before .tuning-of2 .ensures ∙ ap (tuningRule Bend) (c .before .before .before .before .before .before .before .before .before .before .before .before .before .before .before .before .float-at .ensures) in (
       omega arith,
       filled-turn (λ k. refusalOf (tuningAt FineTuning detunings k)) (start .args .refusals .now) i _ _ _ (c .before .before .before .before .before .before .before .before .before .before .before .put-byte .ensures) (inv .1) (c .before .before .before .before .before .before .before .before .before .before .before .before .refusal-of .ensures ∙ ap refusalOf fine),
-      filled-turn (λ k. fineOf (tuningAt FineTuning detunings k)) (start .args .fines .now) i _ _ _ (c .before .before .before .before .before .before .put-fine .ensures) (inv .2) (c .before .before .before .before .before .before .before .fine-of .ensures ∙ ap fineOf fine),
+      filled-turn (λ k. fineOf (tuningAt FineTuning detunings k)) (start .args .fines .now) i _ _ _ (c .before .before .before .before .before .before .put-short .ensures) (inv .2) (c .before .before .before .before .before .before .before .fine-of .ensures ∙ ap fineOf fine),
       filled-turn (λ k. bendOf (tuningAt Bend detunings k)) (start .args .bends .now) i _ _ _ (c .before .put-bend .ensures) (inv .3) (toZ-ofZ {w = w16} {z = c .before .before .bend-of .result} (record { sfits = c .before .before .bend-of .ok }) ∙ c .before .before .bend-of .ensures ∙ ap bendOf bend),
     )
 
@@ -110,7 +110,7 @@ tune-values-spec =
     refusal-of-requires
     put-byte-requires
     fine-of-requires
-    put-fine-requires
+    put-short-requires
     bend-of-requires
     put-bend-requires
     add-i

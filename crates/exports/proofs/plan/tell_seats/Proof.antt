@@ -15,8 +15,8 @@ is-result-requires c κs = search needs
 count-of-requires : tie.Need-count-of-requires
 count-of-requires c κs = search needs
 
-put-fine-requires : tie.Need-put-fine-requires
-put-fine-requires c κs = search needs
+put-short-requires : tie.Need-put-short-requires
+put-short-requires c κs = search needs
 
 look-up-requires : tie.Need-look-up-requires
 look-up-requires c κs = search needs
@@ -36,7 +36,7 @@ returns c =
     let yes = sym (c .before .before .before .before .before .before .before .before .before .before .before .before .is-result .ensures) ∙ c .before .before .before .before .before .before .before .before .before .before .before .if1 .taken in
     record {
       returned-is = c .before .before .before .before .before .before .before .before .before .before .before .before .before .kind-of .ensures;
-      count-is = result-writes _ _ old yes (c .before .before .before .before .before .before .before .before .put-fine .ensures ∙ ap (set old 0) (c .before .before .before .before .before .before .before .before .before .count-of .ensures));
+      count-is = result-writes _ _ old yes (c .before .before .before .before .before .before .before .before .put-short .ensures ∙ ap (set old 0) (c .before .before .before .before .before .before .before .before .before .count-of .ensures));
       channels-are = result-writes _ _ _ yes (c .before .before .before .look-up .ensures .0);
       notes-are = result-writes _ _ _ yes (c .before .before .before .look-up .ensures .1);
     }
@@ -53,7 +53,7 @@ tell-seats-spec =
     kind-of-requires
     is-result-requires
     count-of-requires
-    put-fine-requires
+    put-short-requires
     look-up-requires
     same-length
     same-length-2

@@ -50,8 +50,8 @@ put-byte-requires c κs = search needs
 put-count-requires : tie.Need-put-count-requires Inv-loop μ-loop
 put-count-requires c κs = search needs
 
-put-fine-requires : tie.Need-put-fine-requires Inv-loop μ-loop
-put-fine-requires c κs = search needs
+put-short-requires : tie.Need-put-short-requires Inv-loop μ-loop
+put-short-requires c κs = search needs
 
 -- the event that a turn plays
 turned : (c : tie.After-struct-known Inv-loop μ-loop)
@@ -91,7 +91,7 @@ loop-again c =
       t .0,
       filled-turn (λ k. heardAt (length (a .out .now)) rules start k .kind) (a .answer-kinds .now) _ _ _ _ (c .before .before .before .before .before .before .before .before .before .before .before .before .put-byte .ensures) (inv .2) (ap (λ (h : Heard). h .kind) (t .1)),
       filled-turn (λ k. heardAt (length (a .out .now)) rules start k .count) (a .answer-counts .now) _ _ _ _ (c .before .before .before .before .before .before .before .before .put-count .ensures) (inv .3) (ap (λ (h : Heard). h .count) (t .1)),
-      filled-turn (λ k. heardAt (length (a .out .now)) rules start k .channels) (a .answer-channels .now) _ _ _ _ (c .before .before .before .before .put-fine .ensures) (inv .4) (ap (λ (h : Heard). h .channels) (t .1)),
+      filled-turn (λ k. heardAt (length (a .out .now)) rules start k .channels) (a .answer-channels .now) _ _ _ _ (c .before .before .before .before .put-short .ensures) (inv .4) (ap (λ (h : Heard). h .channels) (t .1)),
     )
 
 same-length : tie.Need-same-length Inv-loop μ-loop
@@ -135,7 +135,7 @@ play-all-spec =
     play-requires
     put-byte-requires
     put-count-requires
-    put-fine-requires
+    put-short-requires
     add-at
     add-i
     loop-less
