@@ -27,8 +27,7 @@ use Rattle.models.specs.declared.pool.JitPool.{JitPool}
 use Rattle.models.specs.declared.pool.Seat as S
 use Rattle.models.specs.declared.pool.Seat.{Seat}
 use Rattle.models.proofs.KeyRecords.{map-set, getD-map-below, record-found}
-use Rattle.models.proofs.ListLaws.{T→true}
-use Rattle.models.proofs.PoolInvariant.{first-rest, first-none}
+use Rattle.models.proofs.ListLaws.{T→true, first-rest, first-none}
 use Rattle.models.proofs.Pools.{pool-small, pools-few, oldest-is, made-none, pressed-free, pressed-none, released-found}
 
 -- a key that gives its channel up is not found any more, or stays found

@@ -9,7 +9,6 @@ pub mod Pool
 pub mod JitModel
 pub mod PoolInside
 pub mod Change
-pub mod Recital
 pub mod Line
 pub mod Walk
 pub mod Placing
