@@ -1,5 +1,6 @@
 -- The words of the theorems that no contract needs.
 pub mod Bounds
+pub mod PlannedKeys
 pub mod PoolCalls
 pub mod PoolTunerCalls
 pub mod PlanTunerCalls

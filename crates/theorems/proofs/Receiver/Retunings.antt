@@ -1,5 +1,5 @@
--- A plan tuner however it was tuned before, refused and untuned plans included. After a tuned answer each key of the list sounds its note on a channel that is
--- tuned by a detuning which the key's own leads to. Assumes nothing.
+-- A plan tuner however it was tuned before, refused and untuned plans included. After a tuned answer each key of the list is heard as its
+-- note's, when it is pressed, on a channel that is tuned by the last detuning of a chain of the list's own keys there, from this key on. Assumes nothing.
 use mathlib.Core.Path.{_≡_, refl, sym, ap, subst, _∙_}
 use mathlib.Core.Bool.{Bool, true, false, cond}
 use mathlib.Core.Option.{Option, some, none}
@@ -29,7 +29,8 @@ use Rattle.models.proofs.Accepted.{notes-accepted, pitches-accepted}
 use Rattle.models.proofs.ChannelLists.{Channels}
 use Rattle.models.proofs.ListLaws.{Each-map}
 use Rattle.theorems.proofs.Plans.Entries.{tuned-channels}
-use Rattle.theorems.proofs.Plans.Keys.{Leads, Placed, planned-keys}
+use Rattle.theorems.specs.PlannedKeys.{row, JoinChain, Placed}
+use Rattle.theorems.proofs.Plans.PlannedKeys.{planned-keys}
 use Rattle.theorems.proofs.Plans.Pitches.{pitches-law}
 use Rattle.senders.specs.Lent.{Effect, fitted, Steps, Answers, settled}
 use Rattle.senders.specs.Midi.{bytesOf}
@@ -190,14 +191,14 @@ pub record ChannelTuned (channels : List ℕ) (kind : TuningKind) (back : Tuner)
   pub entered : back .plan .detunings i (pos 0) ≡ some detuning
   pub heard : (other : Other) (st : State) (r : Receiver) → hearBytes other st bytes r midi ≡ tuned (sentAs kind detuning) (r midi)
 
--- A key of the list is found with its note on a channel of the plan that is so tuned, and its detuning leads to the channel's. A press of the key then puts
--- its note on there.
-pub record KeyTuned (channels : List ℕ) (kind : TuningKind) (back : Tuner) (bytes : List ℕ) (n : ℕ) (l : Line) : Type 0 where
+-- A key of the list is found with its note on a channel of the plan that is so tuned, and a chain of the list's own keys there
+-- leads from it up to the channel's detuning. A press of the key is then heard as its note's there.
+pub record KeyTuned (channels : List ℕ) (kind : TuningKind) (back : Tuner) (bytes : List ℕ) (lines : List Line) (n : ℕ) (l : Line) : Type 0 where
   pub channel : ℕ
   pub below : channel < n
   pub found-is : found back (l .key) ≡ some (record { channel = channel; note = l .note })
   pub on : ChannelTuned channels kind back bytes channel
-  pub near : Leads (l .detuning) (on .detuning)
+  pub chain : JoinChain (row (back .plan .groupBy) lines (back .plan .keys) channel (group (back .plan .groupBy) (l .note))) l (on .detuning)
   pub sounds :
       (other : Other) (st before : State) (r : Receiver) (v : ℕ) {old new : List ℕ} {w : ℕ} → Answers (noteOnRule back (l .key) v) old (value w) new
       → hearBytes other st (take w new) (hearBytes other before bytes r) (on .midi) ≡ noteMeant On (l .note) v (tuned (sentAs kind (on .detuning)) (r (on .midi)))
@@ -230,7 +231,7 @@ module _
     groups : tuner s .plan .groupBy ≡ Channel
     groups = ap (λ (t : Tuner). t .plan .groupBy) is ∙ reached-groups channels kind calls
 
-    facts : (planned (tuner s .plan) (value (got .lines)) .0 .numChannels ≡ n) × (n ≤ length (tuner s .plan .channels)) × Each (Placed (planned (tuner s .plan) (value (got .lines)) .0) n) (got .lines)
+    facts : (planned (tuner s .plan) (value (got .lines)) .0 .numChannels ≡ n) × (n ≤ length (tuner s .plan .channels)) × Each (Placed (planned (tuner s .plan) (value (got .lines)) .0) (got .lines) n) (got .lines)
     facts = planned-keys (tuner s .plan) (got .lines) lines-ok n (got .answer-is)
 
     few : n ≤ length (present (listRule channels))
@@ -282,7 +283,8 @@ module _
             ≡ noteMeant On (l .note) v (hearBytes other before (take w new) r midi)
         here g = rw (g, eq-eqb midi midi refl) refl
 
-    key-tuned : (l : Line) → Placed (planned (tuner s .plan) (value (got .lines)) .0) n l → KeyTuned (present (listRule channels)) kind (tuner back) (take w new) n l
+    key-tuned : (l : Line) → Placed (planned (tuner s .plan) (value (got .lines)) .0) (got .lines) n l
+        → KeyTuned (present (listRule channels)) kind (tuner back) (take w new) (got .lines) n l
     unfolding group tuned-by
     key-tuned l p =
         let e : tuner back .plan .detunings (p .channel) (pos 0) ≡ some (p .detuning) = ap (λ (m : Model). m .detunings (p .channel) (pos 0)) (got .plan-is) ∙ own (p .entered) in
@@ -293,7 +295,7 @@ module _
           below = p .below;
           found-is = f;
           on = c;
-          near = p .near;
+          chain = subst (λ (x : Model). JoinChain (row (x .groupBy) (got .lines) (x .keys) (p .channel) (group (x .groupBy) (l .note))) l (p .detuning)) (sym (got .plan-is)) (p .chain);
           sounds = λ other st before r v a. sounding l (p .channel) (c .midi) (p .detuning) f (c .listed-is) (c .heard) other st before r v a;
         }
       where
@@ -305,8 +307,8 @@ module _
             subst (λ (k : GroupBy). m .detunings (p .channel) (group k (l .note)) ≡ some (p .detuning))
             (planned-kept (tuner s .plan) (value (got .lines)) .1 ∙ groups) e
 
-    -- And each key of the list sounds its note on one of them when it is pressed.
-    pub keys-tuned : (lines : List Line) × (linesOf lists ≡ value lines) × Each (KeyTuned (present (listRule channels)) kind (tuner back) (take w new) n) lines
+    -- And each key of the list is on one of them, and is heard there as its note's when it is pressed.
+    pub keys-tuned : (lines : List Line) × (linesOf lists ≡ value lines) × Each (KeyTuned (present (listRule channels)) kind (tuner back) (take w new) lines n) lines
     keys-tuned = (got .lines, got .lines-is, Each-map (λ l p. key-tuned l p) (got .lines) (facts .2))
 
 -- ---- a tuning of pitches
