@@ -1,6 +1,6 @@
 -- After `stop` no key is found, in any model; and where no channel was lost, every channel is free. Assumes nothing.
-use Prim.Native.Nat.{ℕ, suc, _-_, _<_, _≤_}
-use mathlib.Core.Path.{_≡_, refl, sym, ap, _∙_}
+use Prim.Native.Nat.{ℕ, suc, _+_, _-_, _<_, _≤_}
+use mathlib.Core.Path.{_≡_, refl, sym, ap, subst, _∙_}
 use mathlib.Core.List.{List, [], _∷_}
 use mathlib.Core.Option.{Option, some, none}
 use native.Mathlib.Omega.{arith}
@@ -8,9 +8,9 @@ use native.Mathlib.Nat.{sub-zero}
 use lib.ListN.{length, getD}
 use Rattle.models.specs.declared.jit.PoolGroupBy.{PoolGroupBy}
 use Rattle.models.specs.declared.jit.PoolingMode.{PoolingMode}
-use Rattle.models.specs.Pool.{Place, State, Held, emptyPool, poolCount, found, withPool, withKey, freed, forgotten, released, releasedAll, heldFrom, heldKeys, stopped}
-use Rattle.theorems.specs.PoolCalls.{Call, times, stop, after}
-use Rattle.theorems.proofs.Pools.Occurrences.{times-cons, times-same, either}
+use Rattle.models.specs.Pool.{Place, Pool, State, Held, emptyPool, poolCount, found, withPool, withKey, freed, forgotten, released, releasedAll, heldFrom, heldKeys, stopped}
+use Rattle.theorems.specs.PoolCalls.{Call, times, keysOn, standing, stop, after}
+use Rattle.theorems.proofs.Pools.Occurrences.{times-cons, times-same, times-range, either}
 use Rattle.models.proofs.Pools.{released-found, released-none, released-other}
 use Rattle.theorems.proofs.Pools.Invariant.{set-none, after-ok, model, model-ok}
 
@@ -71,19 +71,28 @@ stop-empties s k = go (getD (s .keys) k none) refl
     go (some p) e = all-gone (s .keys) 0 s k p (omega arith) (rw sub-zero e)
     go none e = stays-gone s (heldFrom 0 (s .keys)) k e
 
--- Every channel of every pool is free then, however the model was opened and played.
+-- Each channel of every pool is free then, exactly once, and no key has one, however the model was opened and played.
 pub stop-frees : (channels : List ℕ) (group : PoolGroupBy) (mode : PoolingMode) (calls : List Call)
     → let s = stopped (model channels group mode calls) in
-    (i : ℕ) → i < poolCount (s .group) → (getD (s .pools) i emptyPool .order ≡ []) × (length (getD (s .pools) i emptyPool .free) ≡ length (s .channels))
-unfolding after
+    (i : ℕ) → i < poolCount (s .group)
+    → let p = getD (s .pools) i emptyPool in
+    (p .order ≡ []) × ((c : ℕ) → c < length (s .channels) → times c (p .free) ≡ 1) × (length (p .free) ≡ length (s .channels))
+unfolding after standing keysOn
 stop-frees channels group mode calls i h =
     let m = model channels group mode calls in
     let ok = after-ok _ m (model-ok channels group mode calls) stop in
     let p = ok .each i h in
     let none-held = no-order (getD (stopped m .pools) i emptyPool .order) (λ k in-order. let held = p .holds k in-order in
-    let f = held .is in let g = stop-empties m k in let z : _≡_ {A = ℕ} 0 1 = cc in omega arith) in
-    (none-held, omega (arith, p .total, ok .channels, ap length none-held))
+    let f = held .is in let g = stop-empties m k in let z : _≡_ {A = ℕ} 0 1 = cc in omega arith) in (
+      none-held,
+      λ c low. free-once (stopped m) (getD (stopped m .pools) i emptyPool) c none-held (p .once c ∙ times-range c 0 _ (omega arith) (omega (arith, ok .channels))),
+      omega (arith, p .total, ok .channels, ap length none-held),
+    )
   where
     no-order : (l : List ℕ) → ((k : ℕ) → 0 < times k l → ⊥) → l ≡ []
     no-order [] f = refl
     no-order (k ∷ l) f = absurd (f k (omega (arith, times-cons k k l, times-same k)))
+
+    -- a channel that stands once in a pool without held keys is free
+    free-once : (s : State) (p : Pool) (c : ℕ) → p .order ≡ [] → standing s p c ≡ 1 → times c (p .free) ≡ 1
+    free-once s p c e once = omega (arith, subst (λ (l : List ℕ). times c (p .free) + keysOn s c l ≡ 1) e once)
