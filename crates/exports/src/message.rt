@@ -10,6 +10,7 @@ ghost use Rattle.exports.specs.Returned.{unlessRefused};
 ghost use Rattle.exports.specs.Messages.{messageOf, kindOf, sentHeard};
 use crate::lent::put_count;
 use crate::returned::is_result;
+use models::Ratio;
 use models::steps::TuningKind;
 use senders::midi::ChannelMessageType;
 use senders::midi::Sent;
@@ -98,9 +99,9 @@ fn channel_tuning(bends: bool, channel: u8, detuning: f64, out: &mut [u8]) -> Se
     ensures { λ r. ⌜ Answers (channelTuningRule (kindOf bends) channel detuning) (now (out .entry)) (sentAnswer r) (now (out .exit)) ⌝ }
 {
     if bends {
-        return channel_pitch_bend(channel, detuning, out);
+        return channel_pitch_bend(channel, Ratio::from_float(detuning), out);
     }
-    channel_fine_tuning(channel, detuning, out)
+    channel_fine_tuning(channel, Ratio::from_float(detuning), out)
 }
 
 // How channels are tuned: by bends, or by fine tuning.

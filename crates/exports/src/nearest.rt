@@ -14,6 +14,7 @@ use crate::lent::put_float;
 use crate::lent::put_number;
 use crate::lent::put_short;
 use arithmetic::pitch::Pitch;
+use arithmetic::pitch::Ratio;
 use arithmetic::tuning::Approximation;
 use arithmetic::tuning::find_by_pitch;
 use models::steps::Tuning;
@@ -66,7 +67,7 @@ pub extern "C" fn tune_values(
     let n = detunings.len();
     let mut i: usize = 0;
     while i < n {
-        let detuning = float_at(detunings, i);
+        let detuning = Ratio::from_float(float_at(detunings, i));
         let fine = tuning_of(TuningKind::FineTuning, detuning);
         let bend = tuning_of(TuningKind::Bend, detuning);
         put_byte(refusals, i, refusal_of(fine));

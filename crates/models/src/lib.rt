@@ -12,4 +12,5 @@ mod waiting;
 
 // What the crates above need of arithmetic, passed on.
 pub use arithmetic::pitch::Pitch;
+pub use arithmetic::pitch::Ratio;
 pub use arithmetic::refusal;

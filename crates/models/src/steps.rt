@@ -31,10 +31,10 @@ pub enum TuningAnswer {
 }
 
 // The tuning in which a detuning is sent. Refuses 2.
-pub fn tuning_of(kind: TuningKind, detuning: f64) -> TuningAnswer
-    ensures { λ r. ⌜ tuningAnswer r ≡ tuningRule kind detuning ⌝ }
+pub fn tuning_of(kind: TuningKind, detuning: Ratio) -> TuningAnswer
+    ensures { λ r. ⌜ tuningAnswer r ≡ tuningRule kind (detuning .«float_value») ⌝ }
 {
-    let Measured::Measure(l) = Ratio::from_float(detuning).measure() else {
+    let Measured::Measure(l) = detuning.measure() else {
         return TuningAnswer::Refused(NOT_MEASURABLE);
     };
     TuningAnswer::Value(value_of(kind, l))

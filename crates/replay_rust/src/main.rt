@@ -8,6 +8,7 @@ mod tuners;
 use crate::tuners::plan_tuner;
 use crate::tuners::pool_tuner;
 use arithmetic::pitch::Pitch;
+use arithmetic::pitch::Ratio;
 use arithmetic::tuning::Approximation;
 use arithmetic::tuning::find_by_pitch;
 use libc::STDIN_FILENO;
@@ -154,7 +155,7 @@ fn nearest(text: &[u8], at: usize) -> usize {
 // A detuning in millionths: its fine value and its bend.
 fn values(text: &[u8], at: usize) -> usize {
     let detuning = read(text, at);
-    let ratio = float(detuning.value) / 1000000.0;
+    let ratio = Ratio::from_float(float(detuning.value) / 1000000.0);
     word(b"values");
     value(tuning_of(TuningKind::FineTuning, ratio));
     value(tuning_of(TuningKind::Bend, ratio));

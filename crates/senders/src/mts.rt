@@ -14,6 +14,7 @@ use crate::midi::HIGHEST_CHANNEL;
 use crate::midi::Sent;
 use crate::midi::message_len;
 use crate::midi::put_message;
+use models::Ratio;
 use models::refusal::BUFFER_TOO_SHORT;
 use models::refusal::CHANNEL_OVER_15;
 use models::steps::Tuning;
@@ -36,21 +37,21 @@ const CHANNEL_FINE_TUNING_MSB: u8 = 0x00;
 const CHANNEL_FINE_TUNING_LSB: u8 = 0x01;
 
 // Writes the fine tuning of a channel by a detuning to the buffer's start. Refuses 6, 2, 10.
-pub fn channel_fine_tuning(channel: u8, detuning: f64, out: &mut [u8]) -> Sent
-    ensures { λ r. ⌜ Answers (channelTuningRule TuningKind.FineTuning channel detuning) (now (out .entry)) (sentAnswer r) (now (out .exit)) ⌝ }
+pub fn channel_fine_tuning(channel: u8, detuning: Ratio, out: &mut [u8]) -> Sent
+    ensures { λ r. ⌜ Answers (channelTuningRule TuningKind.FineTuning channel (detuning .«float_value»)) (now (out .entry)) (sentAnswer r) (now (out .exit)) ⌝ }
 {
     channel_tuning(TuningKind::FineTuning, channel, detuning, out)
 }
 
 // Writes the bend of a channel by a detuning to the buffer's start. Refuses 6, 2, 10.
-pub fn channel_pitch_bend(channel: u8, detuning: f64, out: &mut [u8]) -> Sent
-    ensures { λ r. ⌜ Answers (channelTuningRule TuningKind.Bend channel detuning) (now (out .entry)) (sentAnswer r) (now (out .exit)) ⌝ }
+pub fn channel_pitch_bend(channel: u8, detuning: Ratio, out: &mut [u8]) -> Sent
+    ensures { λ r. ⌜ Answers (channelTuningRule TuningKind.Bend channel (detuning .«float_value»)) (now (out .entry)) (sentAnswer r) (now (out .exit)) ⌝ }
 {
     channel_tuning(TuningKind::Bend, channel, detuning, out)
 }
 
-fn channel_tuning(kind: TuningKind, channel: u8, detuning: f64, out: &mut [u8]) -> Sent
-    ensures { λ r. ⌜ Answers (channelTuningRule kind channel detuning) (now (out .entry)) (sentAnswer r) (now (out .exit)) ⌝ }
+fn channel_tuning(kind: TuningKind, channel: u8, detuning: Ratio, out: &mut [u8]) -> Sent
+    ensures { λ r. ⌜ Answers (channelTuningRule kind channel (detuning .«float_value»)) (now (out .entry)) (sentAnswer r) (now (out .exit)) ⌝ }
 {
     if HIGHEST_CHANNEL < channel {
         return Sent::Refused(CHANNEL_OVER_15);

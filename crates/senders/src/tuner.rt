@@ -25,6 +25,7 @@ use crate::midi::put_message;
 use crate::mts::put_tuning;
 use crate::mts::tuning_len;
 use crate::mts::write_tuning;
+use models::Ratio;
 use models::channels::ChannelList;
 use models::channels::EntryAnswer;
 use models::jit::StoppedNote;
@@ -245,7 +246,7 @@ pub(crate) fn sent_as(kind: TuningKind, detuning: f64) -> Tuning
     requires { ⌜ positive detuning ≡ true ⌝ }
     ensures { λ r. ⌜ r ≡ sentAs kind detuning ⌝ }
 {
-    match tuning_of(kind, detuning) {
+    match tuning_of(kind, Ratio::from_float(detuning)) {
         TuningAnswer::Value(tuning) => tuning,
         // It can be measured.
         TuningAnswer::Refused(_) => Tuning::Bend(0),

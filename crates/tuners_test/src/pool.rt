@@ -6,6 +6,7 @@ use crate::shown::action;
 use crate::shown::refused;
 use crate::shown::written;
 use models::Pitch;
+use models::Ratio;
 use models::channels::ChannelsAnswer;
 use models::jit::PoolingMode;
 use models::keys::AccessKeyResult;
@@ -60,9 +61,15 @@ fn perform(tuner: JitTuner, call: Call, out: &mut [u8]) -> Played {
         Call::All(message) => kept(tuner, tuner.global_attr(message, out)),
         Call::Stop => released(tuner.stop(out)),
         Call::Fine { channel, detuning } => {
-            kept(tuner, channel_fine_tuning(channel, detuning, out))
+            kept(
+                tuner,
+                channel_fine_tuning(channel, Ratio::from_float(detuning), out),
+            )
         }
-        Call::Bend { channel, detuning } => kept(tuner, channel_pitch_bend(channel, detuning, out)),
+        Call::Bend { channel, detuning } => kept(
+            tuner,
+            channel_pitch_bend(channel, Ratio::from_float(detuning), out),
+        ),
     }
 }
 

@@ -11,7 +11,7 @@ use borrow.Author.Needs.{needs}
 use Rattle.senders.proofs.mts.channel_tuning.Statement.{statement}
 use Rattle.senders.proofs.mts.channel_tuning.Tie as tie
 
-known : (c : tie.After-tuning) → let a = c .before .before .before .before .before .args in tuningRule (a .kind) (a .detuning) ≡ value (c .tuning .given .0 .0)
+known : (c : tie.After-tuning) → let a = c .before .before .before .before .before .args in tuningRule (a .kind) (a .detuning .«float_value») ≡ value (c .tuning .given .0 .0)
 known c = sym (c .before .before .tuning-of .ensures) ∙ ap tuningAnswer (c .tuning .given .1)
 
 returns : tie.Need-returns
@@ -28,7 +28,7 @@ write-tuning-requires c κs =
     let k = c .before .before in
     let i = k .before .before .before in
     let a = i .before .before .args in
-    (omega (arith, i .if1 .left), value-in-steps (a .kind) (a .detuning) (known k))
+    (omega (arith, i .if1 .left), value-in-steps (a .kind) (a .detuning .«float_value») (known k))
 
 enum-known-number : tie.Need-enum-known-number
 enum-known-number c = search needs
