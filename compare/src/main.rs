@@ -13,6 +13,7 @@ mod pool_tuners;
 mod pools;
 mod refused;
 mod report;
+mod rule;
 mod speed;
 mod steps;
 mod tuners;
