@@ -3,6 +3,7 @@
 //! `compare/run` builds and runs it.
 
 mod bytes;
+mod faults;
 mod inputs;
 mod lists;
 mod nearest;
@@ -33,6 +34,7 @@ fn compare(seed: u64) -> u64 {
     pool_tuners::run(&mut chance, &mut rows);
     plan_tuners::run(&mut chance, &mut rows);
     refused::run(&mut rows);
+    faults::run(&mut rows);
     report::summary(&rows)
 }
 
