@@ -132,7 +132,9 @@ impl Sequence {
             };
             if ours == *rust {
                 match ours.kind {
-                    1..=13 => row.differs(Kind::Refusal, i, || format!("event {} of key {} at {:?} Hz: refusal {}", e.kinds[i], e.keys[i], e.pitches[i], ours.kind)),
+                    1..=13 => row.differs(Kind::Refusal, i, || {
+                        format!("event {} of key {} at {:?} Hz: refusal {}", e.kinds[i], e.keys[i], e.pitches[i], ours.kind)
+                    }),
                     ours::NOTHING => row.meets("answers not found or rejected"),
                     _ if ours.stopped != ours::NO_NOTE => row.meets("presses that stopped a note"),
                     _ => {}
