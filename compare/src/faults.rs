@@ -15,9 +15,11 @@ use tune::tuner::JitTuner;
 use tune::tuner::JitTuningModel;
 use tune::tuner::PoolingMode;
 use tune::tuner::RegisterKeyResult;
+use tune::tuner::TunableSynth;
 
 use crate::bytes::hex;
 use crate::bytes::rust_bytes;
+use crate::bytes::rust_message;
 use crate::bytes::sender;
 use crate::nearest;
 use crate::ours;
@@ -62,6 +64,9 @@ fn channels(row: &mut Row) {
     for bends in [false, true] {
         let mut calls = Calls::new(&[Event::Press(1, 440.0, 64)], 20);
         one(row, "a press on channel 16", (written(bends, &[16], false, &[(1, 440.0)]), "panics"), Some((calls.play_pool(&[16], bends, 0), 6)));
+        let (mut unheard, bytes) = sender(bends, &[16]);
+        unheard.global_attr(rust_message(Message { kind: 0x9, first: 60, second: 64, bend: 0 }));
+        one(row, "a note-on to all channels, which are 16", (hex(&bytes.take()), "-"), Some((calls.play_pool(&[16], bends, 0), 6)));
         let mut calls = Calls::new(&[Event::TuneByPitches], 20);
         let lists = Lists { pitch_keys: vec![1], pitches: vec![440.0], ..Lists::default() };
         one(row, "a plan on channel 16", (written(bends, &[16], true, &[(1, 440.0)]), "panics"), Some((calls.play_plan(&[16], bends, &lists), 6)));
