@@ -19,6 +19,8 @@ use crate::ours::Message;
 use crate::report::Kind;
 use crate::report::Row;
 use crate::report::progress;
+use crate::rule;
+use crate::steps;
 
 pub type Handler = Box<dyn FnMut(MidiTunerMessage)>;
 pub type Written = Rc<RefCell<Vec<u8>>>;
@@ -58,18 +60,19 @@ pub fn judge_message(message: Message) -> u8 {
     }
 }
 
-/// How the port's bytes differ from the Rust's: not at all, in steps of tunings, or otherwise.
-pub fn difference(ours: &[u8], rust: &[u8]) -> Option<Kind> {
-    if ours == rust {
+/// How document 01's bytes for a pitch differ from the Rust's: not at all, by one step of a tuning or its clamp, or otherwise. A step more comes of detunings
+/// that differ in their last bits, where the Rust's lies below a whole number of steps and document 01's does not.
+pub fn difference(rule: &[u8], rust: &[u8]) -> Option<Kind> {
+    if rule == rust {
         return None;
     }
-    if ours.len() != rust.len() || ours.len() % 3 != 0 {
+    if rule.len() != rust.len() || rule.len() % 3 != 0 {
         return Some(Kind::Unexpected);
     }
     let mut found = None;
     let mut i = 0;
-    while i < ours.len() {
-        let (a, b) = (&ours[i..], &rust[i..]);
+    while i < rule.len() {
+        let (a, b) = (&rule[i..], &rust[i..]);
         // A tuning is a bend, or the two controllers that carry a fine value.
         let (value, length): (fn(&[u8]) -> i32, usize) = match a[0] >> 4 {
             0xe => (|m| i32::from(m[1]) + i32::from(m[2]) * 128 - 8192, 3),
@@ -84,7 +87,8 @@ pub fn difference(ours: &[u8], rust: &[u8]) -> Option<Kind> {
         let kind = match (value(a), value(b)) {
             _ if !same_shape => Kind::Unexpected,
             (8191, 8192) if length == 3 => Kind::BendClamp,
-            (ours, rust) if (ours - rust).abs() == 1 => Kind::OneStep,
+            (rule, rust) if rule == rust - 1 => Kind::OneStep,
+            (rule, rust) if rule == rust + 1 => Kind::OneStepMore,
             _ => Kind::Unexpected,
         };
         found = found.max(Some(kind));
@@ -100,7 +104,7 @@ pub fn hex(bytes: &[u8]) -> String {
 }
 
 /// A message of the Rust on a channel.
-fn rust_bytes(message: Message, channel: u8) -> [u8; 3] {
+pub fn rust_bytes(message: Message, channel: u8) -> [u8; 3] {
     rust_message(message).in_channel(channel).unwrap().to_raw_message()
 }
 
@@ -188,10 +192,13 @@ fn channel_tunings(chance: &mut Chance, rows: &mut Vec<Row>) {
             row.cases += 1;
             let mut out = [FILL; 13];
             let answer = ours::channel_tuning(bends, channel, detuning, &mut out);
+            let rule = rule::tuning(bends, channel, detuning);
             let told = || format!("{detuning:?} on channel {channel}: {answer:?} {}; the Rust: {}", hex(&out[..length]), hex(&rust));
-            if answer != (0, length) || out[length..].iter().any(|&b| b != FILL) {
-                row.differs(Kind::Unexpected, 0, told);
-            } else if let Some(kind) = difference(&out[..length], &rust) {
+            if answer != (0, length) || out[..length] != rule || out[length..].iter().any(|&b| b != FILL) {
+                row.differs(Kind::Unexpected, 0, || format!("{}; document 01: {}", told(), hex(&rule)));
+            } else if rule != rust {
+                let values = if bends { (rule::bend(detuning), steps::bend(detuning)) } else { (rule::fine(detuning), steps::fine(detuning)) };
+                let kind = steps::excused(bends, detuning, values.0, values.1).unwrap_or(Kind::Unexpected);
                 row.differs(kind, format!("{detuning:?}").len(), told);
             }
         }

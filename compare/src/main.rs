@@ -3,6 +3,7 @@
 //! `compare/run` builds and runs it.
 
 mod bytes;
+mod faults;
 mod inputs;
 mod lists;
 mod nearest;
@@ -13,6 +14,7 @@ mod pool_tuners;
 mod pools;
 mod refused;
 mod report;
+mod rule;
 mod speed;
 mod steps;
 mod tuners;
@@ -32,6 +34,7 @@ fn compare(seed: u64) -> u64 {
     pool_tuners::run(&mut chance, &mut rows);
     plan_tuners::run(&mut chance, &mut rows);
     refused::run(&mut rows);
+    faults::run(&mut rows);
     report::summary(&rows)
 }
 

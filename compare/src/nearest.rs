@@ -12,6 +12,7 @@ use crate::ours::Nearest;
 use crate::report::Kind;
 use crate::report::Row;
 use crate::report::progress;
+use crate::rule;
 
 /// The note and the detuning that the Rust finds.
 pub fn found(hz: f64) -> (i32, f64) {
@@ -28,23 +29,36 @@ pub fn from_boundary(hz: f64) -> f64 {
 pub const NEAR: f64 = 2e-6;
 pub const GAP: f64 = 1e-12;
 
+/// Whether a detuning by document 01 is the Rust's but for its last bits.
+pub fn close(rule: f64, rust: f64) -> bool {
+    (rule / rust - 1.0).abs() < GAP
+}
+
+/// Whether the nearest note by document 01 may differ from the Rust's: the other note beside a boundary, with the detuning that belongs to it.
+pub fn excused(hz: f64) -> bool {
+    let ((note, detuning), (rust_note, rust_detuning)) = (rule::nearest(hz), found(hz));
+    let semitone = (f64::from(rust_note - note) / 12.0).exp2();
+    (note - rust_note).abs() == 1 && from_boundary(hz) <= NEAR && close(detuning / semitone, rust_detuning)
+}
+
+/// The port is held to document 01, and document 01 to the Rust.
 fn compare(row: &mut Row, pitches: &[f64]) {
     let mut ours = Nearest::room(pitches.len());
     ours.find(pitches);
     for (i, &hz) in pitches.iter().enumerate() {
         row.cases += 1;
-        let (note, detuning) = (ours.notes[i], ours.detunings[i]);
+        let (note, detuning) = rule::nearest(hz);
         let (rust_note, rust_detuning) = found(hz);
         if from_boundary(hz) <= NEAR {
             row.meets("pitches within 2 millionths of a semitone of a boundary");
         }
-        let semitone = f64::from(rust_note - note) / 12.0;
-        let gap = (detuning / semitone.exp2() / rust_detuning - 1.0).abs();
-        let told = || format!("{hz:?} Hz: note {note}, detuning {detuning:?}; the Rust: {rust_note}, {rust_detuning:?}");
-        if ours.refusals[i] == 0 && note == rust_note && gap < GAP {
+        let (our_note, our_detuning) = (ours.notes[i], ours.detunings[i]);
+        let told = || format!("{hz:?} Hz: note {our_note}, detuning {our_detuning:?}; the Rust: {rust_note}, {rust_detuning:?}");
+        if (ours.refusals[i], our_note, our_detuning) != (0, note, detuning) {
+            row.differs(Kind::Unexpected, 0, || format!("{}; document 01: {note}, {detuning:?}", told()));
+        } else if note == rust_note && close(detuning, rust_detuning) {
             continue;
-        }
-        if ours.refusals[i] == 0 && (note - rust_note).abs() == 1 && from_boundary(hz) <= NEAR && gap < GAP {
+        } else if excused(hz) {
             row.meets(if note < rust_note { "of these the lower note" } else { "of these the higher note" });
             row.differs(Kind::NoteAtBoundary, format!("{hz:?}").len(), told);
         } else {

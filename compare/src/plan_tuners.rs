@@ -19,21 +19,22 @@ use crate::ours::Event;
 use crate::ours::Lists;
 use crate::ours::Message;
 use crate::pools::first_answer;
-use crate::plans::at_limit;
+use crate::plans::excused;
 use crate::plans::judge_notes;
 use crate::plans::judge_pitches;
 use crate::plans::mapping;
+use crate::plans::plan_of_pitches;
 use crate::report::Kind;
 use crate::report::Row;
 use crate::report::progress;
+use crate::rule;
 use crate::tuners::Answer;
-use crate::tuners::Played;
+use crate::tuners::Told;
 use crate::tuners::any_message;
 use crate::tuners::channel_list;
-use crate::tuners::exact;
 use crate::tuners::hold;
-use crate::tuners::room;
 use crate::tuners::short_buffers;
+use crate::tuners::to_all;
 
 /// Keys with their pitches.
 pub type Lines = Vec<(u8, f64)>;
@@ -47,8 +48,11 @@ pub struct Sequence {
     by_pitches: Lines,
     by_notes: Lines,
     lists: Lists,
-    events: Vec<Event>,
-    answers: Vec<Answer>,
+    /// Document 01's plan: each key's channel and note.
+    places: Vec<Option<(usize, i32)>>,
+    /// Why the plan may differ from the Rust's.
+    excuse: Option<Kind>,
+    calls: Vec<Told>,
 }
 
 /// The lists as the port takes them; the notes and detunings are the Rust's.
@@ -70,8 +74,9 @@ impl Sequence {
             lists: lists(&by_pitches, &by_notes),
             by_pitches,
             by_notes,
-            events: Vec::new(),
-            answers: Vec::new(),
+            places: vec![None; 256],
+            excuse: None,
+            calls: Vec::new(),
         }
     }
 
@@ -86,6 +91,46 @@ impl Sequence {
         }
     }
 
+    /// What document 01 answers to a tuning.
+    fn tuned(&mut self, plan: rule::Plan) -> Answer {
+        let channels = plan.count as u16;
+        if plan.count > self.channels.len() {
+            self.places = vec![None; 256];
+            return Answer { kind: ours::NOTHING, channels, ..Answer::default() };
+        }
+        self.places = plan.places;
+        let bytes = self.channels.iter().zip(plan.tops).flat_map(|(&channel, detuning)| rule::tuning(self.bends, channel, detuning)).collect();
+        Answer { bytes, channels, ..Answer::default() }
+    }
+
+    /// What document 01 answers.
+    fn rule(&mut self, event: Event) -> Answer {
+        let note = |kind: u8, key: u8, value: u8| {
+            let place = self.places[usize::from(key)];
+            place.map_or(Vec::new(), |(channel, note)| rule::note_message(kind, self.channels[channel], note, value))
+        };
+        let lists = &self.lists;
+        let bytes = match event {
+            Event::TuneByPitches => {
+                self.excuse = excused(2, &lists.pitches);
+                let plan = plan_of_pitches(2, &lists.pitch_keys, &lists.pitches);
+                return self.tuned(plan);
+            }
+            Event::TuneByNotes => {
+                self.excuse = None;
+                let plan = rule::plan(2, &lists.note_keys, &lists.notes, &lists.detunings);
+                return self.tuned(plan);
+            }
+            Event::Press(key, _, velocity) => note(0x9, key, velocity),
+            Event::Release(key, velocity) => note(0x8, key, velocity),
+            Event::Pressure(key, pressure) => note(0xa, key, pressure),
+            Event::All(message) => to_all(message, self.bends, &self.channels),
+            Event::Stop => Vec::new(),
+            Event::Repitch(..) => unreachable!("of a pool tuner"),
+        };
+        Answer { bytes, ..Answer::default() }
+    }
+
     fn tune(&mut self, by_notes: bool) -> (u8, u16) {
         let lines = if by_notes { &self.by_notes } else { &self.by_pitches };
         let (keys, pitches): (Vec<u8>, Vec<f64>) = lines.iter().copied().unzip();
@@ -93,31 +138,31 @@ impl Sequence {
         (if self.tuner.tuned() { 0 } else { ours::NOTHING }, count as u16)
     }
 
-    pub fn call(&mut self, event: Event) {
-        let mut kind = self.judge(event);
-        let mut channels = 0;
-        if kind == 0 {
-            match event {
-                Event::TuneByPitches => (kind, channels) = self.tune(false),
-                Event::TuneByNotes => (kind, channels) = self.tune(true),
-                Event::Press(key, _, velocity) => self.tuner.note_on(key, velocity),
-                Event::Release(key, velocity) => self.tuner.note_off(key, velocity),
-                Event::Pressure(key, pressure) => self.tuner.note_attr(key, pressure),
-                Event::All(message) => self.tuner.global_attr(rust_message(message)),
-                // The Rust's ends its tuner and sends nothing.
-                Event::Stop => {}
-                Event::Repitch(..) => unreachable!("of a pool tuner"),
-            }
+    fn rust(&mut self, event: Event) -> Answer {
+        let (mut kind, mut channels) = (0, 0);
+        match event {
+            Event::TuneByPitches => (kind, channels) = self.tune(false),
+            Event::TuneByNotes => (kind, channels) = self.tune(true),
+            Event::Press(key, _, velocity) => self.tuner.note_on(key, velocity),
+            Event::Release(key, velocity) => self.tuner.note_off(key, velocity),
+            Event::Pressure(key, pressure) => self.tuner.note_attr(key, pressure),
+            Event::All(message) => self.tuner.global_attr(rust_message(message)),
+            // The Rust's ends its tuner and sends nothing.
+            Event::Stop => {}
+            Event::Repitch(..) => unreachable!("of a pool tuner"),
         }
-        self.events.push(event);
-        self.answers.push(Answer { kind, bytes: self.written.take(), channels });
+        Answer { kind, bytes: self.written.take(), channels }
     }
 
-    /// The answers, if the port's are the Rust's to the last bit.
-    pub fn stored(self) -> Option<Vec<Answer>> {
-        let mut calls = Calls::new(&self.events, room(&self.answers));
-        calls.play_plan(&self.channels, self.bends, &self.lists);
-        exact(&self.answers, &calls).then_some(self.answers)
+    pub fn call(&mut self, event: Event) {
+        let refusal = self.judge(event);
+        let refused = || Answer { kind: refusal, ..Answer::default() };
+        let (rule, rust) = if refusal == 0 { (self.rule(event), self.rust(event)) } else { (refused(), refused()) };
+        self.calls.push(Told { event, rule, rust, excuse: self.excuse });
+    }
+
+    pub fn calls(self) -> Vec<Told> {
+        self.calls
     }
 
     /// A press, a pressure and a release of every key.
@@ -133,25 +178,11 @@ impl Sequence {
 
     fn compare(mut self, row: &mut Row) {
         self.tuner.stop();
-        self.events.push(Event::Stop);
-        self.answers.push(Answer { bytes: self.written.take(), ..Answer::default() });
-        let mut calls = Calls::new(&self.events, room(&self.answers));
-        calls.play_plan(&self.channels, self.bends, &self.lists);
+        let rust = Answer { bytes: self.written.take(), ..Answer::default() };
+        self.calls.push(Told { event: Event::Stop, rule: Answer::default(), rust, excuse: None });
         let setting = format!("channels {:?}, bends {}, by pitches {:?}, by notes {:?}", self.channels, self.bends, self.by_pitches, self.by_notes);
-        let pitches = &self.lists.pitches;
-        let played = Played { setting, lines: self.by_pitches.len() + self.by_notes.len(), events: &self.events, answers: &self.answers };
-        // The plan that a call goes by may differ where pitches were given.
-        hold(row, &played, &calls, |i, _| {
-            let tuning = self.events[..=i].iter().rfind(|event| matches!(event, Event::TuneByPitches | Event::TuneByNotes));
-            let Some(Event::TuneByPitches) = tuning else {
-                return None;
-            };
-            let (notes, detunings): (Vec<i32>, Vec<f64>) = pitches.iter().map(|&hz| nearest::found(hz)).unzip();
-            match () {
-                () if at_limit(2, &notes, &detunings) => Some(Kind::JoinAtLimit),
-                () if pitches.iter().any(|&hz| nearest::from_boundary(hz) <= nearest::NEAR) => Some(Kind::NoteAtBoundary),
-                () => None,
-            }
+        hold(row, &setting, self.by_pitches.len() + self.by_notes.len(), &self.calls, |calls| {
+            calls.play_plan(&self.channels, self.bends, &self.lists);
         });
     }
 }
@@ -335,12 +366,18 @@ pub fn run(chance: &mut Chance, rows: &mut Vec<Row>) {
         let bends = turn % 2 == 1;
         let n = chance.below(17);
         let channels = channel_list(chance, n);
-        let lists = lists(&any_lines(chance), &any_lines(chance));
+        let (by_pitches, by_notes) = (any_lines(chance), any_lines(chance));
+        let lists = lists(&by_pitches, &by_notes);
         let tunings = [Event::TuneByPitches, Event::TuneByNotes];
         let before: Vec<Event> = (0..chance.below(3)).map(|_| chance.pick(&tunings)).collect();
         let last = if chance.below(3) == 0 { any_call(chance) } else { chance.pick(&tunings) };
         let setting = format!("channels {channels:?}, bends {bends}, {} and {} lines", lists.pitches.len(), lists.notes.len());
-        short_buffers(&mut row, &setting, &before, last, 0..=255, |calls| {
+        let rules = |events: &[Event]| {
+            let mut sequence = Sequence::new(&channels, bends, by_pitches.clone(), by_notes.clone());
+            events.iter().for_each(|&event| sequence.call(event));
+            sequence.calls()
+        };
+        short_buffers(&mut row, &setting, &before, last, 0..=255, rules, |calls| {
             calls.play_plan(&channels, bends, &lists);
         });
     }

@@ -19,6 +19,7 @@ use crate::ours::Tuning;
 use crate::report::Kind;
 use crate::report::Row;
 use crate::report::progress;
+use crate::rule;
 
 /// All keys.
 pub const ALL: [u8; 256] = {
@@ -125,15 +126,23 @@ fn expected(plan: &Plan) -> Tuning {
     if plan.tuned { Tuning::Tuned(plan.count) } else { Tuning::Untuned(plan.count) }
 }
 
-fn same_places(plan: &Plan, at: &[u8], sounds: &[i32]) -> bool {
-    plan.places.iter().zip(at).zip(sounds).all(|((place, &channel), &note)| match place {
-        Some((c, n)) => *c == usize::from(channel) && *n == note,
-        None => channel == ours::NOT_FOUND,
-    })
+/// What document 01 answers to a plan that needs so many channels, where so many are present.
+fn answer_of(plan: &rule::Plan, present: usize) -> Tuning {
+    if plan.count <= present { Tuning::Tuned(plan.count) } else { Tuning::Untuned(plan.count) }
+}
+
+/// Whether an answer, with the channel and the note of every key, is the one expected, with these places where it is tuned.
+fn is_plan(expected: Tuning, places: &[Option<(usize, i32)>], answer: Tuning, at: &[u8], sounds: &[i32]) -> bool {
+    let tuned = matches!(expected, Tuning::Tuned(_));
+    answer == expected
+        && places.iter().zip(at).zip(sounds).all(|((place, &channel), &note)| match place {
+            Some(place) if tuned => *place == (usize::from(channel), note),
+            _ => channel == ours::NOT_FOUND,
+        })
 }
 
 /// Whether a key's group has a pair of neighbours, by rising detuning, whose quotient is so near to the joining limit that last bits decide.
-pub fn at_limit(group: u8, notes: &[i32], detunings: &[f64]) -> bool {
+fn at_limit(group: u8, notes: &[i32], detunings: &[f64]) -> bool {
     let mut order: Vec<(i32, f64)> = notes
         .iter()
         .zip(detunings)
@@ -157,7 +166,7 @@ fn compare(fed: &mut Row, by_pitch: &mut Row, keys: &[u8], pitches: &[f64], pres
         let mut at = [99; 256];
         let mut sounds = [9999; 256];
         let answer = ours::plan(&list, group, keys, &notes, &detunings, &ALL, &mut at, &mut sounds);
-        let mut same = answer == expected(&rust) && same_places(&rust, &at, &sounds);
+        let mut same = is_plan(expected(&rust), &rust.places, answer, &at, &sounds);
         if rust.tuned {
             // Each entry is asked for from behind the one before it; behind the last there is none, and none on the channel behind the last.
             let mut asked = vec![(rust.count as u8, i32::MIN)];
@@ -191,19 +200,31 @@ fn compare(fed: &mut Row, by_pitch: &mut Row, keys: &[u8], pitches: &[f64], pres
         }
 
         by_pitch.cases += 1;
+        let planned = plan_of_pitches(group, keys, pitches);
         let answer = ours::plan_of_pitches(&list, group, keys, pitches, &ALL, &mut at, &mut sounds);
-        if answer == expected(&rust) && same_places(&rust, &at, &sounds) {
-            continue;
+        if !is_plan(answer_of(&planned, present), &planned.places, answer, &at, &sounds) {
+            by_pitch.differs(Kind::Unexpected, keys.len(), || told(format!("{answer:?}; document 01: {} channels", planned.count)));
+        } else if answer_of(&planned, present) != expected(&rust) || (rust.tuned && planned.places != rust.places) {
+            let kind = excused(group, pitches).unwrap_or(Kind::Unexpected);
+            by_pitch.differs(kind, keys.len(), || told(format!("{answer:?}")));
         }
-        let kind = if pitches.iter().any(|&hz| nearest::from_boundary(hz) <= nearest::NEAR) {
-            Kind::NoteAtBoundary
-        } else if at_limit(group, &notes, &detunings) {
-            Kind::JoinAtLimit
-        } else {
-            Kind::Unexpected
-        };
-        by_pitch.differs(kind, keys.len(), || told(format!("{answer:?}")));
     }
+}
+
+/// Why a plan of pitches may differ from the Rust's, if it may: a note beside a boundary, or last bits at the joining limit.
+pub fn excused(group: u8, pitches: &[f64]) -> Option<Kind> {
+    let (notes, detunings): (Vec<i32>, Vec<f64>) = pitches.iter().map(|&hz| nearest::found(hz)).unzip();
+    match () {
+        () if pitches.iter().any(|&hz| nearest::excused(hz)) => Some(Kind::NoteAtBoundary),
+        () if at_limit(group, &notes, &detunings) => Some(Kind::JoinAtLimit),
+        () => None,
+    }
+}
+
+/// Document 01's plan of keys with pitches.
+pub fn plan_of_pitches(group: u8, keys: &[u8], pitches: &[f64]) -> rule::Plan {
+    let (notes, detunings): (Vec<i32>, Vec<f64>) = pitches.iter().map(|&hz| rule::nearest(hz)).unzip();
+    rule::plan(group, keys, &notes, &detunings)
 }
 
 /// All lists of so many lines over a palette of pitches.
@@ -306,46 +327,23 @@ fn damaged(row: &mut Row, chance: &mut Chance) {
                 (ours::plan(&[0, 1, 2], group, &keys, &notes, &detunings, &ALL, &mut at, &mut sounds), judge_notes(&keys, &notes, &detunings))
             };
             row.cases += 1;
-            let wrong = match (answer, judged) {
-                (Tuning::Refused(number), Some(judged)) if number == judged => {
-                    row.differs(Kind::Refusal, n, || format!("{n} lines: refusal {number}"));
-                    at != [99; 256] || sounds != [9999; 256]
+            let right = match judged {
+                Some(number) => answer == Tuning::Refused(number) && at == [99; 256] && sounds == [9999; 256],
+                None => {
+                    let planned = if by_pitch { plan_of_pitches(group, &keys, &pitches) } else { rule::plan(group, &keys, &notes, &detunings) };
+                    is_plan(answer_of(&planned, 3), &planned.places, answer, &at, &sounds)
                 }
-                (Tuning::Tuned(_) | Tuning::Untuned(_), None) => false,
-                _ => true,
             };
-            if wrong {
+            if !right {
                 row.differs(Kind::Unexpected, n, || format!("{keys:?}, {notes:?}, {detunings:?}, {pitches:?}: {answer:?}, not {judged:?}"));
+            } else if let Some(number) = judged {
+                row.differs(Kind::Refusal, n, || format!("{n} lines: refusal {number}"));
             }
         }
     }
 }
 
 /// Detunings of the whole of 0.5 to 2, which no pitch has, against the walk as document 01 tells it.
-fn walk(keys: &[u8], notes: &[i32], detunings: &[f64], group: u8) -> (usize, Vec<Option<usize>>) {
-    let mut waiting: Vec<usize> = (0..keys.len()).collect();
-    waiting.sort_by(|&a, &b| detunings[a].total_cmp(&detunings[b]));
-    let mut places = vec![None; 256];
-    let mut channel = 0;
-    while !waiting.is_empty() {
-        let mut latest = std::collections::HashMap::new();
-        waiting.retain(|&i| {
-            let of = match group { 0 => notes[i], 1 => notes[i].rem_euclid(12), _ => 0 };
-            let taken = latest.get(&of).is_none_or(|&d: &f64| {
-                let quotient = detunings[i] / d;
-                0.999999 <= quotient && quotient < 1.000001
-            });
-            if taken {
-                latest.insert(of, detunings[i]);
-                places[keys[i] as usize] = Some(channel);
-            }
-            !taken
-        });
-        channel += 1;
-    }
-    (channel, places)
-}
-
 fn walked(row: &mut Row, chance: &mut Chance) {
     for turn in 0..6000 {
         let n = chance.pick(&[1, 2, 3, 5, 16, 17, 40, 256]);
@@ -365,15 +363,10 @@ fn walked(row: &mut Row, chance: &mut Chance) {
         let mut at = [99; 256];
         let mut sounds = [9999; 256];
         let answer = ours::plan(&list, group, &keys, &notes, &detunings, &ALL, &mut at, &mut sounds);
-        let (count, places) = walk(&keys, &notes, &detunings, group);
+        let planned = rule::plan(group, &keys, &notes, &detunings);
         row.cases += 1;
-        let same = if count <= 16 {
-            answer == Tuning::Tuned(count) && places.iter().zip(at).all(|(place, c)| place.map_or(ours::NOT_FOUND, |p| p as u8) == c)
-        } else {
-            answer == Tuning::Untuned(count) && at.iter().all(|&c| c == ours::NOT_FOUND)
-        };
-        if !same {
-            row.differs(Kind::Unexpected, n, || format!("{keys:?}, {notes:?}, {detunings:?}: {answer:?}, not {count}"));
+        if !is_plan(answer_of(&planned, 16), &planned.places, answer, &at, &sounds) {
+            row.differs(Kind::Unexpected, n, || format!("{keys:?}, {notes:?}, {detunings:?}: {answer:?}, not {}", planned.count));
         }
     }
 }

@@ -27,14 +27,14 @@ use crate::pools::sure;
 use crate::report::Kind;
 use crate::report::Row;
 use crate::report::progress;
+use crate::rule;
 use crate::tuners::Answer;
-use crate::tuners::Played;
+use crate::tuners::Told;
 use crate::tuners::any_message;
 use crate::tuners::channel_list;
-use crate::tuners::exact;
 use crate::tuners::hold;
-use crate::tuners::room;
 use crate::tuners::short_buffers;
+use crate::tuners::to_all;
 
 pub struct Sequence {
     channels: Vec<u8>,
@@ -42,10 +42,11 @@ pub struct Sequence {
     mode: u8,
     tuner: JitTuner<u8, TunableMidi<Handler>>,
     written: Written,
-    /// The pool inside the tuner, told once more: it says which keys are held and which presses are rejected.
+    /// The pool inside document 01's tuner: the Rust's, told document 01's notes.
     pool: JitTuningModel<u8>,
-    events: Vec<Event>,
-    answers: Vec<Answer>,
+    /// Whether a pitch was pressed whose note differs.
+    beside: bool,
+    calls: Vec<Told>,
 }
 
 impl Sequence {
@@ -58,8 +59,8 @@ impl Sequence {
             tuner: JitTuner::start(sender, rust_mode(mode)),
             written,
             pool: JitTuningModel::new(channels.len(), rust_group(false), rust_mode(mode)),
-            events: Vec::new(),
-            answers: Vec::new(),
+            beside: false,
+            calls: Vec::new(),
         }
     }
 
@@ -81,56 +82,91 @@ impl Sequence {
         }
     }
 
-    pub fn call(&mut self, event: Event) {
-        let mut kind = self.judge(event);
-        if kind == 0 {
-            match event {
-                Event::Press(key, hz, velocity) => {
-                    self.tuner.note_on(key, Pitch::from_hz(hz), velocity);
-                    if let RegisterKeyResult::Rejected = self.pool.register_key(key, Pitch::from_hz(hz)) {
-                        kind = ours::NOTHING;
-                    }
-                }
-                Event::Release(key, velocity) => {
-                    self.tuner.note_off(key, velocity);
-                    self.pool.deregister_key(key);
-                }
-                Event::Repitch(key, hz) => self.tuner.note_pitch(key, Pitch::from_hz(hz)),
-                Event::Pressure(key, pressure) => self.tuner.note_attr(key, pressure),
-                // The Rust's `stop` ends its tuner. Before the end of a sequence it is told as releases, by rising key.
-                Event::Stop => {
-                    for key in self.held() {
-                        self.tuner.note_off(key, 0);
-                        self.pool.deregister_key(key);
-                    }
-                }
-                Event::All(message) => self.tuner.global_attr(rust_message(message)),
-                Event::TuneByPitches | Event::TuneByNotes => unreachable!("of a plan tuner"),
+    /// What document 01 answers to a press.
+    fn press(&mut self, key: u8, hz: f64, velocity: u8) -> Answer {
+        let (note, detuning) = rule::nearest(hz);
+        match self.pool.register_key(key, Pitch::from_hz(rule::note_pitch(note))) {
+            RegisterKeyResult::Accepted { channel, stopped_note, .. } => {
+                let channel = self.channels[channel];
+                let stopped = stopped_note.map(|note| rule::note_message(0x8, channel, note.midi_number(), velocity));
+                let tuning = rule::tuning(self.bends, channel, detuning);
+                let bytes = [stopped.unwrap_or_default(), tuning, rule::note_message(0x9, channel, note, velocity)].concat();
+                Answer { bytes, ..Answer::default() }
             }
+            RegisterKeyResult::Rejected => Answer { kind: ours::NOTHING, ..Answer::default() },
         }
-        self.events.push(event);
-        self.answers.push(Answer { kind, bytes: self.written.take(), ..Answer::default() });
     }
 
-    /// The answers, if the port's are the Rust's to the last bit.
-    pub fn stored(self) -> Option<Vec<Answer>> {
-        let mut calls = Calls::new(&self.events, room(&self.answers));
-        calls.play_pool(&self.channels, self.bends, self.mode);
-        exact(&self.answers, &calls).then_some(self.answers)
+    /// The bytes of what is found of a key, by its MIDI channel and note.
+    fn found(&self, result: AccessKeyResult, bytes: impl Fn(u8, i32) -> Vec<u8>) -> Vec<u8> {
+        match result {
+            AccessKeyResult::Found { channel, found_note } => bytes(self.channels[channel], found_note.midi_number()),
+            AccessKeyResult::NotFound => Vec::new(),
+        }
+    }
+
+    fn released(&mut self, key: u8, velocity: u8) -> Vec<u8> {
+        let result = self.pool.deregister_key(key);
+        self.found(result, |channel, note| rule::note_message(0x8, channel, note, velocity))
+    }
+
+    /// What document 01 answers.
+    fn rule(&mut self, event: Event) -> Answer {
+        let bytes = match event {
+            Event::Press(key, hz, velocity) => return self.press(key, hz, velocity),
+            Event::Release(key, velocity) => self.released(key, velocity),
+            Event::Repitch(key, hz) => {
+                self.found(self.pool.access_key(key), |channel, note| rule::tuning(self.bends, channel, hz / rule::note_pitch(note)))
+            }
+            Event::Pressure(key, pressure) => self.found(self.pool.access_key(key), |channel, note| rule::note_message(0xa, channel, note, pressure)),
+            Event::Stop => self.held().into_iter().flat_map(|key| self.released(key, 0)).collect(),
+            Event::All(message) => to_all(message, self.bends, &self.channels),
+            Event::TuneByPitches | Event::TuneByNotes => unreachable!("of a plan tuner"),
+        };
+        Answer { bytes, ..Answer::default() }
+    }
+
+    fn rust(&mut self, event: Event) {
+        match event {
+            Event::Press(key, hz, velocity) => self.tuner.note_on(key, Pitch::from_hz(hz), velocity),
+            Event::Release(key, velocity) => self.tuner.note_off(key, velocity),
+            Event::Repitch(key, hz) => self.tuner.note_pitch(key, Pitch::from_hz(hz)),
+            Event::Pressure(key, pressure) => self.tuner.note_attr(key, pressure),
+            // The Rust's `stop` ends its tuner. Before the end of a sequence it is told as releases, by rising key.
+            Event::Stop => self.held().into_iter().for_each(|key| self.tuner.note_off(key, 0)),
+            Event::All(message) => self.tuner.global_attr(rust_message(message)),
+            Event::TuneByPitches | Event::TuneByNotes => unreachable!("of a plan tuner"),
+        }
+    }
+
+    pub fn call(&mut self, event: Event) {
+        let mut rule = Answer { kind: self.judge(event), ..Answer::default() };
+        if rule.kind == 0 {
+            self.rust(event);
+            rule = self.rule(event);
+            if let Event::Press(_, hz, _) = event {
+                self.beside |= nearest::excused(hz);
+            }
+        }
+        // The Rust does not tell whether a press was rejected.
+        let rust = Answer { kind: rule.kind, bytes: self.written.take(), ..Answer::default() };
+        self.calls.push(Told { event, rule, rust, excuse: self.beside.then_some(Kind::NoteAtBoundary) });
+    }
+
+    pub fn calls(self) -> Vec<Told> {
+        self.calls
     }
 
     /// Plays the port's tuner, and compares every call; at the end `stop`, whose releases may stand in another order.
     fn compare(mut self, row: &mut Row) {
+        let rule = self.rule(Event::Stop);
         self.tuner.stop();
-        self.events.push(Event::Stop);
-        self.answers.push(Answer { bytes: self.written.take(), ..Answer::default() });
-        let last = self.answers.len() - 1;
-        let mut calls = Calls::new(&self.events, room(&self.answers));
-        calls.play_pool(&self.channels, self.bends, self.mode);
+        let rust = Answer { bytes: self.written.take(), ..Answer::default() };
+        let excuse = same_releases(&rule.bytes, &rust.bytes).then_some(Kind::StopOrder);
+        self.calls.push(Told { event: Event::Stop, rule, rust, excuse });
         let setting = format!("channels {:?}, bends {}, mode {}", self.channels, self.bends, self.mode);
-        let played = Played { setting, lines: 0, events: &self.events, answers: &self.answers };
-        hold(row, &played, &calls, |i, bytes| {
-            (i == last && same_releases(bytes, &self.answers[i].bytes)).then_some(Kind::StopOrder)
+        hold(row, &setting, 0, &self.calls, |calls| {
+            calls.play_pool(&self.channels, self.bends, self.mode);
         });
     }
 }
@@ -295,7 +331,12 @@ pub fn run(chance: &mut Chance, rows: &mut Vec<Row>) {
                 let channels = channel_list(chance, n);
                 let before: Vec<Event> = (0..chance.below(12)).map(|_| any_call(chance, 6)).collect();
                 let setting = format!("channels {channels:?}, bends {bends}, mode {mode}");
-                short_buffers(&mut row, &setting, &before, any_call(chance, 6), 0..=5, |calls| {
+                let rules = |events: &[Event]| {
+                    let mut sequence = Sequence::new(&channels, bends, mode);
+                    events.iter().for_each(|&event| sequence.call(event));
+                    sequence.calls()
+                };
+                short_buffers(&mut row, &setting, &before, any_call(chance, 6), 0..=5, rules, |calls| {
                     calls.play_pool(&channels, bends, mode);
                 });
             }

@@ -17,6 +17,7 @@ use crate::ours::Events;
 use crate::report::Kind;
 use crate::report::Row;
 use crate::report::progress;
+use crate::rule;
 
 /// What the Rust answers to an event, in the port's numbers.
 #[derive(Debug, PartialEq)]
@@ -32,15 +33,14 @@ fn nothing(kind: u8) -> Answer {
     Answer { kind, channel: 0, note: ours::NO_NOTE, stopped: ours::NO_NOTE, detuning: 0.0 }
 }
 
-fn pressed(result: RegisterKeyResult) -> Answer {
+fn pressed(result: RegisterKeyResult, hz: f64) -> Answer {
     match result {
-        RegisterKeyResult::Accepted { channel, stopped_note, started_note, detuning } => Answer {
-            kind: ours::FOUND,
-            channel,
-            note: started_note.midi_number(),
-            stopped: stopped_note.map_or(ours::NO_NOTE, Note::midi_number),
-            detuning: detuning.as_float(),
-        },
+        RegisterKeyResult::Accepted { channel, stopped_note, started_note, detuning } => {
+            let (note, rule) = rule::nearest(hz);
+            assert!(note == started_note.midi_number() && nearest::close(rule, detuning.as_float()), "{hz:?} Hz: document 01 and the Rust differ");
+            let stopped = stopped_note.map_or(ours::NO_NOTE, Note::midi_number);
+            Answer { kind: ours::FOUND, channel, note, stopped, detuning: rule }
+        }
         RegisterKeyResult::Rejected => nothing(ours::NOTHING),
     }
 }
@@ -74,6 +74,7 @@ pub fn rust_group(letters: bool) -> GroupBy {
 struct Sequence {
     rust: JitTuningModel<u8>,
     events: Events,
+    /// Of the Rust, but with document 01's detunings, which are the Rust's but for their last bits.
     answers: Vec<Answer>,
 }
 
@@ -95,7 +96,7 @@ impl Sequence {
         } else if let AccessKeyResult::Found { .. } = self.rust.access_key(key) {
             nothing(11)
         } else {
-            pressed(self.rust.register_key(key, Pitch::from_hz(hz)))
+            pressed(self.rust.register_key(key, Pitch::from_hz(hz)), hz)
         };
         self.answers.push(answer);
     }
@@ -129,11 +130,11 @@ impl Sequence {
                 stopped: a.stopped[i],
                 detuning: a.detunings[i],
             };
-            let close = ours.detuning == rust.detuning || (ours.detuning / rust.detuning - 1.0).abs() < nearest::GAP;
-            let same = close && ours == Answer { detuning: ours.detuning, ..*rust };
-            if same {
+            if ours == *rust {
                 match ours.kind {
-                    1..=13 => row.differs(Kind::Refusal, i, || format!("event {} of key {} at {:?} Hz: refusal {}", e.kinds[i], e.keys[i], e.pitches[i], ours.kind)),
+                    1..=13 => row.differs(Kind::Refusal, i, || {
+                        format!("event {} of key {} at {:?} Hz: refusal {}", e.kinds[i], e.keys[i], e.pitches[i], ours.kind)
+                    }),
                     ours::NOTHING => row.meets("answers not found or rejected"),
                     _ if ours.stopped != ours::NO_NOTE => row.meets("presses that stopped a note"),
                     _ => {}

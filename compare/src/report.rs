@@ -8,6 +8,7 @@ use std::io::Write;
 pub enum Kind {
     NoteAtBoundary,
     OneStep,
+    OneStepMore,
     BendClamp,
     JoinAtLimit,
     StopOrder,
@@ -19,7 +20,8 @@ impl Kind {
     pub fn text(self) -> &'static str {
         match self {
             Kind::NoteAtBoundary => "the other note, within 2 millionths of a semitone of the boundary",
-            Kind::OneStep => "one step",
+            Kind::OneStep => "one step less",
+            Kind::OneStepMore => "one step more, by the last bits of the detuning",
             Kind::BendClamp => "8191 where the Rust clamps at 8192",
             Kind::JoinAtLimit => "detunings that differ in their last bits meet the joining limit",
             Kind::StopOrder => "the same releases by rising key, where the Rust's order is a HashMap's",

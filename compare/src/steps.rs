@@ -15,6 +15,7 @@ use crate::ours::Values;
 use crate::report::Kind;
 use crate::report::Row;
 use crate::report::progress;
+use crate::rule;
 
 /// The fine value in the messages of a channel's fine tuning.
 pub fn fine(detuning: f64) -> i32 {
@@ -39,29 +40,33 @@ pub fn bend(detuning: f64) -> i32 {
     i32::from(bytes[1]) + i32::from(bytes[2]) * 128 - 8192
 }
 
+/// Why a value by document 01 may differ from the Rust's, if it may: the clamp of a bend at 8191, or one step less where the exact value lies within
+/// document 01's bound of 1/64 of a step above a whole number.
+pub fn excused(is_bend: bool, detuning: f64, value: i32, rust: i32) -> Option<Kind> {
+    let exact = detuning.log2() * if is_bend { 49152.0 } else { 98304.0 };
+    match () {
+        () if is_bend && (value, rust) == (8191, 8192) && exact > 8191.9 => Some(Kind::BendClamp),
+        () if value == rust - 1 && (exact + 1e-9).rem_euclid(1.0) < 1.0 / 64.0 => Some(Kind::OneStep),
+        () => None,
+    }
+}
+
+/// The port is held to document 01, and document 01 to the Rust.
 fn compare(row: &mut Row, is_bend: bool, detunings: &[f64]) {
     let mut ours = Values::room(detunings.len());
     ours.find(detunings);
     for (i, &detuning) in detunings.iter().enumerate() {
         row.cases += 1;
         let value: i32 = if is_bend { ours.bends[i].into() } else { ours.fines[i].into() };
+        let rule = if is_bend { rule::bend(detuning) } else { rule::fine(detuning) };
         let rust: i32 = if is_bend { bend(detuning) } else { fine(detuning) };
         let told = || format!("{detuning:?}: {value}; the Rust: {rust}");
-        if ours.refusals[i] != 0 {
-            row.differs(Kind::Unexpected, 0, || format!("{detuning:?}: refused"));
-            continue;
-        }
-        if value == rust {
-            continue;
-        }
-        let size = format!("{detuning:?}").len();
-        if is_bend && (value, rust) == (8191, 8192) {
-            row.differs(Kind::BendClamp, size, told);
-        } else if (value - rust).abs() == 1 {
-            row.meets(if value < rust { "of these below the Rust's" } else { "of these above the Rust's" });
-            row.differs(Kind::OneStep, size, told);
-        } else {
-            row.differs(Kind::Unexpected, 0, told);
+        if (ours.refusals[i], value) != (0, rule) {
+            let refusal = ours.refusals[i];
+            row.differs(Kind::Unexpected, 0, || format!("{}; document 01: {rule}, refusal {refusal}", told()));
+        } else if rule != rust {
+            let kind = excused(is_bend, detuning, rule, rust);
+            row.differs(kind.unwrap_or(Kind::Unexpected), format!("{detuning:?}").len(), told);
         }
     }
 }

@@ -1,5 +1,6 @@
 //! The console program in Rust: the same lines in and out, over the Rust that the port replaces (its own files, unchanged, from the `shared` folder
-//! beside the repository). It has no refusal 11: the Rust does not tell that a key is held.
+//! beside the repository). It has no refusal 11: the Rust does not tell that a key is held. With the word `rule` it answers by document 01, as the comparison's
+//! driver tells it, to the last bit.
 #![allow(dead_code, clippy::all)]
 
 #[path = "../../../../shared/docs/src/key.rs"]
@@ -15,6 +16,8 @@ pub mod note;
 mod parse;
 #[path = "../../../../shared/docs/src/pitch.rs"]
 pub mod pitch;
+#[path = "../../src/rule.rs"]
+mod rule;
 #[path = "../../../../shared/docs/src/tuner/mod.rs"]
 pub mod tuner;
 #[path = "../../../../shared/docs/src/tuning.rs"]
@@ -25,7 +28,7 @@ use std::io::{BufRead, BufReader, BufWriter, Write, stdin, stdout};
 use std::rc::Rc;
 
 use pitch::Pitch;
-use tuner::{JitTuner, MidiTarget, MidiTunerMessage, PoolingMode, TunableMidi};
+use tuner::{AccessKeyResult, GroupBy, JitTuner, JitTuningModel, MidiTarget, MidiTunerMessage, PoolingMode, RegisterKeyResult, TunableMidi};
 
 const BUFFER: usize = 65536;
 
@@ -96,10 +99,48 @@ fn write_lines(count: usize) {
     }
 }
 
+/// Document 01's refusal or bytes, by the Rust's pool told document 01's notes.
+fn by_rule(pool: &mut JitTuningModel<u8>, event: Option<Event>) -> (u8, Vec<u8>) {
+    let found = |result, bytes: &dyn Fn(u8, i32) -> Vec<u8>| match result {
+        AccessKeyResult::Found { channel, found_note } => bytes(channel as u8, found_note.midi_number()),
+        AccessKeyResult::NotFound => Vec::new(),
+    };
+    match event {
+        None => (13, Vec::new()),
+        Some(Event::On(_, _, velocity) | Event::Off(_, velocity)) if velocity > 127 => (8, Vec::new()),
+        Some(Event::On(_, 0, _) | Event::Bend(_, 0)) => (1, Vec::new()),
+        Some(Event::On(key, ..)) if matches!(pool.access_key(key), AccessKeyResult::Found { .. }) => (11, Vec::new()),
+        Some(Event::On(key, millihertz, velocity)) => {
+            let (note, detuning) = rule::nearest(f64::from(millihertz) / 1000.0);
+            let RegisterKeyResult::Accepted { channel, stopped_note, .. } = pool.register_key(key, Pitch::from_hz(rule::note_pitch(note))) else {
+                return (0, Vec::new());
+            };
+            let channel = channel as u8;
+            let stopped = stopped_note.map_or(Vec::new(), |note| rule::note_message(0x8, channel, note.midi_number(), velocity));
+            (0, [stopped, rule::tuning(false, channel, detuning), rule::note_message(0x9, channel, note, velocity)].concat())
+        }
+        Some(Event::Off(key, velocity)) => (0, found(pool.deregister_key(key), &|channel, note| rule::note_message(0x8, channel, note, velocity))),
+        Some(Event::Bend(key, millihertz)) => {
+            let hz = f64::from(millihertz) / 1000.0;
+            (0, found(pool.access_key(key), &|channel, note| rule::tuning(false, channel, hz / rule::note_pitch(note))))
+        }
+    }
+}
+
+fn answer_by_rule() {
+    let mut pool = JitTuningModel::new(2, GroupBy::Channel, PoolingMode::Stop);
+    let mut output = BufWriter::new(stdout().lock());
+    for line in stdin().lock().split(b'\n') {
+        let (refusal, bytes) = by_rule(&mut pool, parse_line(&line.unwrap()));
+        answer(&mut output, refusal, &bytes);
+    }
+}
+
 fn main() {
-    if let Some(count) = std::env::args().nth(1) {
-        write_lines(count.parse().unwrap());
-        return;
+    match std::env::args().nth(1).as_deref() {
+        Some("rule") => return answer_by_rule(),
+        Some(count) => return write_lines(count.parse().unwrap()),
+        None => {}
     }
     let sent = Rc::new(RefCell::new(Vec::with_capacity(64)));
     let bytes = sent.clone();

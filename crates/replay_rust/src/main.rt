@@ -1,5 +1,7 @@
-// Replays a stored list of what the Rust answered. Standard input has the inputs, which the comparison's driver wrote, as numbers: their count, and
-// for each its kind (1 to 6) and its parts. What is written is held to the file `stdout`, which has the Rust's answers.
+// Replays a stored list of questions, which the comparison's driver wrote without asking this port. Standard input has them as numbers: their count, and
+// on a line for each its kind (1 to 6) and its parts. What is written is held to the file `stdout`. A line there is the Rust's answer. Where document 01 wants
+// another, the line has that, and behind `#` what the Rust answers and why the two differ: the whole answer, or what stands in it between two commas, by
+// its number from 0. The question has the same remark, which is written behind the answer as it is.
 
 ghost use Prim.Native.Nat.{_≤_};
 
@@ -57,7 +59,7 @@ fn replay(text: &[u8]) {
     let mut at = count.at;
     let mut i: u64 = 0;
     while i < n {
-        at = replay_one(text, at);
+        at = remark(text, replay_one(text, at));
         word(b"\n");
         i += 1;
     }
@@ -82,6 +84,20 @@ fn replay_one(text: &[u8], at: usize) -> usize {
         return pool_tuner(text, kind.at);
     }
     plan_tuner(text, kind.at)
+}
+
+// Writes what is left of a line.
+fn remark(text: &[u8], from: usize) -> usize {
+    let n = text.len();
+    let mut at = from;
+    while at < n {
+        if text[at] == b'\n' {
+            word(&text[from..at]);
+            return at;
+        }
+        at += 1;
+    }
+    at
 }
 
 // The next number: its digits, behind what is no digit.

@@ -20,6 +20,9 @@ loop-holds c = tt
 replay-one-requires : tie.Need-replay-one-requires Inv-loop μ-loop
 replay-one-requires c κs = search needs
 
+remark-requires : tie.Need-remark-requires Inv-loop μ-loop
+remark-requires c κs = search needs
+
 slice-aggregate-word : tie.Need-slice-aggregate-word Inv-loop μ-loop
 slice-aggregate-word c = omega arith
 
@@ -47,6 +50,7 @@ replay-spec =
     read-requires
     loop-holds
     replay-one-requires
+    remark-requires
     slice-aggregate-word
     word-requires
     add-i
