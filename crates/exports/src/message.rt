@@ -98,10 +98,11 @@ fn tell_sent(sent: Sent, count: &mut [usize]) -> u8
 fn channel_tuning(bends: bool, channel: u8, detuning: f64, out: &mut [u8]) -> Sent
     ensures { λ r. ⌜ Answers (channelTuningRule (kindOf bends) channel detuning) (now (out .entry)) (sentAnswer r) (now (out .exit)) ⌝ }
 {
+    let ratio = Ratio::from_float(detuning);
     if bends {
-        return channel_pitch_bend(channel, Ratio::from_float(detuning), out);
+        return channel_pitch_bend(channel, ratio, out);
     }
-    channel_fine_tuning(channel, Ratio::from_float(detuning), out)
+    channel_fine_tuning(channel, ratio, out)
 }
 
 // How channels are tuned: by bends, or by fine tuning.

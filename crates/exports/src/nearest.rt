@@ -5,7 +5,7 @@ ghost use lib.ListN.{length};
 ghost use Rattle.arithmetic.specs.Nearest.{nearestRule};
 ghost use Rattle.models.specs.Answers.{tuningAnswer};
 ghost use Rattle.models.specs.declared.steps.TuningKind.the-variants.{FineTuning, Bend};
-ghost use Rattle.exports.specs.Lent.{filled};
+ghost use Rattle.exports.specs.Lent.{filled, floatAt};
 ghost use Rattle.exports.specs.Numbers.{foundNote, refusalOf, fineOf, bendOf, nearestAt, tuningAt};
 use crate::lent::float_at;
 use crate::lent::put_bend;
@@ -67,7 +67,7 @@ pub extern "C" fn tune_values(
     let n = detunings.len();
     let mut i: usize = 0;
     while i < n {
-        let detuning = Ratio::from_float(float_at(detunings, i));
+        let detuning = ratio_at(detunings, i);
         let fine = tuning_of(TuningKind::FineTuning, detuning);
         let bend = tuning_of(TuningKind::Bend, detuning);
         put_byte(refusals, i, refusal_of(fine));
@@ -75,6 +75,12 @@ pub extern "C" fn tune_values(
         put_bend(bends, i, bend_of(bend));
         i += 1;
     }
+}
+
+fn ratio_at(detunings: &[f64], i: usize) -> Ratio
+    ensures { λ r. ⌜ r .«float_value» ≡ floatAt (now (detunings .entry)) i ⌝ }
+{
+    Ratio::from_float(float_at(detunings, i))
 }
 
 fn find(hz: f64) -> Found

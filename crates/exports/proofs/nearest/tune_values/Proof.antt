@@ -28,8 +28,8 @@ loop-holds : tie.Need-loop-holds Inv-loop μ-loop
 unfolding filled
 loop-holds c = (omega arith, refl, refl, refl)
 
-float-at-requires : tie.Need-float-at-requires Inv-loop μ-loop
-float-at-requires c κs = search needs
+ratio-at-requires : tie.Need-ratio-at-requires Inv-loop μ-loop
+ratio-at-requires c κs = search needs
 
 tuning-of-requires : tie.Need-tuning-of-requires Inv-loop μ-loop
 tuning-of-requires c κs = search needs
@@ -67,8 +67,8 @@ loop-again c =
     let detunings = start .args .detunings .now in
     let i = c .before .before .before .before .before .before .before .before .before .before .before .before .before .before .before .before .before .before .loop .i in
     let inv = c .before .before .before .before .before .before .before .before .before .before .before .before .before .before .before .before .before .before .loop .inv in
-    let fine = c .before .before .before .before .before .before .before .before .before .before .before .before .before .before .before .tuning-of .ensures ∙ ap (tuningRule FineTuning) (c .before .before .before .before .before .before .before .before .before .before .before .before .before .before .before .before .float-at .ensures) in
-    let bend = c .before .before .before .before .before .before .before .before .before .before .before .before .before .before .tuning-of2 .ensures ∙ ap (tuningRule Bend) (c .before .before .before .before .before .before .before .before .before .before .before .before .before .before .before .before .float-at .ensures) in (
+    let fine = c .before .before .before .before .before .before .before .before .before .before .before .before .before .before .before .tuning-of .ensures ∙ ap (tuningRule FineTuning) (c .before .before .before .before .before .before .before .before .before .before .before .before .before .before .before .before .ratio-at .ensures) in
+    let bend = c .before .before .before .before .before .before .before .before .before .before .before .before .before .before .tuning-of2 .ensures ∙ ap (tuningRule Bend) (c .before .before .before .before .before .before .before .before .before .before .before .before .before .before .before .before .ratio-at .ensures) in (
       omega arith,
       filled-turn (λ k. refusalOf (tuningAt FineTuning detunings k)) (start .args .refusals .now) i _ _ _ (c .before .before .before .before .before .before .before .before .before .before .before .put-byte .ensures) (inv .1) (c .before .before .before .before .before .before .before .before .before .before .before .before .refusal-of .ensures ∙ ap refusalOf fine),
       filled-turn (λ k. fineOf (tuningAt FineTuning detunings k)) (start .args .fines .now) i _ _ _ (c .before .before .before .before .before .before .put-short .ensures) (inv .2) (c .before .before .before .before .before .before .before .fine-of .ensures ∙ ap fineOf fine),
@@ -104,7 +104,7 @@ tune-values-spec =
     Inv-loop
     μ-loop
     loop-holds
-    float-at-requires
+    ratio-at-requires
     tuning-of-requires
     tuning-of-requires-2
     refusal-of-requires
