@@ -1,0 +1,139 @@
+use borrow.Author.Needs.{needs}
+use Rattle.terminal.proofs.turn.Statement.{statement}
+use Rattle.terminal.proofs.turn.Tie as tie
+use Rattle.terminal.proofs.turn.Reads as reads
+use Rattle.terminal.proofs.turn.Lts as lts
+use Rattle.libc.proofs.read.Reads as read-reads
+use Rattle.libc.proofs.write.Reads as write-reads
+use Rattle.terminal.proofs.goes_on.Reads as goes-on-reads
+use Rattle.terminal.proofs.stream.Stream.answer.Reads as answer-reads
+use Rattle.terminal.proofs.stream.Stream.has_ended.Reads as has-ended-reads
+use Rattle.terminal.proofs.stream.Stream.read.Reads as stream-Stream-read-reads
+use Rattle.terminal.proofs.stream.Stream.unanswered.Reads as unanswered-reads
+use Rattle.terminal.proofs.stream.Stream.unwritten.Reads as unwritten-reads
+use Rattle.terminal.proofs.stream.Stream.wrote.Reads as wrote-reads
+
+-- src/lib.rt:51:8
+unwritten-requires : tie.Need-unwritten-requires
+unwritten-requires c κs = search needs
+
+-- src/lib.rt:52:46
+unwritten-requires-2 : tie.Need-unwritten-requires-2
+unwritten-requires-2 c κs = search needs
+
+-- src/lib.rt:52:13
+write-requires : tie.Need-write-requires
+write-requires c κs = search needs
+
+-- src/lib.rt:53:33
+slice-aggregate-goes-on : tie.Need-slice-aggregate-goes-on
+slice-aggregate-goes-on c = search needs
+
+-- src/lib.rt:53:13
+goes-on-requires : tie.Need-goes-on-requires
+goes-on-requires c κs = search needs
+
+-- src/lib.rt:55:21
+wrote-requires : tie.Need-wrote-requires
+wrote-requires c κs = search needs
+
+-- src/lib.rt:54:9
+same-length : tie.Need-same-length
+same-length c = search needs
+
+-- src/lib.rt:54:9
+returns : tie.Need-returns
+returns c = ?
+
+-- src/lib.rt:59:8
+unanswered-requires : tie.Need-unanswered-requires
+unanswered-requires c κs = search needs
+
+-- src/lib.rt:61:21
+answer-requires : tie.Need-answer-requires
+answer-requires c κs = search needs
+
+-- src/lib.rt:60:9
+same-length-2 : tie.Need-same-length-2
+same-length-2 c = search needs
+
+-- src/lib.rt:60:9
+same-length-3 : tie.Need-same-length-3
+same-length-3 c = search needs
+
+-- src/lib.rt:60:9
+returns-2 : tie.Need-returns-2
+returns-2 c = ?
+
+-- src/lib.rt:65:8
+has-ended-requires : tie.Need-has-ended-requires
+has-ended-requires c κs = search needs
+
+-- src/lib.rt:66:9
+same-length-4 : tie.Need-same-length-4
+same-length-4 c = search needs
+
+-- src/lib.rt:66:9
+same-length-5 : tie.Need-same-length-5
+same-length-5 c = search needs
+
+-- src/lib.rt:66:9
+returns-3 : tie.Need-returns-3
+returns-3 c = ?
+
+-- src/lib.rt:71:9
+read-requires : tie.Need-read-requires
+read-requires c κs = search needs
+
+-- src/lib.rt:72:29
+slice-aggregate-goes-on-2 : tie.Need-slice-aggregate-goes-on-2
+slice-aggregate-goes-on-2 c = search needs
+
+-- src/lib.rt:72:9
+goes-on-requires-2 : tie.Need-goes-on-requires-2
+goes-on-requires-2 c κs = search needs
+
+-- src/lib.rt:74:17
+read-requires-2 : tie.Need-read-requires-2
+read-requires-2 c κs = search needs
+
+-- src/lib.rt:42:1
+same-length-6 : tie.Need-same-length-6
+same-length-6 c = search needs
+
+-- src/lib.rt:42:1
+same-length-7 : tie.Need-same-length-7
+same-length-7 c = search needs
+
+-- src/lib.rt:42:1
+returns-4 : tie.Need-returns-4
+returns-4 c = ?
+
+pub turn-spec : {M : Type 1} → statement M
+turn-spec =
+    tie.close
+    (tie.spec
+    unwritten-requires
+    unwritten-requires-2
+    write-requires
+    slice-aggregate-goes-on
+    goes-on-requires
+    wrote-requires
+    same-length
+    returns
+    unanswered-requires
+    answer-requires
+    same-length-2
+    same-length-3
+    returns-2
+    has-ended-requires
+    same-length-4
+    same-length-5
+    returns-3
+    read-requires
+    slice-aggregate-goes-on-2
+    goes-on-requires-2
+    read-requires-2
+    same-length-6
+    same-length-7
+    returns-4)
