@@ -1,3 +1,9 @@
+-- `terminal::run` meets its contract: it has made turns from the start. The turns left are counted down. Assumes nothing.
+use mathlib.Core.Path.{_≡_, refl, _∙_}
+use native.Mathlib.Omega.{arith}
+use lib.ListN.{length}
+use Rattle.terminal.specs.Stream.{view, Ran}
+use Rattle.terminal.proofs.Turns.{ran-none, ran-more}
 use Rattle.terminal.proofs.run.Statement.{statement}
 use Rattle.terminal.proofs.run.Tie as tie
 use Rattle.terminal.proofs.run.Reads as reads
@@ -6,62 +12,63 @@ use Rattle.terminal.proofs.stream.Stream.new.Reads as new-reads
 use Rattle.terminal.proofs.turn.Reads as turn-reads
 
 abbrev Inv-loop : tie.InvT-loop
-Inv-loop piece₀ out₀ stream₀ turns₀ piece out stream turns = ?
+Inv-loop piece₀ out₀ stream₀ turns₀ piece out stream turns =
+    (length piece ≡ length piece₀) × (length out ≡ length out₀) × Ran (view stream piece out)
 
 abbrev μ-loop : tie.MeasureT-loop
-μ-loop piece₀ out₀ stream₀ turns₀ piece out stream turns = ?
+μ-loop piece₀ out₀ stream₀ turns₀ piece out stream turns = turns
 
 -- src/lib.rt:19:9
 new-requires : tie.Need-new-requires Inv-loop μ-loop
-new-requires c κs = ?
+new-requires c κs = tt
 
 -- src/lib.rt:21:9
 returns : tie.Need-returns Inv-loop μ-loop
-returns c = ?
+returns c = let a = c .before .before .before .before .args in ran-none _ (c .before .new .ensures (a .piece .now) (a .out .now))
 
 -- src/lib.rt:24:5
 loop-holds : tie.Need-loop-holds Inv-loop μ-loop
-loop-holds c = ?
+loop-holds c = let a = c .before .before .before .before .args in (refl, refl, ran-none _ (c .before .new .ensures (a .piece .now) (a .out .now)))
 
 -- src/lib.rt:25:13
 turn-requires : tie.Need-turn-requires Inv-loop μ-loop
-turn-requires c κs = ?
+turn-requires c κs = tt
 
 -- src/lib.rt:28:13
 same-length : tie.Need-same-length Inv-loop μ-loop
-same-length c = ?
+same-length c = c .before .before .before .before .before .before .before .turn .kept .1 .0 ∙ c .before .before .before .before .before .before .before .before .before .before .before .loop .inv .0
 
 -- src/lib.rt:28:13
 same-length-2 : tie.Need-same-length-2 Inv-loop μ-loop
-same-length-2 c = ?
+same-length-2 c = c .before .before .before .before .before .before .before .turn .kept .1 .1 .0 ∙ c .before .before .before .before .before .before .before .before .before .before .before .loop .inv .1
 
 -- src/lib.rt:28:13
 returns-2 : tie.Need-returns-2 Inv-loop μ-loop
-returns-2 c = ?
+returns-2 c = ran-more (c .before .before .before .before .before .before .before .before .before .before .before .loop .inv .2) (c .before .before .before .before .before .before .before .turn .ensures)
 
 -- src/lib.rt:30:9
 sub-turns : tie.Need-sub-turns Inv-loop μ-loop
-sub-turns c = ?
+sub-turns c = omega arith
 
 -- src/lib.rt:24:5
 loop-less : tie.Need-loop-less Inv-loop μ-loop
-loop-less c = ?
+loop-less c = omega arith
 
 -- src/lib.rt:24:5
 loop-again : tie.Need-loop-again Inv-loop μ-loop
-loop-again c = ?
+loop-again c = (c .before .before .before .before .before .before .before .turn .kept .1 .0 ∙ c .before .before .before .before .before .before .before .before .before .before .before .loop .inv .0, c .before .before .before .before .before .before .before .turn .kept .1 .1 .0 ∙ c .before .before .before .before .before .before .before .before .before .before .before .loop .inv .1, ran-more (c .before .before .before .before .before .before .before .before .before .before .before .loop .inv .2) (c .before .before .before .before .before .before .before .turn .ensures))
 
 -- src/lib.rt:16:1
 same-length-3 : tie.Need-same-length-3 Inv-loop μ-loop
-same-length-3 c = ?
+same-length-3 c = c .before .loop .inv .0
 
 -- src/lib.rt:16:1
 same-length-4 : tie.Need-same-length-4 Inv-loop μ-loop
-same-length-4 c = ?
+same-length-4 c = c .before .loop .inv .1
 
 -- src/lib.rt:16:1
 returns-3 : tie.Need-returns-3 Inv-loop μ-loop
-returns-3 c = ?
+returns-3 c = c .before .loop .inv .2
 
 pub run-spec : {M : Type 1} → statement M
 run-spec =

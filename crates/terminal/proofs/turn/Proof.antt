@@ -1,3 +1,9 @@
+-- `terminal::turn` meets its contract: it writes, answers, rests or reads. Assumes nothing.
+use native.Mathlib.Omega.{arith}
+use mathlib.Core.Path.{sym, _∙_}
+use Rattle.terminal.specs.Stream.{view}
+use Rattle.terminal.proofs.Parts.{empty}
+use Rattle.terminal.proofs.Turns.{turn-rests, turn-writes, turn-answers, turn-reads}
 use borrow.Author.Needs.{needs}
 use Rattle.terminal.proofs.turn.Statement.{statement}
 use Rattle.terminal.proofs.turn.Tie as tie
@@ -43,7 +49,8 @@ same-length c = search needs
 
 -- src/lib.rt:54:9
 returns : tie.Need-returns
-returns c = ?
+returns c = let a = c .before .before .before .before .before .before .before .before .before .before .before .before .args in
+    turn-writes (view (a .stream) (a .piece .now) (a .out .now)) _ _ (c .wrote .ensures (a .piece .now))
 
 -- src/lib.rt:59:8
 unanswered-requires : tie.Need-unanswered-requires
@@ -63,7 +70,8 @@ same-length-3 c = search needs
 
 -- src/lib.rt:60:9
 returns-2 : tie.Need-returns-2
-returns-2 c = ?
+returns-2 c = let a = c .before .before .before .before .before .before .before .before .before .before .before .before .before .args in
+    turn-answers (view (a .stream) (a .piece .now) (a .out .now)) _ _ (sym (c .before .before .before .before .before .before .before .before .before .unwritten .ensures) ∙ empty (c .before .before .before .before .before .before .before .before .before .unwritten .result .now) (omega (arith, c .before .before .before .before .before .before .before .before .if1 .left))) (c .before .before .answer .ensures)
 
 -- src/lib.rt:65:8
 has-ended-requires : tie.Need-has-ended-requires
@@ -79,7 +87,8 @@ same-length-5 c = search needs
 
 -- src/lib.rt:66:9
 returns-3 : tie.Need-returns-3
-returns-3 c = ?
+returns-3 c = let a = c .before .before .before .before .before .before .before .before .before .before .args in
+    turn-rests (view (a .stream) (a .piece .now) (a .out .now))
 
 -- src/lib.rt:71:9
 read-requires : tie.Need-read-requires
@@ -107,7 +116,8 @@ same-length-7 c = search needs
 
 -- src/lib.rt:42:1
 returns-4 : tie.Need-returns-4
-returns-4 c = ?
+returns-4 c = let a = c .before .before .before .before .before .before .before .before .before .before .before .before .before .before .before .before .before .before .before .before .before .args in
+    turn-reads (a .stream) _ _ _ (a .piece .now) _ (a .out .now) (c .before .before .before .before .before .before .before .before .before .read .kept .1 .0) (sym (c .before .before .before .before .before .before .before .before .before .before .before .before .before .before .unanswered .ensures) ∙ empty (c .before .before .before .before .before .before .before .before .before .before .before .before .before .before .unanswered .result .now) (omega (arith, c .before .before .before .before .before .before .before .before .before .before .before .before .before .if2 .left))) (sym (c .before .before .before .before .before .before .before .before .before .before .before .before .before .before .before .before .before .unwritten .ensures) ∙ empty (c .before .before .before .before .before .before .before .before .before .before .before .before .before .before .before .before .before .unwritten .result .now) (omega (arith, c .before .before .before .before .before .before .before .before .before .before .before .before .before .before .before .before .if1 .left))) (sym (c .before .before .before .before .before .before .before .before .before .before .before .before .has-ended .ensures) ∙ c .before .before .before .before .before .before .before .before .before .before .before .if3 .left) (c .before .before .read2 .ensures)
 
 pub turn-spec : {M : Type 1} → statement M
 turn-spec =
