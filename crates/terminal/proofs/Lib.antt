@@ -1,3 +1,4 @@
 pub mod Parts
 pub mod Streams
 pub mod Turns
+pub mod Runs

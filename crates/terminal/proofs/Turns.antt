@@ -5,7 +5,7 @@ use mathlib.Core.Bool.{Bool, false}
 use mathlib.Core.List.{List, [], _++_, append-nil}
 use lib.ListN.{length, take}
 use lib.IntN.{ℤ}
-use Rattle.terminal.specs.Stream.{State, view, part, start, answerRule, brought, readRule, count, writeRule, Leaves, Idle, Turn, rests, reads, answers, writes, Reached, starts, turns, Turned, Ran}
+use Rattle.terminal.specs.Stream.{State, view, part, start, answerRule, brought, readRule, count, writeRule, Idle, Turn, rests, reads, answers, writes, Reached, starts, turns, Turned, Ran}
 use Rattle.terminal.specs.declared.stream.Stream.{Stream}
 use Rattle.terminal.proofs.Parts.{empty, part-size}
 
@@ -15,19 +15,19 @@ turn-rests s = record { read = []; put = []; turn = rests }
 pub turn-writes : (s t : State) (put : ℤ) → t ≡ writeRule put s → Turned s t
 turn-writes s t put e = record { read = []; put = take (count put) (s .unwritten); turn = subst (λ (u : State). Turn s [] (take (count put) (s .unwritten)) u) (sym e) (writes put) }
 
-pub turn-answers : (s t : State) (room : ℕ) {buffer new : List ℕ} → s .unwritten ≡ [] → Leaves (answerRule room s) buffer t new → Turned s t
-turn-answers s t room none l = record { read = []; put = []; turn = subst (λ (u : State). Turn s [] [] u) (sym (l .state-is)) (answers room none) }
+pub turn-answers : (s t : State) (room : ℕ) → s .unwritten ≡ [] → t ≡ answerRule room s → Turned s t
+turn-answers s t room none e = record { read = []; put = []; turn = subst (λ (u : State). Turn s [] [] u) (sym e) (answers room none) }
 
 -- a read overwrites nothing that is still to be answered
-pub turn-reads : (s : Stream) (t : State) (room : ℕ) (got : ℤ) (before piece out : List ℕ) {buffer new : List ℕ} → length piece ≡ length before
+pub turn-reads : (s : Stream) (t : State) (room : ℕ) (got : ℤ) (before piece out : List ℕ) → length piece ≡ length before
     → part (s .at) (s .len) before ≡ [] → part (s .from) (s .end) out ≡ [] → s .ended ≡ false
-    → Leaves (readRule room got piece (view s piece out)) buffer t new → Turned (view s before out) t
-turn-reads s t room got before piece out same none written more l =
+    → t ≡ readRule room got piece (view s piece out) → Turned (view s before out) t
+turn-reads s t room got before piece out same none written more e =
     record {
       read = brought got piece;
       put = [];
       turn =
-          subst (λ (u : State). Turn (view s before out) (brought got piece) [] u) (sym (l .state-is ∙ ap (readRule room got piece) kept))
+          subst (λ (u : State). Turn (view s before out) (brought got piece) [] u) (sym (e ∙ ap (readRule room got piece) kept))
           (reads room got piece (record { answered = none; written = written; more = more }));
     }
   where

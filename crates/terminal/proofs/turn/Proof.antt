@@ -71,7 +71,7 @@ same-length-3 c = search needs
 -- src/lib.rt:60:9
 returns-2 : tie.Need-returns-2
 returns-2 c = let a = c .before .before .before .before .before .before .before .before .before .before .before .before .before .args in
-    turn-answers (view (a .stream) (a .piece .now) (a .out .now)) _ _ (sym (c .before .before .before .before .before .before .before .before .before .unwritten .ensures) ∙ empty (c .before .before .before .before .before .before .before .before .before .unwritten .result .now) (omega (arith, c .before .before .before .before .before .before .before .before .if1 .left))) (c .before .before .answer .ensures)
+    turn-answers (view (a .stream) (a .piece .now) (a .out .now)) _ _ (sym (c .before .before .before .before .before .before .before .before .before .unwritten .ensures) ∙ empty (c .before .before .before .before .before .before .before .before .before .unwritten .result .now) (omega (arith, c .before .before .before .before .before .before .before .before .if1 .left))) (c .before .before .answer .ensures .state-is)
 
 -- src/lib.rt:65:8
 has-ended-requires : tie.Need-has-ended-requires
@@ -117,7 +117,7 @@ same-length-7 c = search needs
 -- src/lib.rt:42:1
 returns-4 : tie.Need-returns-4
 returns-4 c = let a = c .before .before .before .before .before .before .before .before .before .before .before .before .before .before .before .before .before .before .before .before .before .args in
-    turn-reads (a .stream) _ _ _ (a .piece .now) _ (a .out .now) (c .before .before .before .before .before .before .before .before .before .read .kept .1 .0) (sym (c .before .before .before .before .before .before .before .before .before .before .before .before .before .before .unanswered .ensures) ∙ empty (c .before .before .before .before .before .before .before .before .before .before .before .before .before .before .unanswered .result .now) (omega (arith, c .before .before .before .before .before .before .before .before .before .before .before .before .before .if2 .left))) (sym (c .before .before .before .before .before .before .before .before .before .before .before .before .before .before .before .before .before .unwritten .ensures) ∙ empty (c .before .before .before .before .before .before .before .before .before .before .before .before .before .before .before .before .before .unwritten .result .now) (omega (arith, c .before .before .before .before .before .before .before .before .before .before .before .before .before .before .before .before .if1 .left))) (sym (c .before .before .before .before .before .before .before .before .before .before .before .before .has-ended .ensures) ∙ c .before .before .before .before .before .before .before .before .before .before .before .if3 .left) (c .before .before .read2 .ensures)
+    turn-reads (a .stream) _ _ _ (a .piece .now) _ (a .out .now) (c .before .before .before .before .before .before .before .before .before .read .kept .1 .0) (sym (c .before .before .before .before .before .before .before .before .before .before .before .before .before .before .unanswered .ensures) ∙ empty (c .before .before .before .before .before .before .before .before .before .before .before .before .before .before .unanswered .result .now) (omega (arith, c .before .before .before .before .before .before .before .before .before .before .before .before .before .if2 .left))) (sym (c .before .before .before .before .before .before .before .before .before .before .before .before .before .before .before .before .before .unwritten .ensures) ∙ empty (c .before .before .before .before .before .before .before .before .before .before .before .before .before .before .before .before .before .unwritten .result .now) (omega (arith, c .before .before .before .before .before .before .before .before .before .before .before .before .before .before .before .before .if1 .left))) (sym (c .before .before .before .before .before .before .before .before .before .before .before .before .has-ended .ensures) ∙ c .before .before .before .before .before .before .before .before .before .before .before .if3 .left) (c .before .before .read2 .ensures .state-is)
 
 pub turn-spec : {M : Type 1} → statement M
 turn-spec =
