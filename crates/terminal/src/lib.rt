@@ -3,8 +3,10 @@
 ghost use Rattle.terminal.specs.Stream.{view, Turned, Ran};
 use libc::STDIN_FILENO;
 use libc::STDOUT_FILENO;
+use pause::pause;
 use stream::Stream;
 
+mod pause;
 pub mod stream;
 
 // The longest answer: eighteen bytes, each with the space or the feed behind it.
@@ -87,6 +89,7 @@ fn goes_on(result: isize, name: &[u8]) -> bool {
         return true;
     }
     if error == libc::EAGAIN {
+        pause();
         return true;
     }
     os::fail(name);
