@@ -1,19 +1,21 @@
 -- What the program has written is the start of what it writes for the whole input, whatever is still to come; and where the input has ended and
 -- nothing is left to be written, it is all of it. Assumes nothing.
-use Prim.Native.Nat.{ℕ}
+use Prim.Native.Nat.{ℕ, _≤_, _<_}
 use native.Mathlib.Omega.{arith}
 use mathlib.Core.Path.{_≡_, refl, sym, _∙_, ap, subst}
 use mathlib.Core.Bool.{Bool, true, false, cond}
 use mathlib.Core.List.{List, [], _∷_, _++_, append-assoc, append-nil}
-use lib.ListN.{length, take, drop, take-append-drop}
+use lib.ListN.{length, take, drop, length-drop, take-append-drop}
 use lib.IntN.{ℤ, pos, negsuc}
 use lib.Dec.{leb}
+use borrow.Author.Tests.{le-leb}
 use Rattle.lines.specs.Split.{feed}
-use Rattle.lines.specs.Console.{opened, answers, ended, linesOf, output}
-use Rattle.lines.specs.Session.{stepRule, finish}
+use Rattle.lines.specs.Console.{opened, answer, answers, nonempty, ended, linesOf, output}
+use Rattle.lines.specs.Session.{Session, stepRule, finish}
 use Rattle.lines.proofs.Splits.{into-none}
+use Rattle.lines.proofs.Rooms.{answer-room, rule-uses}
 use Rattle.lines.proofs.Streaming.{ahead, ahead-none, ahead-step}
-use Rattle.terminal.specs.Stream.{State, start, answerRule, endRule, brought, taken, readRule, count, writeRule, Idle, Turn, rests, reads, writes, Reached, starts, turns}
+use Rattle.terminal.specs.Stream.{State, start, answerRule, endRule, brought, receive, readRule, count, writeRule, Idle, Turn, rests, reads, writes, Reached, starts, turns}
 use Rattle.terminal.specs.Stream.{answers as answering}
 
 -- while the input is open, and once it has ended
@@ -65,11 +67,11 @@ closed {s} {input} {put} room idle w = go (leb (length (finish (s .session))) ro
 
 read-on : {s : State} {input put : List ℕ} (room : ℕ) (got : ℤ) (buffer : List ℕ) → Idle s → Written s input put
     → Written (readRule room got buffer s) (input ++ brought got buffer) put
-unfolding readRule brought taken
+unfolding readRule brought receive
 read-on {s} {input} {put} room (negsuc k) buffer idle w = rw (append-nil input) w
 read-on {s} {input} {put} room (pos n) buffer idle w = go (take n buffer)
   where
-    go : (bytes : List ℕ) → Written (taken room bytes s) (input ++ bytes) put
+    go : (bytes : List ℕ) → Written (receive room bytes s) (input ++ bytes) put
     go [] = rw (append-nil input) (closed room idle w)
     go (b ∷ bytes) = came (b ∷ bytes) idle w
 
@@ -124,3 +126,22 @@ so-far r = written r .more
 -- and once the input has ended and all is written, the output for the input has been written
 pub whole-run : {s : State} {input put : List ℕ} → Reached s input put → s .ended ≡ true → s .unwritten ≡ [] → put ≡ output input
 whole-run {s} {input} {put} r e none = sym (append-nil put) ∙ ap (λ (l : List ℕ). put ++ l) (sym none) ∙ written r .all e .1
+
+-- ---- with room for an answer the program goes on
+
+-- some of what was read is answered
+pub answers-some : (room : ℕ) (s : State) → 54 ≤ room → 0 < length (s .unanswered) → length (answerRule room s .unanswered) < length (s .unanswered)
+answers-some room s h some =
+    omega (arith, length-drop (stepRule room (s .session) (s .unanswered) .used) (s .unanswered), rule-uses room (s .session) (s .unanswered) h some)
+
+finish-room : (c : Session) → length (finish c) ≤ 54
+unfolding finish answers nonempty
+finish-room c = go (c .begun)
+  where
+    go : (l : List ℕ) → length (answers (c .tuner) (nonempty l)) ≤ 54
+    go [] = omega arith
+    go (b ∷ l) = rw (append-nil (answer (c .tuner) (b ∷ l))) (answer-room (c .tuner) (b ∷ l))
+
+-- and the end of the input is taken
+pub ends : (room : ℕ) (s : State) → 54 ≤ room → endRule room s .ended ≡ true
+ends room s h = rw (le-leb (length (finish (s .session))) room (omega (arith, finish-room (s .session)))) refl

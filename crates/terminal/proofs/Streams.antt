@@ -16,7 +16,7 @@ use Rattle.models.specs.Outcome.{value, refused}
 use Rattle.senders.specs.Lent.{Answers, written, fitted, left}
 use Rattle.lines.specs.Session.{session, Stepped, stepRule, finish, finishRule}
 use Rattle.lines.specs.declared.step.Step.{Step}
-use Rattle.terminal.specs.Stream.{State, view, part, answerRule, endRule, taken, readRule, takenLeft, readLeft, writeRule, count, Leaves}
+use Rattle.terminal.specs.Stream.{State, view, part, answerRule, endRule, receive, readRule, receiveBuffer, readBuffer, writeRule, count, Leaves}
 use Rattle.terminal.specs.declared.stream.Stream.{Stream}
 use Rattle.terminal.proofs.Parts.{empty, take-min, drop-min, part-drop}
 
@@ -64,9 +64,9 @@ answer-law s r piece old new p =
 -- ---- the end of the input
 
 pub end-written : (s : Stream) (n : ℕ) (piece old new : List ℕ) → Answers (finishRule (session (s .console))) old (value n) new
-    → Leaves (endRule (length old) (view s piece old)) (takenLeft [] (view s piece old) old)
+    → Leaves (endRule (length old) (view s piece old)) (receiveBuffer [] (view s piece old) old)
     (view (record { console = s .console; at = 0; len = 0; from = 0; end = n; ended = true }) piece new) new
-unfolding takenLeft
+unfolding receiveBuffer
 end-written s n piece old new a = go (leb (length (finish (session (s .console)))) (length old)) refl
   where
     go : (b : Bool) → leb (length (finish (session (s .console)))) (length old) ≡ b
@@ -84,8 +84,8 @@ end-written s n piece old new a = go (leb (length (finish (session (s .console))
     go false h = clash (rw h at (a .told-is))
 
 pub end-refused : (s : Stream) (m : ℕ) (piece old new : List ℕ) → Answers (finishRule (session (s .console))) old (refused m) new
-    → Leaves (endRule (length old) (view s piece old)) (takenLeft [] (view s piece old) old) (view s piece new) new
-unfolding takenLeft
+    → Leaves (endRule (length old) (view s piece old)) (receiveBuffer [] (view s piece old) old) (view s piece new) new
+unfolding receiveBuffer
 end-refused s m piece old new a = go (leb (length (finish (session (s .console)))) (length old)) refl
   where
     go : (b : Bool) → leb (length (finish (session (s .console)))) (length old) ≡ b
@@ -101,20 +101,20 @@ true-false : true ≡ false → ⊥
 true-false e = let z : _≡_ {A = ℕ} 1 0 = ap (λ (b : Bool). cond b 1 0) e in omega arith
 
 pub read-failed : (s : Stream) (got : ℤ) (piece out : List ℕ) → ltZ got (pos 0) ≡ true
-    → Leaves (readRule (length out) got piece (view s piece out)) (readLeft got piece (view s piece out) out) (view s piece out) out
-unfolding readRule readLeft
+    → Leaves (readRule (length out) got piece (view s piece out)) (readBuffer got piece (view s piece out) out) (view s piece out) out
+unfolding readRule readBuffer
 read-failed s (pos k) piece out h = absurd (omega (arith, ltb-true k 0 h))
 read-failed s (negsuc k) piece out h = record { state-is = refl; buffer-is = refl }
 
 pub read-some : (s : Stream) (n : ℕ) (got : ℤ) (piece out : List ℕ) → n ≡ clamped got (length piece) → (n ≡ 0 → ⊥)
-    → Leaves (readRule (length out) got piece (view s piece out)) (readLeft got piece (view s piece out) out)
+    → Leaves (readRule (length out) got piece (view s piece out)) (readBuffer got piece (view s piece out) out)
     (view (record { console = s .console; at = 0; len = n; from = s .from; end = s .end; ended = s .ended }) piece out) out
-unfolding readRule readLeft taken takenLeft
+unfolding readRule readBuffer receive receiveBuffer
 read-some s n (pos k) piece out e some =
     go (take k piece) (front n piece ∙ ap (λ (i : ℕ). take i piece) e ∙ take-min k piece) (λ z. some (e ∙ sym (length-take k piece) ∙ z))
   where
     go : (l : List ℕ) → part 0 n piece ≡ l → (length l ≡ 0 → ⊥)
-        → Leaves (taken (length out) l (view s piece out)) (takenLeft l (view s piece out) out)
+        → Leaves (receive (length out) l (view s piece out)) (receiveBuffer l (view s piece out) out)
         (view (record { console = s .console; at = 0; len = n; from = s .from; end = s .end; ended = s .ended }) piece out) out
     go [] f h = absurd (h refl)
     go (b ∷ l) f h =
@@ -126,10 +126,10 @@ read-some s n (pos k) piece out e some =
 read-some s n (negsuc k) piece out e some = absurd (some e)
 
 pub read-none : (s t : Stream) (n : ℕ) (got : ℤ) (piece old new : List ℕ) → ltZ got (pos 0) ≡ false → n ≡ clamped got (length piece) → n ≡ 0
-    → Leaves (endRule (length old) (view s piece old)) (takenLeft [] (view s piece old) old) (view t piece new) new
-    → Leaves (readRule (length old) got piece (view s piece old)) (readLeft got piece (view s piece old) old) (view t piece new) new
-unfolding readRule readLeft taken takenLeft
+    → Leaves (endRule (length old) (view s piece old)) (receiveBuffer [] (view s piece old) old) (view t piece new) new
+    → Leaves (readRule (length old) got piece (view s piece old)) (readBuffer got piece (view s piece old) old) (view t piece new) new
+unfolding readRule readBuffer receive receiveBuffer
 read-none s t n (pos k) piece old new h e none l =
-    subst (λ (b : List ℕ). Leaves (taken (length old) b (view s piece old)) (takenLeft b (view s piece old) old) (view t piece new) new)
+    subst (λ (b : List ℕ). Leaves (receive (length old) b (view s piece old)) (receiveBuffer b (view s piece old) old) (view t piece new) new)
     (sym (empty (take k piece) (length-take k piece ∙ sym e ∙ none))) l
 read-none s t n (negsuc k) piece old new h e none l = absurd (true-false h)

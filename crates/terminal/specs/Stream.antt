@@ -58,13 +58,13 @@ brought (pos n) buffer = take n buffer
 brought (negsuc k) buffer = []
 
 -- a read that brings nothing says that the input has ended
-unfoldable pub taken : ℕ → List ℕ → State → State
-taken room [] s = endRule room s
-taken room (b ∷ bytes) s = record { session = s .session; unanswered = b ∷ bytes; unwritten = s .unwritten; ended = s .ended }
+unfoldable pub receive : ℕ → List ℕ → State → State
+receive room [] s = endRule room s
+receive room (b ∷ bytes) s = record { session = s .session; unanswered = b ∷ bytes; unwritten = s .unwritten; ended = s .ended }
 
 -- one that fails says nothing
 unfoldable pub readRule : ℕ → ℤ → List ℕ → State → State
-readRule room (pos n) buffer s = taken room (take n buffer) s
+readRule room (pos n) buffer s = receive room (take n buffer) s
 readRule room (negsuc k) buffer s = s
 
 -- how much of what was to be written a write took
@@ -77,13 +77,13 @@ writeRule put s = record { session = s .session; unanswered = s .unanswered; unw
 
 -- ---- the buffer of answers afterwards
 
-unfoldable pub takenLeft : List ℕ → State → List ℕ → List ℕ
-takenLeft [] s old = left (fitted (length old) (finishRule (s .session))) old
-takenLeft (b ∷ bytes) s old = old
+unfoldable pub receiveBuffer : List ℕ → State → List ℕ → List ℕ
+receiveBuffer [] s old = left (fitted (length old) (finishRule (s .session))) old
+receiveBuffer (b ∷ bytes) s old = old
 
-unfoldable pub readLeft : ℤ → List ℕ → State → List ℕ → List ℕ
-readLeft (pos n) buffer s old = takenLeft (take n buffer) s old
-readLeft (negsuc k) buffer s old = old
+unfoldable pub readBuffer : ℤ → List ℕ → State → List ℕ → List ℕ
+readBuffer (pos n) buffer s old = receiveBuffer (take n buffer) s old
+readBuffer (negsuc k) buffer s old = old
 
 -- what a call leaves: the state, and the buffer
 pub record Leaves (rule : State) (buffer : List ℕ) (state : State) (new : List ℕ) : Type 0 where

@@ -4,9 +4,8 @@ ghost use mathlib.Core.Path.{_≡_};
 ghost use Prim.Native.Nat.{ℕ, min};
 ghost use mathlib.Core.List.{List, []};
 ghost use lib.ListN.{length};
-ghost use lib.Dec.{ltb};
 ghost use Rattle.senders.specs.Lent.{written};
-ghost use Rattle.terminal.specs.Stream.{view, start, answerRule, endRule, readRule, readLeft, takenLeft, writeRule, Leaves};
+ghost use Rattle.terminal.specs.Stream.{view, start, answerRule, endRule, readRule, readBuffer, receiveBuffer, writeRule, Leaves};
 ghost use Rattle.terminal.specs.Stream.{part as Stream·part};
 use lines::step::Console;
 use senders::midi::Sent;
@@ -64,7 +63,7 @@ impl Stream {
             ⌜
               Leaves
               (readRule (length (now (out .entry))) got (now (piece .entry)) (view self (now (piece .entry)) (now (out .entry))))
-              (readLeft got (now (piece .entry)) (view self (now (piece .entry)) (now (out .entry))) (now (out .entry)))
+              (readBuffer got (now (piece .entry)) (view self (now (piece .entry)) (now (out .entry))) (now (out .entry)))
               (view r (now (piece .entry)) (now (out .exit)))
               (now (out .exit))
             ⌝
@@ -95,7 +94,7 @@ impl Stream {
               ((piece : List ℕ)
                   → Leaves
                   (endRule (length (now (out .entry))) (view self piece (now (out .entry))))
-                  (takenLeft [] (view self piece (now (out .entry))) (now (out .entry)))
+                  (receiveBuffer [] (view self piece (now (out .entry))) (now (out .entry)))
                   (view r piece (now (out .exit)))
                   (now (out .exit)))
             ⌝
@@ -129,9 +128,10 @@ impl Stream {
         let len = self.len;
         let step = self.console.step(part(piece, at, len), out);
         let console = step.console;
+        let next = at + step.used;
         Stream {
             console,
-            at: at + step.used,
+            at: next,
             len,
             from: 0,
             end: step.written,
@@ -146,12 +146,13 @@ impl Stream {
         let from = self.from;
         let end = self.end;
         let n = io::count(put, part(out, from, end));
+        let next = from + n;
         let console = self.console;
         Stream {
             console,
             at: self.at,
             len: self.len,
-            from: from + n,
+            from: next,
             end,
             ended: self.ended,
         }

@@ -6,10 +6,6 @@ use Rattle.terminal.specs.Stream.{view, Ran}
 use Rattle.terminal.proofs.Turns.{ran-none, ran-more}
 use Rattle.terminal.proofs.run.Statement.{statement}
 use Rattle.terminal.proofs.run.Tie as tie
-use Rattle.terminal.proofs.run.Reads as reads
-use Rattle.terminal.proofs.run.Lts as lts
-use Rattle.terminal.proofs.stream.Stream.new.Reads as new-reads
-use Rattle.terminal.proofs.turn.Reads as turn-reads
 
 abbrev Inv-loop : tie.InvT-loop
 Inv-loop piece₀ out₀ stream₀ turns₀ piece out stream turns =
@@ -18,55 +14,42 @@ Inv-loop piece₀ out₀ stream₀ turns₀ piece out stream turns =
 abbrev μ-loop : tie.MeasureT-loop
 μ-loop piece₀ out₀ stream₀ turns₀ piece out stream turns = turns
 
--- src/lib.rt:19:9
 new-requires : tie.Need-new-requires Inv-loop μ-loop
 new-requires c κs = tt
 
--- src/lib.rt:21:9
 returns : tie.Need-returns Inv-loop μ-loop
 returns c = let a = c .before .before .before .before .args in ran-none _ (c .before .new .ensures (a .piece .now) (a .out .now))
 
--- src/lib.rt:24:5
 loop-holds : tie.Need-loop-holds Inv-loop μ-loop
 loop-holds c = let a = c .before .before .before .before .args in (refl, refl, ran-none _ (c .before .new .ensures (a .piece .now) (a .out .now)))
 
--- src/lib.rt:25:13
 turn-requires : tie.Need-turn-requires Inv-loop μ-loop
 turn-requires c κs = tt
 
--- src/lib.rt:28:13
 same-length : tie.Need-same-length Inv-loop μ-loop
 same-length c = c .before .before .before .before .before .before .before .turn .kept .1 .0 ∙ c .before .before .before .before .before .before .before .before .before .before .before .loop .inv .0
 
--- src/lib.rt:28:13
 same-length-2 : tie.Need-same-length-2 Inv-loop μ-loop
 same-length-2 c = c .before .before .before .before .before .before .before .turn .kept .1 .1 .0 ∙ c .before .before .before .before .before .before .before .before .before .before .before .loop .inv .1
 
--- src/lib.rt:28:13
 returns-2 : tie.Need-returns-2 Inv-loop μ-loop
 returns-2 c = ran-more (c .before .before .before .before .before .before .before .before .before .before .before .loop .inv .2) (c .before .before .before .before .before .before .before .turn .ensures)
 
--- src/lib.rt:30:9
 sub-turns : tie.Need-sub-turns Inv-loop μ-loop
 sub-turns c = omega arith
 
--- src/lib.rt:24:5
 loop-less : tie.Need-loop-less Inv-loop μ-loop
 loop-less c = omega arith
 
--- src/lib.rt:24:5
 loop-again : tie.Need-loop-again Inv-loop μ-loop
 loop-again c = (c .before .before .before .before .before .before .before .turn .kept .1 .0 ∙ c .before .before .before .before .before .before .before .before .before .before .before .loop .inv .0, c .before .before .before .before .before .before .before .turn .kept .1 .1 .0 ∙ c .before .before .before .before .before .before .before .before .before .before .before .loop .inv .1, ran-more (c .before .before .before .before .before .before .before .before .before .before .before .loop .inv .2) (c .before .before .before .before .before .before .before .turn .ensures))
 
--- src/lib.rt:16:1
 same-length-3 : tie.Need-same-length-3 Inv-loop μ-loop
 same-length-3 c = c .before .loop .inv .0
 
--- src/lib.rt:16:1
 same-length-4 : tie.Need-same-length-4 Inv-loop μ-loop
 same-length-4 c = c .before .loop .inv .1
 
--- src/lib.rt:16:1
 returns-3 : tie.Need-returns-3 Inv-loop μ-loop
 returns-3 c = c .before .loop .inv .2
 

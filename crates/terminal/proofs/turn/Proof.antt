@@ -7,114 +7,79 @@ use Rattle.terminal.proofs.Turns.{turn-rests, turn-writes, turn-answers
 use borrow.Author.Needs.{needs}
 use Rattle.terminal.proofs.turn.Statement.{statement}
 use Rattle.terminal.proofs.turn.Tie as tie
-use Rattle.terminal.proofs.turn.Reads as reads
-use Rattle.terminal.proofs.turn.Lts as lts
-use Rattle.libc.proofs.read.Reads as read-reads
-use Rattle.libc.proofs.write.Reads as write-reads
-use Rattle.terminal.proofs.goes_on.Reads as goes-on-reads
-use Rattle.terminal.proofs.stream.Stream.answer.Reads as answer-reads
-use Rattle.terminal.proofs.stream.Stream.has_ended.Reads as has-ended-reads
-use Rattle.terminal.proofs.stream.Stream.read.Reads as stream-Stream-read-reads
-use Rattle.terminal.proofs.stream.Stream.unanswered.Reads as unanswered-reads
-use Rattle.terminal.proofs.stream.Stream.unwritten.Reads as unwritten-reads
-use Rattle.terminal.proofs.stream.Stream.wrote.Reads as wrote-reads
 
--- src/lib.rt:51:8
 unwritten-requires : tie.Need-unwritten-requires
 unwritten-requires c κs = search needs
 
--- src/lib.rt:52:46
 unwritten-requires-2 : tie.Need-unwritten-requires-2
 unwritten-requires-2 c κs = search needs
 
--- src/lib.rt:52:13
 write-requires : tie.Need-write-requires
 write-requires c κs = search needs
 
--- src/lib.rt:53:33
 slice-aggregate-goes-on : tie.Need-slice-aggregate-goes-on
 slice-aggregate-goes-on c = search needs
 
--- src/lib.rt:53:13
 goes-on-requires : tie.Need-goes-on-requires
 goes-on-requires c κs = search needs
 
--- src/lib.rt:55:21
 wrote-requires : tie.Need-wrote-requires
 wrote-requires c κs = search needs
 
--- src/lib.rt:54:9
 same-length : tie.Need-same-length
 same-length c = search needs
 
--- src/lib.rt:54:9
 returns : tie.Need-returns
 returns c = let a = c .before .before .before .before .before .before .before .before .before .before .before .before .args in
     turn-writes (view (a .stream) (a .piece .now) (a .out .now)) _ _ (c .wrote .ensures (a .piece .now))
 
--- src/lib.rt:59:8
 unanswered-requires : tie.Need-unanswered-requires
 unanswered-requires c κs = search needs
 
--- src/lib.rt:61:21
 answer-requires : tie.Need-answer-requires
 answer-requires c κs = search needs
 
--- src/lib.rt:60:9
 same-length-2 : tie.Need-same-length-2
 same-length-2 c = search needs
 
--- src/lib.rt:60:9
 same-length-3 : tie.Need-same-length-3
 same-length-3 c = search needs
 
--- src/lib.rt:60:9
 returns-2 : tie.Need-returns-2
 returns-2 c = let a = c .before .before .before .before .before .before .before .before .before .before .before .before .before .args in
     turn-answers (view (a .stream) (a .piece .now) (a .out .now)) _ _ (sym (c .before .before .before .before .before .before .before .before .before .unwritten .ensures) ∙ empty (c .before .before .before .before .before .before .before .before .before .unwritten .result .now) (omega (arith, c .before .before .before .before .before .before .before .before .if1 .left))) (c .before .before .answer .ensures .state-is)
 
--- src/lib.rt:65:8
 has-ended-requires : tie.Need-has-ended-requires
 has-ended-requires c κs = search needs
 
--- src/lib.rt:66:9
 same-length-4 : tie.Need-same-length-4
 same-length-4 c = search needs
 
--- src/lib.rt:66:9
 same-length-5 : tie.Need-same-length-5
 same-length-5 c = search needs
 
--- src/lib.rt:66:9
 returns-3 : tie.Need-returns-3
 returns-3 c = let a = c .before .before .before .before .before .before .before .before .before .before .args in
     turn-rests (view (a .stream) (a .piece .now) (a .out .now))
 
--- src/lib.rt:71:9
 read-requires : tie.Need-read-requires
 read-requires c κs = search needs
 
--- src/lib.rt:72:29
 slice-aggregate-goes-on-2 : tie.Need-slice-aggregate-goes-on-2
 slice-aggregate-goes-on-2 c = search needs
 
--- src/lib.rt:72:9
 goes-on-requires-2 : tie.Need-goes-on-requires-2
 goes-on-requires-2 c κs = search needs
 
--- src/lib.rt:74:17
 read-requires-2 : tie.Need-read-requires-2
 read-requires-2 c κs = search needs
 
--- src/lib.rt:42:1
 same-length-6 : tie.Need-same-length-6
 same-length-6 c = search needs
 
--- src/lib.rt:42:1
 same-length-7 : tie.Need-same-length-7
 same-length-7 c = search needs
 
--- src/lib.rt:42:1
 returns-4 : tie.Need-returns-4
 returns-4 c = let a = c .before .before .before .before .before .before .before .before .before .before .before .before .before .before .before .before .before .before .before .before .before .args in
     turn-reads (a .stream) _ _ _ (a .piece .now) _ (a .out .now) (c .before .before .before .before .before .before .before .before .before .read .kept .1 .0) (sym (c .before .before .before .before .before .before .before .before .before .before .before .before .before .before .unanswered .ensures) ∙ empty (c .before .before .before .before .before .before .before .before .before .before .before .before .before .before .unanswered .result .now) (omega (arith, c .before .before .before .before .before .before .before .before .before .before .before .before .before .if2 .left))) (sym (c .before .before .before .before .before .before .before .before .before .before .before .before .before .before .before .before .before .unwritten .ensures) ∙ empty (c .before .before .before .before .before .before .before .before .before .before .before .before .before .before .before .before .before .unwritten .result .now) (omega (arith, c .before .before .before .before .before .before .before .before .before .before .before .before .before .before .before .before .if1 .left))) (sym (c .before .before .before .before .before .before .before .before .before .before .before .before .has-ended .ensures) ∙ c .before .before .before .before .before .before .before .before .before .before .before .if3 .left) (c .before .before .read2 .ensures .state-is)

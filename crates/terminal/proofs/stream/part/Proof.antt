@@ -6,31 +6,22 @@ use Rattle.terminal.proofs.Parts.{part-within}
 use borrow.Author.Needs.{needs}
 use Rattle.terminal.proofs.stream.part.Statement.{statement}
 use Rattle.terminal.proofs.stream.part.Tie as tie
-use Rattle.terminal.proofs.stream.part.Reads as reads
-use Rattle.terminal.proofs.stream.part.Lts as lts
-use Rattle.terminal.proofs.stream.least.Reads as least-reads
 
--- src/stream.rt:165:9
 least-requires : tie.Need-least-requires
 least-requires c κs = search needs
 
--- src/stream.rt:166:9
 least-requires-2 : tie.Need-least-requires-2
 least-requires-2 c κs = search needs
 
--- src/stream.rt:167:5
 sub-result : tie.Need-sub-result
 sub-result c = search needs
 
--- src/stream.rt:167:5
 part-result-start : tie.Need-part-result-start
 part-result-start c = search needs
 
--- src/stream.rt:167:5
 part-result-end : tie.Need-part-result-end
 part-result-end c = search needs
 
--- src/stream.rt:162:1
 returns : tie.Need-returns
 returns c = let a = c .before .before .before .before .args in
     let l = a .s .now in

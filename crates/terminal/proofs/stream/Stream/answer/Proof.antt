@@ -13,34 +13,25 @@ use Rattle.terminal.proofs.Streams.{answer-law}
 use borrow.Author.Needs.{needs}
 use Rattle.terminal.proofs.stream.Stream.answer.Statement.{statement}
 use Rattle.terminal.proofs.stream.Stream.answer.Tie as tie
-use Rattle.terminal.proofs.stream.Stream.answer.Reads as reads
-use Rattle.terminal.proofs.stream.Stream.answer.Lts as lts
-use Rattle.lines.proofs.step.Console.step.Reads as step-reads
-use Rattle.terminal.proofs.stream.part.Reads as part-reads
 
--- src/stream.rt:130:38
 part-requires : tie.Need-part-requires
 part-requires c κs = search needs
 
--- src/stream.rt:130:13
 step-requires : tie.Need-step-requires
 step-requires c κs = search needs
 
--- src/stream.rt:134:17
-add-t11 : tie.Need-add-t11
-add-t11 c = let a = c .before .before .before .before .before .before .before .before .before .args in
+add-next : tie.Need-add-next
+add-next c = let a = c .before .before .before .before .before .before .before .before .before .args in
     let h : c .before .before .before .before .step .result .used ≤ length (part (a .self .at) (a .self .len) (a .piece .now)) =
     subst (λ (l : List ℕ). c .before .before .before .before .step .result .used ≤ length l) (c .before .before .before .before .before .before .part .ensures) (used-within (c .before .before .before .before .step .ensures)) in
     omega (arith, h, part-size (a .self .at) (a .self .len) (a .piece .now), c .before .before .before .before .before .before .before .before .before .good)
 
--- src/stream.rt:120:5
 same-length : tie.Need-same-length
 same-length c = search needs
 
--- src/stream.rt:120:5
 returns : tie.Need-returns
 returns c = let a = c .before .before .before .before .before .before .before .before .before .args in
     answer-law (a .self) (c .before .before .before .before .step .result) (a .piece .now) (a .out .now) (c .before .before .before .before .step .last .1 .1 .0) (subst (λ (l : List ℕ). Stepped (session (a .self .console)) l (a .out .now) (c .before .before .before .before .step .last .1 .1 .0) (c .before .before .before .before .step .result)) (c .before .before .before .before .before .before .part .ensures) (c .before .before .before .before .step .ensures))
 
 pub answer-spec : {M : Type 1} → statement M
-answer-spec = tie.close (tie.spec part-requires step-requires add-t11 same-length returns)
+answer-spec = tie.close (tie.spec part-requires step-requires add-next same-length returns)

@@ -6,15 +6,10 @@ use Rattle.lines.specs.Session.{Session}
 use borrow.Author.Needs.{needs}
 use Rattle.terminal.proofs.stream.Stream.new.Statement.{statement}
 use Rattle.terminal.proofs.stream.Stream.new.Tie as tie
-use Rattle.terminal.proofs.stream.Stream.new.Reads as reads
-use Rattle.terminal.proofs.stream.Stream.new.Lts as lts
-use Rattle.lines.proofs.step.Console.new.Reads as new-reads
 
--- src/stream.rt:30:22
 new-requires : tie.Need-new-requires
 new-requires c κs = search needs
 
--- src/stream.rt:26:5
 returns : tie.Need-returns
 returns c piece out = ap (λ (s : Session). record { session = s; unanswered = []; unwritten = []; ended = false }) (c .new .ensures)
 

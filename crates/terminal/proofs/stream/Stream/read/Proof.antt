@@ -9,36 +9,26 @@ use Rattle.terminal.proofs.Streams.{read-failed, read-some, read-none}
 use borrow.Author.Needs.{needs}
 use Rattle.terminal.proofs.stream.Stream.read.Statement.{statement}
 use Rattle.terminal.proofs.stream.Stream.read.Tie as tie
-use Rattle.terminal.proofs.stream.Stream.read.Reads as reads
-use Rattle.terminal.proofs.stream.Stream.read.Lts as lts
-use Rattle.io.proofs.count.Reads as count-reads
-use Rattle.terminal.proofs.stream.Stream.end.Reads as end-reads
 
--- src/stream.rt:74:13
 returns : tie.Need-returns
 returns c = let a = c .before .before .before .args in
     read-failed (a .self) (a .got) (a .piece .now) (a .out .now) (rw (toZ-ofZ w64 (a .got) (c .before .before .before .fits .got)) at (c .if1 .taken))
 
--- src/stream.rt:76:13
 count-requires : tie.Need-count-requires
 count-requires c κs = search needs
 
--- src/stream.rt:78:13
 end-requires : tie.Need-end-requires
 end-requires c κs = search needs
 
--- src/stream.rt:78:13
 same-length : tie.Need-same-length
 same-length c = search needs
 
--- src/stream.rt:78:13
 returns-2 : tie.Need-returns-2
 returns-2 c = let b = c .before .before .before .before .before .before .before .before .before in
     let a = b .args in
     let e = toZ-ofZ w64 (a .got) (b .fits .got) in
     read-none (a .self) (c .before .before .end .result) (c .before .before .before .before .before .count .result) (a .got) (a .piece .now) (a .out .now) _ (rw e at (c .before .before .before .before .before .before .if1 .left)) (c .before .before .before .before .before .count .ensures .1 ∙ ap (λ (z : ℤ). clamped z (length (a .piece .now))) e) (c .before .before .before .before .if2 .taken) (c .before .before .end .ensures (a .piece .now))
 
--- src/stream.rt:62:5
 returns-3 : tie.Need-returns-3
 returns-3 c = let b = c .before .before .before .before .before .before in
     let a = b .args in
