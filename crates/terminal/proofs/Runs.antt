@@ -57,10 +57,10 @@ closed {s} {input} {put} room idle w = go (leb (length (finish (s .session))) ro
           all = λ e. (
             refl,
             ap (λ (l : List ℕ). put ++ l) (sym (ahead-none (s .session)))
-            ∙ ap (λ (l : List ℕ). put ++ (l ++ ahead (s .session) [])) (sym (idle .written))
-            ∙ ap (λ (l : List ℕ). put ++ (s .unwritten ++ ahead (s .session) (l ++ []))) (sym (idle .answered))
-            ∙ w .more (idle .more) []
-            ∙ ap output (append-nil input),
+                ∙ ap (λ (l : List ℕ). put ++ (l ++ ahead (s .session) [])) (sym (idle .written))
+                ∙ ap (λ (l : List ℕ). put ++ (s .unwritten ++ ahead (s .session) (l ++ []))) (sym (idle .answered))
+                ∙ w .more (idle .more) []
+                ∙ ap output (append-nil input),
           );
         }
     go false = w

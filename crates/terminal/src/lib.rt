@@ -44,11 +44,10 @@ struct Next {
 fn turn(stream: Stream, piece: &mut [u8], out: &mut [u8]) -> Next
     ensures { λ r.
         ⌜
-          Turned
-          (view stream (now (piece .entry)) (now (out .entry)))
-          (view (r .stream) (now (piece .exit)) (now (out .exit)))
-        ⌝
-    }
+        Turned
+        (view stream (now (piece .entry)) (now (out .entry)))
+        (view (r .stream) (now (piece .exit)) (now (out .exit)))
+        ⌝ }
 {
     if stream.unwritten(out).len() > 0 {
         let put = libc::write(STDOUT_FILENO, stream.unwritten(out));

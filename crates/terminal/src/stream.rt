@@ -61,13 +61,12 @@ impl Stream {
     pub fn read(self, got: isize, piece: &[u8], out: &mut [u8]) -> Stream
         ensures { λ r.
             ⌜
-              Leaves
-              (readRule (length (now (out .entry))) got (now (piece .entry)) (view self (now (piece .entry)) (now (out .entry))))
-              (readBuffer got (now (piece .entry)) (view self (now (piece .entry)) (now (out .entry))) (now (out .entry)))
-              (view r (now (piece .entry)) (now (out .exit)))
-              (now (out .exit))
-            ⌝
-        }
+            Leaves
+            (readRule (length (now (out .entry))) got (now (piece .entry)) (view self (now (piece .entry)) (now (out .entry))))
+            (readBuffer got (now (piece .entry)) (view self (now (piece .entry)) (now (out .entry))) (now (out .entry)))
+            (view r (now (piece .entry)) (now (out .exit)))
+            (now (out .exit))
+            ⌝ }
     {
         if got < 0 {
             return self;
@@ -91,14 +90,13 @@ impl Stream {
     fn end(self, out: &mut [u8]) -> Stream
         ensures { λ r.
             ⌜
-              ((piece : List ℕ)
-                  → Leaves
-                  (endRule (length (now (out .entry))) (view self piece (now (out .entry))))
-                  (receiveBuffer [] (view self piece (now (out .entry))) (now (out .entry)))
-                  (view r piece (now (out .exit)))
-                  (now (out .exit)))
-            ⌝
-        }
+            ((piece : List ℕ)
+            → Leaves
+            (endRule (length (now (out .entry))) (view self piece (now (out .entry))))
+            (receiveBuffer [] (view self piece (now (out .entry))) (now (out .entry)))
+            (view r piece (now (out .exit)))
+            (now (out .exit)))
+            ⌝ }
     {
         let console = self.console;
         let answer = console.finish(out);
@@ -119,10 +117,9 @@ impl Stream {
     pub fn answer(self, piece: &[u8], out: &mut [u8]) -> Stream
         ensures { λ r.
             ⌜
-              (let next = answerRule (length (now (out .entry))) (view self (now (piece .entry)) (now (out .entry))) in
-                  Leaves next (written (next .unwritten) (now (out .entry))) (view r (now (piece .entry)) (now (out .exit))) (now (out .exit)))
-            ⌝
-        }
+            (let next = answerRule (length (now (out .entry))) (view self (now (piece .entry)) (now (out .entry))) in
+            Leaves next (written (next .unwritten) (now (out .entry))) (view r (now (piece .entry)) (now (out .exit))) (now (out .exit)))
+            ⌝ }
     {
         let at = self.at;
         let len = self.len;
