@@ -27,13 +27,19 @@ turn-requires : tie.Need-turn-requires Inv-loop μ-loop
 turn-requires c κs = tt
 
 same-length : tie.Need-same-length Inv-loop μ-loop
-same-length c = c .before .before .before .before .before .before .before .turn .kept .1 .0 ∙ c .before .before .before .before .before .before .before .before .before .before .before .loop .inv .0
+same-length c =
+    let t = c .before .before .before .before .before .before .before in
+    t .turn .kept .1 .0 ∙ t .before .before .before .before .loop .inv .0
 
 same-length-2 : tie.Need-same-length-2 Inv-loop μ-loop
-same-length-2 c = c .before .before .before .before .before .before .before .turn .kept .1 .1 .0 ∙ c .before .before .before .before .before .before .before .before .before .before .before .loop .inv .1
+same-length-2 c =
+    let t = c .before .before .before .before .before .before .before in
+    t .turn .kept .1 .1 .0 ∙ t .before .before .before .before .loop .inv .1
 
 returns-2 : tie.Need-returns-2 Inv-loop μ-loop
-returns-2 c = ran-more (c .before .before .before .before .before .before .before .before .before .before .before .loop .inv .2) (c .before .before .before .before .before .before .before .turn .ensures)
+returns-2 c =
+    let t = c .before .before .before .before .before .before .before in
+    ran-more (t .before .before .before .before .loop .inv .2) (t .turn .ensures)
 
 sub-turns : tie.Need-sub-turns Inv-loop μ-loop
 sub-turns c = omega arith
@@ -42,7 +48,10 @@ loop-less : tie.Need-loop-less Inv-loop μ-loop
 loop-less c = omega arith
 
 loop-again : tie.Need-loop-again Inv-loop μ-loop
-loop-again c = (c .before .before .before .before .before .before .before .turn .kept .1 .0 ∙ c .before .before .before .before .before .before .before .before .before .before .before .loop .inv .0, c .before .before .before .before .before .before .before .turn .kept .1 .1 .0 ∙ c .before .before .before .before .before .before .before .before .before .before .before .loop .inv .1, ran-more (c .before .before .before .before .before .before .before .before .before .before .before .loop .inv .2) (c .before .before .before .before .before .before .before .turn .ensures))
+loop-again c =
+    let t = c .before .before .before .before .before .before .before in
+    let l = t .before .before .before .before in
+    (t .turn .kept .1 .0 ∙ l .loop .inv .0, t .turn .kept .1 .1 .0 ∙ l .loop .inv .1, ran-more (l .loop .inv .2) (t .turn .ensures))
 
 same-length-3 : tie.Need-same-length-3 Inv-loop μ-loop
 same-length-3 c = c .before .loop .inv .0

@@ -1,7 +1,8 @@
 -- `terminal::turn` meets its contract: it writes, answers, rests or reads. Assumes nothing.
 use native.Mathlib.Omega.{arith}
-use mathlib.Core.Path.{sym, _∙_}
-use Rattle.terminal.specs.Stream.{view}
+use mathlib.Core.Path.{_≡_, sym, _∙_}
+use mathlib.Core.List.{[]}
+use Rattle.terminal.specs.Stream.{view, part}
 use Rattle.terminal.proofs.Parts.{empty}
 use Rattle.terminal.proofs.Turns.{turn-rests, turn-writes, turn-answers, turn-reads}
 use borrow.Author.Needs.{needs}
@@ -45,9 +46,18 @@ same-length-2 c = search needs
 same-length-3 : tie.Need-same-length-3
 same-length-3 c = search needs
 
+-- nothing is left to be written, and nothing to be answered
+all-written : (c : tie.Else1) → let a = c .before .before .before .before .before .args in part (a .stream .from) (a .stream .end) (a .out .now) ≡ []
+all-written c = sym (c .before .unwritten .ensures) ∙ empty (c .before .unwritten .result .now) (omega (arith, c .if1 .left))
+
+all-answered : (c : tie.Else2) → let a = c .before .before .before .before .before .before .before .before .args in part (a .stream .at) (a .stream .len) (a .piece .now) ≡ []
+all-answered c = sym (c .before .unanswered .ensures) ∙ empty (c .before .unanswered .result .now) (omega (arith, c .if2 .left))
+
 returns-2 : tie.Need-returns-2
-returns-2 c = let a = c .before .before .before .before .before .before .before .before .before .before .before .before .before .args in
-    turn-answers (view (a .stream) (a .piece .now) (a .out .now)) _ _ (sym (c .before .before .before .before .before .before .before .before .before .unwritten .ensures) ∙ empty (c .before .before .before .before .before .before .before .before .before .unwritten .result .now) (omega (arith, c .before .before .before .before .before .before .before .before .if1 .left))) (c .before .before .answer .ensures .state-is)
+returns-2 c =
+    let w = c .before .before .before .before .before .before .before .before in
+    let a = w .before .before .before .before .before .args in
+    turn-answers (view (a .stream) (a .piece .now) (a .out .now)) _ _ (all-written w) (c .before .before .answer .ensures .state-is)
 
 has-ended-requires : tie.Need-has-ended-requires
 has-ended-requires c κs = search needs
@@ -81,8 +91,14 @@ same-length-7 : tie.Need-same-length-7
 same-length-7 c = search needs
 
 returns-4 : tie.Need-returns-4
-returns-4 c = let a = c .before .before .before .before .before .before .before .before .before .before .before .before .before .before .before .before .before .before .before .before .before .args in
-    turn-reads (a .stream) _ _ _ (a .piece .now) _ (a .out .now) (c .before .before .before .before .before .before .before .before .before .read .kept .1 .0) (sym (c .before .before .before .before .before .before .before .before .before .before .before .before .before .before .unanswered .ensures) ∙ empty (c .before .before .before .before .before .before .before .before .before .before .before .before .before .before .unanswered .result .now) (omega (arith, c .before .before .before .before .before .before .before .before .before .before .before .before .before .if2 .left))) (sym (c .before .before .before .before .before .before .before .before .before .before .before .before .before .before .before .before .before .unwritten .ensures) ∙ empty (c .before .before .before .before .before .before .before .before .before .before .before .before .before .before .before .before .before .unwritten .result .now) (omega (arith, c .before .before .before .before .before .before .before .before .before .before .before .before .before .before .before .before .if1 .left))) (sym (c .before .before .before .before .before .before .before .before .before .before .before .before .has-ended .ensures) ∙ c .before .before .before .before .before .before .before .before .before .before .before .if3 .left) (c .before .before .read2 .ensures .state-is)
+returns-4 c =
+    let r = c .before .before .before .before .before .before .before .before .before in
+    let e = r .before .before in
+    let u = e .before .before in
+    let w = u .before .before .before in
+    let a = w .before .before .before .before .before .args in
+    let more = sym (e .before .has-ended .ensures) ∙ e .if3 .left in
+    turn-reads (a .stream) _ _ _ (a .piece .now) _ (a .out .now) (r .read .kept .1 .0) (all-answered u) (all-written w) more (c .before .before .read2 .ensures .state-is)
 
 pub turn-spec : {M : Type 1} → statement M
 turn-spec =

@@ -10,15 +10,17 @@ use lib.IntN.{ℤ, pos}
 use mir.Syntax.{Ty, Width, named, w32, w64, intBig}
 use mir.Val.{Val, vint, vptr, vunit, vstruct, vcons, vnil, Fits}
 use base.Logic.{SProp, ent, sep, emp, id⊢, via, fst∗, guardI}
-use base.Fml.{Lft, Share, GName, ftrue, fsep, fat, froom, flft, flent, fdead}
+use base.Fml.{Fml, Lft, Share, GName, ftrue, fsep, fat, froom, flft, flent, fdead}
 use prog.Memory.{Memory}
 use prog.Routine.{Routine}
 use prog.Wp.{Heap, Env, Calls, Loops, WpFn, Tables}
 use ghost.Atoms.{Atoms, sem}
 use contract.Monad.{Fun}
 use contract.Running.{givenOf, tables, tablesOf}
-use types.Kit.{Given, Item, ‵, raw, _⊛_, some, later, _$_, _∵_, !, qed, by, move, keep, drop, use1, use2, split, join, pick, fsplit, fjoin, fpick, fpack, feqI, suffices, frame, await, done}
-use types.Run.{Opd, look, init, forget, stop, from, load, lit, unit-lit, addr, of-opd, and-then, no-more, assigns, land, returns, enter, alloc1, alloc0, params1, pass0, free1, free0}
+use types.Kit.{Given, Item, ‵, raw, _⊛_, some, later, _$_, _∵_, !, qed, by, move, keep, drop, use1, use2, split, join, pick, suffices, frame, await, done}
+use types.Kit.{fsplit, fjoin, fpick, fpack, feqI}
+use types.Run.{Opd, look, init, forget, stop, from, load, lit, unit-lit, addr, of-opd, and-then, no-more, assigns, land, returns}
+use types.Run.{enter, alloc1, alloc0, params1, pass0, free1, free0}
 use types.Part.{agg}
 use types.Tokens.{lft-new, lft-end, lent-back}
 use types.SemTy.{Body}
@@ -74,7 +76,8 @@ module _ {M : Type 1} (𝓤 : URA M) (H : Heap 𝓤) (A : Atoms 𝓤) (W : Given
   lies : (n : ℕ) → n < 2 ^ 63 → (b : ℕ) → ent 𝓤 (H .at fullShare T′.mir b 0 (mach n)) (sem 𝓤 H A (partAt T.the-row fullShare (time n) b 0))
   unfolding partOf
   lies n h b =
-      qed W (‵ (fat fullShare T′.mir b 0 (mach n)) ∷ []) ∵ use1 W (‵ (cellAt fullShare (T.the-row .mir) (mach n ∷ []) b 0)) (W .laws .at-raw fullShare T′.mir b 0 (mach n)) $
+      qed W (‵ (fat fullShare T′.mir b 0 (mach n)) ∷ []) ∵
+      use1 W (‵ (cellAt fullShare (T.the-row .mir) (mach n ∷ []) b 0)) (W .laws .at-raw fullShare T′.mir b 0 (mach n)) $
       owned ! T.the-row (Is T.the-row) (LL.makes T.the-type T′.the-plain 𝓤 H A) (time n) (mach n ∷ []) (made n h) $ move ! (1 ∷ 0 ∷ []) $ fjoin ! $
       fpack ! (List Val) (λ us. fsep (cellAt fullShare (T.the-row .mir) us b 0) (T.the-row .own (time n) us)) (mach n ∷ []) $ done !
 
@@ -97,43 +100,66 @@ module _ {M : Type 1} (𝓤 : URA M) (H : Heap 𝓤) (A : Atoms 𝓤) (W : Given
   abbrev at : ℕ → GName → timespec → Ref
   at l γ h = record { ptr = (l, 0); name = γ; now = h }
 
+  abbrev ptr : Ref → List Val
+  ptr x = vptr (x .ptr .0) (x .ptr .1) ∷ []
+
+  -- what the two references own
+  abbrev shared : Lft → Ref → Fml
+  shared κ x = ShrRef (named 0) κ T.the-row .own x (ptr x)
+
+  abbrev unique : Lft → Ref → Fml
+  unique κ x = MutRef (named 1) κ T.the-row .own x (ptr x)
+
   -- what `nanosleep`'s triple binds outside, at two references
   abbrev callee : Lft → Lft → Ref → Ref → Sleep .Ghost
-  callee κ κ′ x y = (((κ, (κ′, tt)), (fullShare, (fullShare, tt)), tt, (x, (y, tt)), (vptr (x .ptr .0) (x .ptr .1) ∷ [], (vptr (y .ptr .0) (y .ptr .1) ∷ [], tt))), tt)
+  callee κ κ′ x y = (((κ, (κ′, tt)), (fullShare, (fullShare, tt)), tt, (x, (y, tt)), (ptr x, (ptr y, tt))), tt)
 
   goes : (κ κ′ : Lft) (x y : Ref)
-      → ent 𝓤 (sep 𝓤 (sep 𝓤 (A .lft κ fullShare) (A .lft κ′ fullShare)) (sep 𝓤 (sem 𝓤 H A (ShrRef (named 0) κ T.the-row .own x (vptr (x .ptr .0) (x .ptr .1) ∷ []))) (sem 𝓤 H A (MutRef (named 1) κ′ T.the-row .own y (vptr (y .ptr .0) (y .ptr .1) ∷ [])))))
+      → ent 𝓤 (sep 𝓤 (sep 𝓤 (A .lft κ fullShare) (A .lft κ′ fullShare)) (sep 𝓤 (sem 𝓤 H A (shared κ x)) (sem 𝓤 H A (unique κ′ y))))
       (Sleep .pre (callee κ κ′ x y))
   goes κ κ′ x y =
-      qed W ((‵ (flft κ fullShare) ⊛ ‵ (flft κ′ fullShare)) ∷ (‵ (ShrRef (named 0) κ T.the-row .own x (vptr (x .ptr .0) (x .ptr .1) ∷ [])) ⊛ ‵ (MutRef (named 1) κ′ T.the-row .own y (vptr (y .ptr .0) (y .ptr .1) ∷ []))) ∷ []) ∵
+      qed W ((‵ (flft κ fullShare) ⊛ ‵ (flft κ′ fullShare)) ∷ (‵ (shared κ x) ⊛ ‵ (unique κ′ y)) ∷ []) ∵
       split ! $ move ! (2 ∷ []) $ split ! $ nothing ! $ move ! (2 ∷ 0 ∷ []) $ join ! $ move ! (1 ∷ 0 ∷ []) $ join ! $
       nothing ! $ move ! (3 ∷ 0 ∷ []) $ join ! $ move ! (2 ∷ 0 ∷ []) $ join ! $ join ! $ frame ! $ done !
+
+  -- what `nanosleep` gives back: the tokens and its result, and what it ensures
+  abbrev Back : Lft → Lft → Ref → Ref → Val → Item 𝓤
+  Back κ κ′ x y v =
+      later
+      (some
+      (λ (r : ℤ).
+      ((‵ (flft κ fullShare) ⊛ (‵ (flft κ′ fullShare) ⊛ ‵ ftrue)) ⊛ ‵ (i32 .own r (v ∷ [])))
+      ⊛ raw (ensured 𝓤 H A nanosleep.ended (nanosleep.clauses 𝓤 H A mem run) (κ, (κ′, tt)) (x, (y, tt)) tt r)))
 
   module _ (C : Calls 𝓤 H) (Λ : Loops 𝓤 H) (fm : FmC 𝓤 H (W .laws) C) (known : Triple 𝓤 (C #libc·nanosleep) Sleep) where
     walk : ent 𝓤 (onEntry 𝓤 H A pause.signature tt tt tt tt) (WpFn 𝓤 H C Λ code.function [] Post)
     walk =
         qed W (‵ ftrue ∷ ‵ ftrue ∷ []) ∵ keep ! [] $ enter ! C Λ code.function [] _ $
         alloc1 ! (λ l₀. alloc1 ! (λ l₁. alloc1 ! (λ l₂. alloc1 ! (λ l₃. alloc1 ! (λ l₄. alloc1 ! (λ l₅. alloc0 ! $ params1 ! $ pass0 ! $
-        assigns ! (agg ! (and-then ! (lit ! tt) (and-then ! (big w64 1000000 (record { fits = lit< tt })) (no-more !)))) (from ! (stop !)) (init ! 8 refl (tt, (record { fits = lit< tt }, (record { fits = lit< tt }, tt)))) $
-        assigns ! (agg ! (and-then ! (lit ! tt) (and-then ! (lit ! tt) (no-more !)))) (from ! (stop !)) (init ! 6 refl (tt, (record { fits = lit< tt }, (record { fits = lit< tt }, tt)))) $
+        assigns ! (agg ! (and-then ! (lit ! tt) (and-then ! (big w64 1000000 (record { fits = lit< tt })) (no-more !)))) (from ! (stop !))
+        (init ! 8 refl (tt, (record { fits = lit< tt }, (record { fits = lit< tt }, tt)))) $
+        assigns ! (agg ! (and-then ! (lit ! tt) (and-then ! (lit ! tt) (no-more !)))) (from ! (stop !))
+        (init ! 6 refl (tt, (record { fits = lit< tt }, (record { fits = lit< tt }, tt)))) $
         assigns ! (addr ! (from ! (stop !))) (from ! (stop !)) (init ! 2 refl (tt, tt)) $
         assigns ! (addr ! (from ! (stop !))) (from ! (stop !)) (init ! 0 refl (tt, tt)) $
         -- a lifetime is made for each, and each is lent for it
         move ! (8 ∷ []) $ use1 W (‵ (partAt T.the-row fullShare (time 1000000) l₁ 0)) (lies 1000000 (lit< tt) l₁) $ lft-new ! tt (λ α. move ! (1 ∷ []) $
-        use1 W (later (some (λ (γ : GName). ‵ (ShrRef (named 0) (α ∷ []) T.the-row .own (at l₁ γ (time 1000000)) (vptr l₁ 0 ∷ [])) ⊛ ‵ (flent (α ∷ []) (partAt T.the-row fullShare (time 1000000) l₁ 0)))))
+        use1 W (later (some (λ (γ : GName). ‵ (shared (α ∷ []) (at l₁ γ (time 1000000))) ⊛ ‵ (flent (α ∷ []) (partAt T.the-row fullShare (time 1000000) l₁ 0)))))
         (lends-shr 𝓤 H A W T.the-row (named 0) (α ∷ []) fullShare (time 1000000) l₁ 0) $ await ! tt $ pick ! (λ γ. split ! $
         move ! (9 ∷ []) $ use1 W (‵ (partAt T.the-row fullShare (time 0) l₂ 0)) (lies 0 (lit< tt) l₂) $ lft-new ! tt (λ β. move ! (1 ∷ []) $
-        use1 W (later (some (λ (δ : GName). ‵ (MutRef (named 1) (β ∷ []) T.the-row .own (at l₂ δ (time 0)) (vptr l₂ 0 ∷ [])) ⊛ ‵ (flent (β ∷ []) (Body (memOf T.the-row) l₂ 0 δ)))))
+        use1 W (later (some (λ (δ : GName). ‵ (unique (β ∷ []) (at l₂ δ (time 0))) ⊛ ‵ (flent (β ∷ []) (Body (memOf T.the-row) l₂ 0 δ)))))
         (lends-ref 𝓤 H A W T.the-row (named 1) (β ∷ []) (time 0) l₂ 0) $ await ! tt $ pick ! (λ δ. split ! $
         -- [the second reference; its lender's part; β's token; the first reference; its lender's part; α's token; …]
         move ! (3 ∷ 0 ∷ []) $ join ! $ move ! (4 ∷ 2 ∷ []) $ join ! $
-        use2 W (raw (Sleep .pre (callee (α ∷ []) (β ∷ []) (at l₁ γ (time 1000000)) (at l₂ δ (time 0))))) (goes (α ∷ []) (β ∷ []) (at l₁ γ (time 1000000)) (at l₂ δ (time 0))) $
+        use2 W (raw (Sleep .pre (callee (α ∷ []) (β ∷ []) (at l₁ γ (time 1000000)) (at l₂ δ (time 0)))))
+        (goes (α ∷ []) (β ∷ []) (at l₁ γ (time 1000000)) (at l₂ δ (time 0))) $
         calls-at ! fm Sleep known (callee (α ∷ []) (β ∷ []) (at l₁ γ (time 1000000)) (at l₂ δ (time 0)))
         (and-then ! (load ! (from ! (stop !)) (look ! 5 refl)) (and-then ! (load ! (from ! (stop !)) (look ! 3 refl)) (no-more !))) (λ v.
-        use1 W (later (some (λ (r : ℤ). ((‵ (flft (α ∷ []) fullShare) ⊛ (‵ (flft (β ∷ []) fullShare) ⊛ ‵ ftrue)) ⊛ ‵ (i32 .own r (v ∷ []))) ⊛ raw (ensured 𝓤 H A nanosleep.ended (nanosleep.clauses 𝓤 H A mem run) (α ∷ [], (β ∷ [], tt)) (at l₁ γ (time 1000000), (at l₂ δ (time 0), tt)) tt r))))
-        (id⊢ 𝓤 _) $ await ! tt $ pick ! (λ r. split ! $ move ! (1 ∷ []) $ drop ! $ split ! $ move ! (1 ∷ []) $
+        use1 W (Back (α ∷ []) (β ∷ []) (at l₁ γ (time 1000000)) (at l₂ δ (time 0)) v) (id⊢ 𝓤 _) $ await ! tt $
+        pick ! (λ r. split ! $ move ! (1 ∷ []) $ drop ! $ split ! $ move ! (1 ∷ []) $
         -- [the result; the tokens; the lenders' parts; …]
-        peeks ! i32 (Is i32) (shows 𝓤 H A i32) r (v ∷ []) (λ is. land ! (from ! (stop !)) (init ! 8 refl (sint-lawful 𝓤 H A W w32 .typed r _ is .0)) $ drop ! $
+        peeks ! i32 (Is i32) (shows 𝓤 H A i32) r (v ∷ []) (λ is.
+        land ! (from ! (stop !)) (init ! 8 refl (sint-lawful 𝓤 H A W w32 .typed r _ is .0)) $ drop ! $
         -- the lifetimes are ended, and the room of both locals is back
         split ! $ lft-end ! tt $ move ! (0 ∷ 3 ∷ []) $ lent-back ! tt $ use1 W (‵ (froom T′.mir l₁ 0)) (part-room 𝓤 H A W T.the-row (time 1000000) l₁ 0) $
         move ! (1 ∷ []) $ split ! $ lft-end ! tt $ move ! (0 ∷ 3 ∷ []) $ lent-back ! tt $ fpick ! (λ z. fsplit ! $
@@ -141,7 +167,8 @@ module _ {M : Type 1} (𝓤 : URA M) (H : Heap 𝓤) (A : Atoms 𝓤) (W : Given
         -- [room for the second local; its name; true; room for the first; …]
         assigns ! (of-opd ! (unit-lit !)) (from ! (stop !)) (init ! 12 refl (tt, tt)) $
         returns ! (look ! 12 refl) $ forget ! 4 refl $ forget ! 6 refl $ forget ! 8 refl $ forget ! 12 refl $
-        move ! (12 ∷ 13 ∷ []) $ free1 ! $ move ! (3 ∷ 11 ∷ []) $ free1 ! $ move ! (0 ∷ 9 ∷ []) $ free1 ! $ move ! (6 ∷ 7 ∷ []) $ free1 ! $ move ! (4 ∷ 5 ∷ []) $ free1 ! $ move ! (2 ∷ 3 ∷ []) $ free1 ! $ free0 ! $ keep ! [] $ by ! exits))))))))))))))
+        move ! (12 ∷ 13 ∷ []) $ free1 ! $ move ! (3 ∷ 11 ∷ []) $ free1 ! $ move ! (0 ∷ 9 ∷ []) $ free1 ! $
+        move ! (6 ∷ 7 ∷ []) $ free1 ! $ move ! (4 ∷ 5 ∷ []) $ free1 ! $ move ! (2 ∷ 3 ∷ []) $ free1 ! $ free0 ! $ keep ! [] $ by ! exits))))))))))))))
 
 module _ {M : Type 1} (𝓤 : URA M) (H : Heap 𝓤) (A : Atoms 𝓤) (W : Given 𝓤 H A) (mem : Memory → SProp 𝓤) (run : Routine → Fun 𝓤) where
   pause-walks : (C : Calls 𝓤 H) (Λ : Loops 𝓤 H) → FmC 𝓤 H (W .laws) C → Triple 𝓤 (C #libc·nanosleep) (Sleep 𝓤 H A W mem run)
@@ -151,9 +178,11 @@ module _ {M : Type 1} (𝓤 : URA M) (H : Heap 𝓤) (A : Atoms 𝓤) (W : Given
       (λ κs qs bounds a g are. via 𝓤 _ (fst∗ 𝓤 _ (emp 𝓤)) (walk 𝓤 H A W mem run C Λ fm known))
 
 pause-meets : {M : Type 1} (𝓤 : URA M) (H : Heap 𝓤) (A : Atoms 𝓤) (W : Given 𝓤 H A) (mem : Memory → SProp 𝓤) (run : Routine → Fun 𝓤) (𝓣 : Tables 𝓤 H)
-    → Triple 𝓤 (𝓣 .C #libc·nanosleep) (Sleep 𝓤 H A W mem run) → Meets 𝓤 H A pause.signature (WpFn 𝓤 H (𝓣 .C) (𝓣 .Λ) code.function) (pause.spec 𝓤 H A mem run)
+    → Triple 𝓤 (𝓣 .C #libc·nanosleep) (Sleep 𝓤 H A W mem run)
+    → Meets 𝓤 H A pause.signature (WpFn 𝓤 H (𝓣 .C) (𝓣 .Λ) code.function) (pause.spec 𝓤 H A mem run)
 pause-meets 𝓤 H A W mem run 𝓣 known =
-    walk-meets 𝓤 H A pause.ended stayed W tt (pause.clauses 𝓤 H A mem run) (WpFn 𝓤 H (𝓣 .C) (𝓣 .Λ) code.function) (WpFn-mono 𝓤 H (W .laws) 𝓣 code.function)
+    walk-meets 𝓤 H A pause.ended stayed W tt (pause.clauses 𝓤 H A mem run) (WpFn 𝓤 H (𝓣 .C) (𝓣 .Λ) code.function)
+    (WpFn-mono 𝓤 H (W .laws) 𝓣 code.function)
     (pause-walks 𝓤 H A W mem run (𝓣 .C) (𝓣 .Λ) (fmOf 𝓤 H (W .laws) 𝓣) known)
 
 pub pause-spec : {M : Type 1} → stated.statement M
@@ -162,4 +191,5 @@ pause-spec 𝓤 H 𝓜 𝓖 𝓡 =
     entered 𝓤 H (tripleOf 𝓤 H (𝓖 .A) pause.signature (pause.spec 𝓤 H (𝓖 .A) (𝓜 .mem) (𝓡 .run)))
     (tables 𝓤 H 𝓜 𝓡 code.env .C) (tables 𝓤 H 𝓜 𝓡 code.env .Λ) #terminal·pause code.function (code.unfolded 𝓤 H 𝓜 𝓡)
     (pause-meets 𝓤 H (𝓖 .A) (givenOf 𝓤 H 𝓜 𝓖) (𝓜 .mem) (𝓡 .run) (tablesOf 𝓤 H 𝓜 (tables 𝓤 H 𝓜 𝓡 code.env))
-    (cited 𝓤 H (tripleOf 𝓤 H (𝓖 .A) nanosleep.signature (nanosleep.spec 𝓤 H (𝓖 .A) (𝓜 .mem) (𝓡 .run))) 𝓜 𝓡 code.env #libc·nanosleep nanosleep-def.routine code.calls-libc·nanosleep (nanosleep-thm.met 𝓤 H 𝓜 𝓖 𝓡)))
+    (cited 𝓤 H (tripleOf 𝓤 H (𝓖 .A) nanosleep.signature (nanosleep.spec 𝓤 H (𝓖 .A) (𝓜 .mem) (𝓡 .run))) 𝓜 𝓡 code.env
+    #libc·nanosleep nanosleep-def.routine code.calls-libc·nanosleep (nanosleep-thm.met 𝓤 H 𝓜 𝓖 𝓡)))

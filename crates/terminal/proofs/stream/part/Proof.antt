@@ -23,7 +23,8 @@ part-result-end : tie.Need-part-result-end
 part-result-end c = search needs
 
 returns : tie.Need-returns
-returns c = let a = c .before .before .before .before .args in
+returns c =
+    let a = c .before .before .before .before .args in
     let l = a .s .now in
     let e : c .before .before .least .result ≡ min (a .end) (length l) = c .before .before .least .ensures in
     let f : c .before .least2 .result ≡ min (a .from) (min (a .end) (length l)) = c .before .least2 .ensures ∙ ap (min (a .from)) e in

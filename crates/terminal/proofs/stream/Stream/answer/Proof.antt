@@ -1,9 +1,8 @@
 -- `terminal::stream::Stream::answer` meets its contract: a step over what was read. Assumes nothing.
-use Prim.Native.Nat.{ℕ}
+use Prim.Native.Nat.{ℕ, _≤_}
+use native.Mathlib.Omega.{arith}
 use mathlib.Core.Path.{subst}
 use mathlib.Core.List.{List}
-use Prim.Native.Nat.{_≤_}
-use native.Mathlib.Omega.{arith}
 use lib.ListN.{length}
 use Rattle.lines.proofs.Rooms.{used-within}
 use Rattle.terminal.specs.Stream.{part}
@@ -21,17 +20,23 @@ step-requires : tie.Need-step-requires
 step-requires c κs = search needs
 
 add-next : tie.Need-add-next
-add-next c = let a = c .before .before .before .before .before .before .before .before .before .args in
-    let h : c .before .before .before .before .step .result .used ≤ length (part (a .self .at) (a .self .len) (a .piece .now)) =
-    subst (λ (l : List ℕ). c .before .before .before .before .step .result .used ≤ length l) (c .before .before .before .before .before .before .part .ensures) (used-within (c .before .before .before .before .step .ensures)) in
-    omega (arith, h, part-size (a .self .at) (a .self .len) (a .piece .now), c .before .before .before .before .before .before .before .before .before .good)
+add-next c =
+    let s = c .before .before .before .before in
+    let a = s .before .before .before .before .before .args in
+    let h : s .step .result .used ≤ length (part (a .self .at) (a .self .len) (a .piece .now)) =
+    subst (λ (l : List ℕ). s .step .result .used ≤ length l) (s .before .before .part .ensures) (used-within (s .step .ensures)) in
+    omega (arith, h, part-size (a .self .at) (a .self .len) (a .piece .now), s .before .before .before .before .before .good)
 
 same-length : tie.Need-same-length
 same-length c = search needs
 
 returns : tie.Need-returns
-returns c = let a = c .before .before .before .before .before .before .before .before .before .args in
-    answer-law (a .self) (c .before .before .before .before .step .result) (a .piece .now) (a .out .now) (c .before .before .before .before .step .last .1 .1 .0) (subst (λ (l : List ℕ). Stepped (session (a .self .console)) l (a .out .now) (c .before .before .before .before .step .last .1 .1 .0) (c .before .before .before .before .step .result)) (c .before .before .before .before .before .before .part .ensures) (c .before .before .before .before .step .ensures))
+returns c =
+    let s = c .before .before .before .before in
+    let a = s .before .before .before .before .before .args in
+    let new = s .step .last .1 .1 .0 in
+    let found : List ℕ → Type 0 = λ l. Stepped (session (a .self .console)) l (a .out .now) new (s .step .result) in
+    answer-law (a .self) (s .step .result) (a .piece .now) (a .out .now) new (subst found (s .before .before .part .ensures) (s .step .ensures))
 
 pub answer-spec : {M : Type 1} → statement M
 answer-spec = tie.close (tie.spec part-requires step-requires add-next same-length returns)

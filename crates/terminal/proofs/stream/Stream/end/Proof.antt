@@ -22,15 +22,21 @@ same-length : tie.Need-same-length
 same-length c = search needs
 
 returns : tie.Need-returns
-returns c piece = let a = c .before .before .before .before .before .before .before .before .args in
-    end-refused (a .self) _ piece (a .out .now) _ (subst (λ (s : Sent). Answers (finishRule (session (a .self .console))) (a .out .now) (sentAnswer s) (c .before .before .before .before .finish .last .1 .0)) (c .enum-told .given .1) (c .before .before .before .before .finish .ensures))
+returns c piece =
+    let f = c .before .before .before .before in
+    let a = f .before .before .before .before .args in
+    let found : Sent → Type 0 = λ s. Answers (finishRule (session (a .self .console))) (a .out .now) (sentAnswer s) (f .finish .last .1 .0) in
+    end-refused (a .self) _ piece (a .out .now) _ (subst found (c .enum-told .given .1) (f .finish .ensures))
 
 same-length-2 : tie.Need-same-length-2
 same-length-2 c = search needs
 
 returns-2 : tie.Need-returns-2
-returns-2 c piece = let a = c .before .before .before .before .before .before .before .before .before .args in
-    end-written (a .self) (c .before .answer .given .0 .0) piece (a .out .now) _ (subst (λ (s : Sent). Answers (finishRule (session (a .self .console))) (a .out .now) (sentAnswer s) (c .before .before .before .before .before .finish .last .1 .0)) (c .before .answer .given .1) (c .before .before .before .before .before .finish .ensures))
+returns-2 c piece =
+    let f = c .before .before .before .before .before in
+    let a = f .before .before .before .before .args in
+    let found : Sent → Type 0 = λ s. Answers (finishRule (session (a .self .console))) (a .out .now) (sentAnswer s) (f .finish .last .1 .0) in
+    end-written (a .self) (c .before .answer .given .0 .0) piece (a .out .now) _ (subst found (c .before .answer .given .1) (f .finish .ensures))
 
 pub end-spec : {M : Type 1} → statement M
 end-spec =

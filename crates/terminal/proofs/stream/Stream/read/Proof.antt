@@ -11,7 +11,8 @@ use Rattle.terminal.proofs.stream.Stream.read.Statement.{statement}
 use Rattle.terminal.proofs.stream.Stream.read.Tie as tie
 
 returns : tie.Need-returns
-returns c = let a = c .before .before .before .args in
+returns c =
+    let a = c .before .before .before .args in
     read-failed (a .self) (a .got) (a .piece .now) (a .out .now) (rw (toZ-ofZ w64 (a .got) (c .before .before .before .fits .got)) at (c .if1 .taken))
 
 count-requires : tie.Need-count-requires
@@ -24,16 +25,22 @@ same-length : tie.Need-same-length
 same-length c = search needs
 
 returns-2 : tie.Need-returns-2
-returns-2 c = let b = c .before .before .before .before .before .before .before .before .before in
-    let a = b .args in
-    let e = toZ-ofZ w64 (a .got) (b .fits .got) in
-    read-none (a .self) (c .before .before .end .result) (c .before .before .before .before .before .count .result) (a .got) (a .piece .now) (a .out .now) _ (rw e at (c .before .before .before .before .before .before .if1 .left)) (c .before .before .before .before .before .count .ensures .1 ∙ ap (λ (z : ℤ). clamped z (length (a .piece .now))) e) (c .before .before .before .before .if2 .taken) (c .before .before .end .ensures (a .piece .now))
+returns-2 c =
+    let n = c .before .before .before .before .before in
+    let s = n .before .before .before .before in
+    let a = s .args in
+    let e = toZ-ofZ w64 (a .got) (s .fits .got) in
+    let got = n .count .ensures .1 ∙ ap (λ (z : ℤ). clamped z (length (a .piece .now))) e in
+    read-none (a .self) (c .before .before .end .result) (n .count .result) (a .got) (a .piece .now) (a .out .now) _ (rw e at (n .before .if1 .left)) got
+    (c .before .before .before .before .if2 .taken) (c .before .before .end .ensures (a .piece .now))
 
 returns-3 : tie.Need-returns-3
-returns-3 c = let b = c .before .before .before .before .before .before in
-    let a = b .args in
-    let e = toZ-ofZ w64 (a .got) (b .fits .got) in
-    read-some (a .self) (c .before .before .count .result) (a .got) (a .piece .now) (a .out .now) (c .before .before .count .ensures .1 ∙ ap (λ (z : ℤ). clamped z (length (a .piece .now))) e) (c .before .if2 .left)
+returns-3 c =
+    let n = c .before .before in
+    let s = n .before .before .before .before in
+    let a = s .args in
+    let got = n .count .ensures .1 ∙ ap (λ (z : ℤ). clamped z (length (a .piece .now))) (toZ-ofZ w64 (a .got) (s .fits .got)) in
+    read-some (a .self) (n .count .result) (a .got) (a .piece .now) (a .out .now) got (c .before .if2 .left)
 
 pub read-spec : {M : Type 1} → statement M
 read-spec =

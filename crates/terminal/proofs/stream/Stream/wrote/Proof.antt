@@ -1,9 +1,8 @@
 -- `terminal::stream::Stream::wrote` meets its contract: what the write took is no longer to be written. Assumes nothing.
-use Prim.Native.Nat.{ℕ}
+use Prim.Native.Nat.{ℕ, _≤_}
+use native.Mathlib.Omega.{arith}
 use mathlib.Core.Path.{_∙_, ap, subst}
 use mathlib.Core.List.{List}
-use Prim.Native.Nat.{_≤_}
-use native.Mathlib.Omega.{arith}
 use lib.ListN.{length}
 use lib.IntN.{ℤ}
 use mir.Syntax.{w64}
@@ -31,8 +30,15 @@ add-next c =
     omega (arith, h, part-size (a .self .from) (a .self .end) (a .out .now), c .before .before .before .good)
 
 returns : tie.Need-returns
-returns c piece = let a = c .before .before .before .before .args in
-    wrote-law (a .self) (a .put) (c .before .count .result) piece (a .out .now) (c .before .count .ensures .1 ∙ ap (λ (z : ℤ). clamped z (length (c .before .before .part .result .now))) (toZ-ofZ w64 (a .put) (c .before .before .before .before .fits .put)) ∙ ap (λ (l : List ℕ). clamped (a .put) (length l)) (c .before .before .part .ensures))
+returns c piece =
+    let n = c .before in
+    let s = n .before .before .before in
+    let a = s .args in
+    let put =
+    n .count .ensures .1
+    ∙ ap (λ (z : ℤ). clamped z (length (n .before .part .result .now))) (toZ-ofZ w64 (a .put) (s .fits .put))
+    ∙ ap (λ (l : List ℕ). clamped (a .put) (length l)) (n .before .part .ensures) in
+    wrote-law (a .self) (a .put) (n .count .result) piece (a .out .now) put
 
 pub wrote-spec : {M : Type 1} → statement M
 wrote-spec = tie.close (tie.spec part-requires count-requires add-next returns)
