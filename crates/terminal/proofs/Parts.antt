@@ -43,7 +43,8 @@ part-drop n from end l =
 pub part-within : (from end : ℕ) (l : List ℕ) → part (min from (min end (length l))) (min end (length l)) l ≡ part from end l
 part-within from end l =
     go (leb from (min end (length l))) refl
-    ∙ ap (λ (k : ℕ). take k (drop from l)) (let k : min end (length l) - from ≡ min (end - from) (length (drop from l)) = omega (arith, length-drop from l) in k)
+    ∙ ap (λ (k : ℕ). take k (drop from l))
+    (let k : min end (length l) - from ≡ min (end - from) (length (drop from l)) = omega (arith, length-drop from l) in k)
     ∙ take-min (end - from) (drop from l)
   where
     go : (b : Bool) → leb from (min end (length l)) ≡ b

@@ -15,7 +15,8 @@ use Rattle.lines.specs.Session.{Session, stepRule, finish}
 use Rattle.lines.proofs.Splits.{into-none}
 use Rattle.lines.proofs.Rooms.{answer-room, rule-uses}
 use Rattle.lines.proofs.Streaming.{ahead, ahead-none, ahead-step}
-use Rattle.terminal.specs.Stream.{State, start, answerRule, endRule, brought, receive, readRule, count, writeRule, Idle, Turn, rests, reads, writes, Reached, starts, turns}
+use Rattle.terminal.specs.Stream.{State, start, answerRule, endRule, brought, receive, readRule, count, writeRule}
+use Rattle.terminal.specs.Stream.{Idle, Turn, rests, reads, writes, Reached, starts, turns}
 use Rattle.terminal.specs.Stream.{answers as answering}
 
 -- while the input is open, and once it has ended

@@ -38,7 +38,8 @@ drop-count (pos n) l = drop-min n l
 drop-count (negsuc k) l = refl
 
 pub wrote-law : (s : Stream) (put : ℤ) (n : ℕ) (piece out : List ℕ) → n ≡ clamped put (length (part (s .from) (s .end) out))
-    → view (record { console = s .console; at = s .at; len = s .len; from = s .from + n; end = s .end; ended = s .ended }) piece out ≡ writeRule put (view s piece out)
+    → view (record { console = s .console; at = s .at; len = s .len; from = s .from + n; end = s .end; ended = s .ended }) piece out
+    ≡ writeRule put (view s piece out)
 wrote-law s put n piece out e =
     let v = view s piece out in
     ap (λ (l : List ℕ). record { session = v .session; unanswered = v .unanswered; unwritten = l; ended = v .ended })
@@ -48,7 +49,8 @@ wrote-law s put n piece out e =
 
 pub answer-law : (s : Stream) (r : Step) (piece old new : List ℕ) → Stepped (session (s .console)) (part (s .at) (s .len) piece) old new r
     → (let next = answerRule (length old) (view s piece old) in
-    Leaves next (written (next .unwritten) old) (view (record { console = r .console; at = s .at + r .used; len = s .len; from = 0; end = r .written; ended = s .ended }) piece new) new)
+    Leaves next (written (next .unwritten) old)
+    (view (record { console = r .console; at = s .at + r .used; len = s .len; from = 0; end = r .written; ended = s .ended }) piece new) new)
 answer-law s r piece old new p =
     let v = view s piece old in
     let q = stepRule (length old) (v .session) (v .unanswered) in
@@ -76,7 +78,10 @@ end-written s n piece old new a = go (leb (length (finish (session (s .console))
         let text = finish (session (s .console)) in
         let l : new ≡ written text old = rw h at (a .left-is) in
         let out : part 0 n new ≡ text =
-        front n new ∙ ap (λ (k : ℕ). take k new) (unwrap (rw h at (a .told-is))) ∙ ap (take (length text)) l ∙ take-at text (drop (length text) old) (length text) refl in
+        front n new
+        ∙ ap (λ (k : ℕ). take k new) (unwrap (rw h at (a .told-is)))
+        ∙ ap (take (length text)) l
+        ∙ take-at text (drop (length text) old) (length text) refl in
         record {
           state-is = rw h (ap (λ (u : List ℕ). record { session = session (s .console); unanswered = []; unwritten = u; ended = true }) out);
           buffer-is = a .left-is;

@@ -5,7 +5,8 @@ use mathlib.Core.Bool.{Bool, false}
 use mathlib.Core.List.{List, [], _++_, append-nil}
 use lib.ListN.{length, take}
 use lib.IntN.{ℤ}
-use Rattle.terminal.specs.Stream.{State, view, part, start, answerRule, brought, readRule, count, writeRule, Idle, Turn, rests, reads, answers, writes, Reached, starts, turns, Turned, Ran}
+use Rattle.terminal.specs.Stream.{State, view, part, start, answerRule, brought, readRule, count, writeRule}
+use Rattle.terminal.specs.Stream.{Idle, Turn, rests, reads, answers, writes, Reached, starts, turns, Turned, Ran}
 use Rattle.terminal.specs.declared.stream.Stream.{Stream}
 use Rattle.terminal.proofs.Parts.{empty, part-size}
 
@@ -13,7 +14,9 @@ pub turn-rests : (s : State) → Turned s s
 turn-rests s = record { read = []; put = []; turn = rests }
 
 pub turn-writes : (s t : State) (put : ℤ) → t ≡ writeRule put s → Turned s t
-turn-writes s t put e = record { read = []; put = take (count put) (s .unwritten); turn = subst (λ (u : State). Turn s [] (take (count put) (s .unwritten)) u) (sym e) (writes put) }
+turn-writes s t put e =
+    let took = take (count put) (s .unwritten) in
+    record { read = []; put = took; turn = subst (λ (u : State). Turn s [] took u) (sym e) (writes put) }
 
 pub turn-answers : (s t : State) (room : ℕ) → s .unwritten ≡ [] → t ≡ answerRule room s → Turned s t
 turn-answers s t room none e = record { read = []; put = []; turn = subst (λ (u : State). Turn s [] [] u) (sym e) (answers room none) }
@@ -35,7 +38,11 @@ turn-reads s t room got before piece out same none written more e =
     kept =
         let v = view s before out in
         let e : part (s .at) (s .len) piece ≡ [] =
-        empty (part (s .at) (s .len) piece) (part-size (s .at) (s .len) piece ∙ ap (λ (n : ℕ). min (s .len - s .at) (n - s .at)) same ∙ sym (part-size (s .at) (s .len) before) ∙ ap length none) in
+        empty (part (s .at) (s .len) piece)
+        (part-size (s .at) (s .len) piece
+        ∙ ap (λ (n : ℕ). min (s .len - s .at) (n - s .at)) same
+        ∙ sym (part-size (s .at) (s .len) before)
+        ∙ ap length none) in
         ap (λ (l : List ℕ). record { session = v .session; unanswered = l; unwritten = v .unwritten; ended = v .ended }) (e ∙ sym none)
 
 -- ---- some turns

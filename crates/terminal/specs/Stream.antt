@@ -18,7 +18,7 @@ pub record State : Type 0 where
   pub unwritten : List ℕ
   pub ended : Bool
 
--- the bytes of a list from one place to another
+-- the bytes of a list from one place to another, as far as it has them
 abbrev pub part : ℕ → ℕ → List ℕ → List ℕ
 part from end l = take (end - from) (drop from l)
 
@@ -44,7 +44,7 @@ answerRule room s =
     let r = stepRule room (s .session) (s .unanswered) in
     record { session = r .session; unanswered = drop (r .used) (s .unanswered); unwritten = r .output; ended = s .ended }
 
--- the input has ended: so has a line that has begun
+-- the input has ended, and so has a line that has begun; where there is no room for its answer nothing is done
 abbrev pub endRule : ℕ → State → State
 endRule room s =
     let text = finish (s .session) in
@@ -98,6 +98,7 @@ pub record Idle (s : State) : Type 0 where
   pub written : s .unwritten ≡ []
   pub more : s .ended ≡ false
 
+-- nothing is done; a read, whatever it answers; what was read is answered; a write, whatever it answers
 pub data Turn : State → List ℕ → List ℕ → State → Type 0 where
   rests : {s : State} → Turn s [] [] s
   reads : {s : State} (room : ℕ) (got : ℤ) (buffer : List ℕ) → Idle s → Turn s (brought got buffer) [] (readRule room got buffer s)

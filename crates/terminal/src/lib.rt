@@ -12,9 +12,9 @@ pub mod stream;
 // The longest answer: eighteen bytes, each with the space or the feed behind it.
 const LONGEST_ANSWER: usize = 54;
 
-// Answers the lines of standard input as they come, read into `piece` and answered from `out`, until the input ends, or a read or a write fails. What
-// arrives together is read and written together. A buffer too short for an answer, or for a byte of input, answers nothing. A proved loop has to
-// end, and nothing says that the input does, so the loop counts its turns down from a number that no run uses up.
+// Answers the lines of standard input as they come, read into `piece` and answered from `out`, until the input ends, or a read or a write fails, and
+// hands back the stream as it is then. What arrives together is read and written together. A buffer too short for an answer, or for a byte of input,
+// answers nothing. A proved loop has to end, and nothing says that the input does, so the loop counts its turns down from a number that no run uses up.
 pub fn run(piece: &mut [u8], out: &mut [u8]) -> Stream
     ensures { λ r. ⌜ Ran (view r (now (piece .exit)) (now (out .exit))) ⌝ }
 {
@@ -34,7 +34,7 @@ pub fn run(piece: &mut [u8], out: &mut [u8]) -> Stream
     stream
 }
 
-// The stream after one call, and whether there is more to do.
+// The stream after a turn, and whether there is more to do.
 struct Next {
     stream: Stream,
     more: bool,

@@ -50,7 +50,8 @@ same-length-3 c = search needs
 all-written : (c : tie.Else1) → let a = c .before .before .before .before .before .args in part (a .stream .from) (a .stream .end) (a .out .now) ≡ []
 all-written c = sym (c .before .unwritten .ensures) ∙ empty (c .before .unwritten .result .now) (omega (arith, c .if1 .left))
 
-all-answered : (c : tie.Else2) → let a = c .before .before .before .before .before .before .before .before .args in part (a .stream .at) (a .stream .len) (a .piece .now) ≡ []
+all-answered : (c : tie.Else2) → let a = c .before .before .before .before .before .before .before .before .args in
+    part (a .stream .at) (a .stream .len) (a .piece .now) ≡ []
 all-answered c = sym (c .before .unanswered .ensures) ∙ empty (c .before .unanswered .result .now) (omega (arith, c .if2 .left))
 
 returns-2 : tie.Need-returns-2
@@ -98,7 +99,8 @@ returns-4 c =
     let w = u .before .before .before in
     let a = w .before .before .before .before .before .args in
     let more = sym (e .before .has-ended .ensures) ∙ e .if3 .left in
-    turn-reads (a .stream) _ _ _ (a .piece .now) _ (a .out .now) (r .read .kept .1 .0) (all-answered u) (all-written w) more (c .before .before .read2 .ensures .state-is)
+    turn-reads (a .stream) _ _ _ (a .piece .now) _ (a .out .now) (r .read .kept .1 .0) (all-answered u) (all-written w) more
+    (c .before .before .read2 .ensures .state-is)
 
 pub turn-spec : {M : Type 1} → statement M
 turn-spec =

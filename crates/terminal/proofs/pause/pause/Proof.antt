@@ -144,7 +144,8 @@ module _ {M : Type 1} (𝓤 : URA M) (H : Heap 𝓤) (A : Atoms 𝓤) (W : Given
         assigns ! (addr ! (from ! (stop !))) (from ! (stop !)) (init ! 0 refl (tt, tt)) $
         -- a lifetime is made for each, and each is lent for it
         move ! (8 ∷ []) $ use1 W (‵ (partAt T.the-row fullShare (time 1000000) l₁ 0)) (lies 1000000 (lit< tt) l₁) $ lft-new ! tt (λ α. move ! (1 ∷ []) $
-        use1 W (later (some (λ (γ : GName). ‵ (shared (α ∷ []) (at l₁ γ (time 1000000))) ⊛ ‵ (flent (α ∷ []) (partAt T.the-row fullShare (time 1000000) l₁ 0)))))
+        use1 W
+        (later (some (λ (γ : GName). ‵ (shared (α ∷ []) (at l₁ γ (time 1000000))) ⊛ ‵ (flent (α ∷ []) (partAt T.the-row fullShare (time 1000000) l₁ 0)))))
         (lends-shr 𝓤 H A W T.the-row (named 0) (α ∷ []) fullShare (time 1000000) l₁ 0) $ await ! tt $ pick ! (λ γ. split ! $
         move ! (9 ∷ []) $ use1 W (‵ (partAt T.the-row fullShare (time 0) l₂ 0)) (lies 0 (lit< tt) l₂) $ lft-new ! tt (λ β. move ! (1 ∷ []) $
         use1 W (later (some (λ (δ : GName). ‵ (unique (β ∷ []) (at l₂ δ (time 0))) ⊛ ‵ (flent (β ∷ []) (Body (memOf T.the-row) l₂ 0 δ)))))
