@@ -8,8 +8,8 @@ use mathlib.Core.List.{List, [], _∷_}
 use lib.ListN.{length, take, drop, length-take}
 use lib.Seq.{take-at}
 use lib.IntN.{ℤ, pos, negsuc}
-use lib.Dec.{leb}
-use lib.Signed.{ltZ}
+use lib.Dec.{leb, T, leb→le}
+use lib.Signed.{ltZ, leZ}
 use borrow.Author.Tests.{ltb-true}
 use Rattle.io.specs.Counts.{clamped}
 use Rattle.models.specs.Outcome.{value, refused}
@@ -105,11 +105,13 @@ end-refused s m piece old new a = go (leb (length (finish (session (s .console))
 true-false : true ≡ false → ⊥
 true-false e = let z : _≡_ {A = ℕ} 1 0 = ap (λ (b : Bool). cond b 1 0) e in omega arith
 
-pub read-failed : (s : Stream) (got : ℤ) (piece out : List ℕ) → ltZ got (pos 0) ≡ true
+-- an answer below some limit that is not above 0
+pub read-failed : (s : Stream) (got limit : ℤ) (piece out : List ℕ) → ltZ got limit ≡ true → T (leZ limit (pos 0))
     → Leaves (readRule (length out) got piece (view s piece out)) (readBuffer got piece (view s piece out) out) (view s piece out) out
 unfolding readRule readBuffer
-read-failed s (pos k) piece out h = absurd (omega (arith, ltb-true k 0 h))
-read-failed s (negsuc k) piece out h = record { state-is = refl; buffer-is = refl }
+read-failed s (pos k) (pos n) piece out h l = absurd (omega (arith, ltb-true k n h, leb→le n 0 l))
+read-failed s (pos k) (negsuc n) piece out h l = absurd (true-false (sym h))
+read-failed s (negsuc k) limit piece out h l = record { state-is = refl; buffer-is = refl }
 
 pub read-some : (s : Stream) (n : ℕ) (got : ℤ) (piece out : List ℕ) → n ≡ clamped got (length piece) → (n ≡ 0 → ⊥)
     → Leaves (readRule (length out) got piece (view s piece out)) (readBuffer got piece (view s piece out) out)

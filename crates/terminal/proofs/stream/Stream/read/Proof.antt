@@ -13,7 +13,8 @@ use Rattle.terminal.proofs.stream.Stream.read.Tie as tie
 returns : tie.Need-returns
 returns c =
     let a = c .before .before .before .args in
-    read-failed (a .self) (a .got) (a .piece .now) (a .out .now) (rw (toZ-ofZ w64 (a .got) (c .before .before .before .fits .got)) at (c .if1 .taken))
+    let e = toZ-ofZ w64 (a .got) (c .before .before .before .fits .got) in
+    read-failed (a .self) (a .got) _ (a .piece .now) (a .out .now) (rw e at (c .if1 .taken)) tt
 
 count-requires : tie.Need-count-requires
 count-requires c κs = search needs
