@@ -51,13 +51,10 @@ text-room s b = go (eqb b feed)
     go false = omega arith
 
 -- a step over a piece that is not empty, with that much room, uses some of it
-rule-uses : (room : ℕ) (s : Session) (piece : List ℕ) → 54 ≤ room → 0 < length piece → 0 < stepRule room s piece .used
+pub rule-uses : (room : ℕ) (s : Session) (piece : List ℕ) → 54 ≤ room → 0 < length piece → 0 < stepRule room s piece .used
 unfolding stepRule
 rule-uses room s [] h l = absurd (omega arith)
 rule-uses room s (b ∷ bs) h l = rw (le-leb (length (text s b)) room (omega (arith, text-room s b))) (omega arith)
-
-pub used-some : {s : Session} {piece old new : List ℕ} {r : Step} → Stepped s piece old new r → 54 ≤ length old → 0 < length piece → 0 < r .used
-used-some {s} {piece} {old} p h l = rw (p .used-is) (rule-uses (length old) s piece h l)
 
 -- and no more than it
 rule-within : (room : ℕ) (s : Session) (piece : List ℕ) → stepRule room s piece .used ≤ length piece

@@ -1,100 +1,96 @@
-// Standard input through the steps of `lines` to standard output.
+// Standard input through the console to standard output.
 
-ghost use Prim.Native.Nat.{_≤_};
-ghost use lib.ListN.{length};
+ghost use Rattle.terminal.specs.Stream.{view, Turned, Ran};
 use libc::STDIN_FILENO;
 use libc::STDOUT_FILENO;
-use lines::step::Console;
-use senders::midi::Sent;
+use pause::pause;
+use stream::Stream;
+
+mod pause;
+pub mod stream;
 
 // The longest answer: eighteen bytes, each with the space or the feed behind it.
 const LONGEST_ANSWER: usize = 54;
 
-// Answers the lines of standard input as they come, read into `piece` and answered from `out`, until the input ends or the output is gone. What
-// arrives together is read and written together. A buffer too short for an answer, or for a byte of input, answers nothing.
-pub fn run(piece: &mut [u8], out: &mut [u8]) {
-    if out.len() < LONGEST_ANSWER {
-        return;
-    }
-    let console = read_all(piece, out);
-    end(console, out);
-}
-
-// The console at the end of the input, or where the output is gone. A proved loop has to end, and nothing says that the input does, so the loop
-// counts its turns down from a number that no run uses up.
-fn read_all(piece: &mut [u8], out: &mut [u8]) -> Console
-    requires { ⌜ 54 ≤ length (now out) ⌝ }
+// Answers the lines of standard input as they come, read into `piece` and answered from `out`, until the input ends, or a read or a write fails, and
+// hands back the stream as it is then. What arrives together is read and written together. A buffer too short for an answer, or for a byte of input,
+// answers nothing. A proved loop has to end, and nothing says that the input does, so the loop counts its turns down from a number that no run uses up.
+pub fn run(piece: &mut [u8], out: &mut [u8]) -> Stream
+    ensures { λ r. ⌜ Ran (view r (now (piece .exit)) (now (out .exit))) ⌝ }
 {
-    let mut console = Console::new();
+    let mut stream = Stream::new();
+    if out.len() < LONGEST_ANSWER {
+        return stream;
+    }
     let mut turns = u64::MAX;
     while turns > 0 {
-        let t = turn(console, piece, out);
-        console = t.console;
+        let t = turn(stream, piece, out);
+        stream = t.stream;
         if !t.more {
-            return console;
+            return stream;
         }
         turns -= 1;
     }
-    console
+    stream
 }
 
-// Answers a line that the end of the input ends.
-fn end(console: Console, out: &mut [u8]) {
-    let answer = console.finish(out);
-    if let Sent::Written(n) = answer {
-        write(out, n);
-    }
-}
-
-// The console behind what one read brought, and whether there may be more.
-struct Fed {
-    console: Console,
+// The stream after a turn, and whether there is more to do.
+struct Next {
+    stream: Stream,
     more: bool,
 }
 
-fn turn(console: Console, piece: &mut [u8], out: &mut [u8]) -> Fed
-    requires { ⌜ 54 ≤ length (now out) ⌝ }
+// Writes what is answered; or else answers what was read; or else reads.
+fn turn(stream: Stream, piece: &mut [u8], out: &mut [u8]) -> Next
+    ensures { λ r.
+        ⌜
+        Turned
+        (view stream (now (piece .entry)) (now (out .entry)))
+        (view (r .stream) (now (piece .exit)) (now (out .exit)))
+        ⌝ }
 {
-    let got = libc::read(STDIN_FILENO, piece);
-    let n = io::count(got, piece);
-    if n == 0 {
-        return Fed {
-            console,
+    if stream.unwritten(out).len() > 0 {
+        let put = libc::write(STDOUT_FILENO, stream.unwritten(out));
+        let more = goes_on(put, b"standard output");
+        return Next {
+            stream: stream.wrote(put, out),
+            more,
+        };
+    }
+    if stream.unanswered(piece).len() > 0 {
+        return Next {
+            stream: stream.answer(piece, out),
+            more: true,
+        };
+    }
+    if stream.has_ended() {
+        return Next {
+            stream,
             more: false,
         };
     }
-    feed(console, &piece[..n], out)
-}
-
-// Answers the lines of a piece. The buffer has room for an answer, so each step uses some of the piece.
-fn feed(console: Console, piece: &[u8], out: &mut [u8]) -> Fed
-    requires { ⌜ 54 ≤ length (now out) ⌝ }
-{
-    let mut now = console;
-    let mut at = 0;
-    while at < piece.len() {
-        let s = now.step(&piece[at..], out);
-        let used = s.used;
-        let written = s.written;
-        now = s.console;
-        if !write(out, written) {
-            return Fed {
-                console: now,
-                more: false,
-            };
-        }
-        at += used;
-    }
-    Fed {
-        console: now,
-        more: true,
+    let got = libc::read(STDIN_FILENO, piece);
+    let more = goes_on(got, b"standard input");
+    Next {
+        stream: stream.read(got, piece, out),
+        more,
     }
 }
 
-// Writes the first n bytes of the buffer, and answers whether all were written.
-fn write(out: &[u8], n: usize) -> bool {
-    if n > out.len() {
-        return false;
+// Whether the program goes on after a call of the system that answered `result`. One that a signal interrupted, or that can move nothing yet, is made
+// again. Any other that failed is told on standard error.
+fn goes_on(result: isize, name: &[u8]) -> bool {
+    if result >= 0 {
+        return true;
     }
-    io::write_all(STDOUT_FILENO, &out[..n])
+    let error = os::errno();
+    if error == libc::EINTR {
+        return true;
+    }
+    if error == libc::EAGAIN {
+        pause();
+        return true;
+    }
+    os::fail(name);
+    false
 }

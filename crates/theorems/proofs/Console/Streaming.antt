@@ -52,7 +52,7 @@ ended-line f s = rw (← into-none feed s) (go (split feed s))
     go (g ∷ gs) = refl
 
 -- nothing more comes
-ahead-none : (s : Session) → ahead s [] ≡ finish s
+pub ahead-none : (s : Session) → ahead s [] ≡ finish s
 unfolding ahead finish split into ended
 ahead-none s = rw append-nil
 

@@ -1,0 +1,4 @@
+pub mod Parts
+pub mod Streams
+pub mod Turns
+pub mod Runs
