@@ -3,3 +3,4 @@ pub mod Grammar
 pub mod Refusals
 pub mod Decimal
 pub mod Streaming
+pub mod Runs

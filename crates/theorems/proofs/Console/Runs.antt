@@ -14,10 +14,10 @@ use Rattle.lines.specs.Console.{opened, answer, answers, nonempty, ended, lines
 use Rattle.lines.specs.Session.{Session, stepRule, finish}
 use Rattle.lines.proofs.Splits.{into-none}
 use Rattle.lines.proofs.Rooms.{answer-room, rule-uses}
-use Rattle.lines.proofs.Streaming.{ahead, ahead-none, ahead-step}
+use Rattle.theorems.proofs.Console.Streaming.{ahead, ahead-none, ahead-step}
 use Rattle.terminal.specs.Stream.{State, start, answerRule, endRule, brought, receive, readRule, count, writeRule}
 use Rattle.terminal.specs.Stream.{Idle, Turn, rests, reads, writes, Reached, starts, turns}
 use Rattle.terminal.specs.Stream.{answers as answering}
 
 -- while the input is open, and once it has ended
 record Written (s : State) (input put : List ℕ) : Type 0 where
