@@ -5,11 +5,16 @@ pub mod ChannelLists
 pub mod Values
 pub mod StepBounds
 pub mod Queues
-pub mod KeyRecords
 pub mod HeldKeys
 pub mod Pools
+pub mod PressCases
+pub mod Regions
+pub mod RecordNumbers
+pub mod Blocks
+pub mod Allocations
+pub mod FreshBlocks
+pub mod SettingsCells
 pub mod Times
-pub mod Told
 pub mod PoolSettings
 pub mod PoolInvariant
 pub mod PoolAnswers
@@ -17,7 +22,6 @@ pub mod PoolStop
 pub mod PoolRefusals
 pub mod PoolPresses
 pub mod PoolPitches
-pub mod Changes
 pub mod PoolExamples
 pub mod ListLaws
 pub mod Joins

@@ -6,10 +6,8 @@ use lib.Ieee.{Float, binary64, ofBits}
 use Rattle.arithmetic.specs.Outcome.{Outcome, value, refused}
 use Rattle.arithmetic.specs.Note.{isNote}
 use Rattle.models.specs.Pool.{keyCount, State, Place, Press, accepted, rejected, released, unlessHeld, replied}
-use Rattle.models.specs.JitModel.{press}
 use Rattle.models.specs.declared.jit.Change as C
 use Rattle.models.specs.declared.jit.Change.{Change}
-use Rattle.models.specs.declared.jit.Pressing.{Pressing}
 
 -- ---- the state after a change
 
@@ -49,10 +47,3 @@ pressChange key (refused n) = noChange
 unfoldable pub releaseChange : ℕ → Option Place → Change
 releaseChange key (some p) = C.the-variants.Release key
 releaseChange key none = noChange
-
--- what a press answers, and the change that it tells
-abbrev pub pressTold : ℕ → Outcome Press → Outcome Press × Change
-pressTold key o = (o, pressChange key o)
-
-abbrev pub pressing : Pressing → Outcome Press × Change
-pressing r = (press (r .result), r .change)
