@@ -1,6 +1,6 @@
 -- Where note pitches and detunings lie. The 801 note pitches are between 2 ^ -23 and 2 ^ 45, a test that antt computes at each of them. So a pitch
--- divided by a note pitch is between 2 ^ -65 and 2 ^ 63, finite and above zero, and so is a quotient of two such detunings. Assumes nothing.
-use mathlib.Core.Path.{_≡_, refl, sym, ap, _∙_, subst}
+-- divided by a note pitch is between 2 ^ -65 and 2 ^ 63, finite and above zero. Assumes nothing.
+use mathlib.Core.Path.{_≡_, refl, ap, subst}
 use mathlib.Core.Bool.{Bool, true, false, _&&_}
 use Prim.Native.Nat.{ℕ, _+_, _≤_, _<_}
 use native.Mathlib.Omega.{arith}
@@ -14,7 +14,7 @@ use Rattle.arithmetic.specs.Note.{isNote}
 use Rattle.arithmetic.specs.Pitch.{octavePitch, significands, factor, pitchOf, lowestPitch, highestPitch, isPitch, detuningOf}
 use Rattle.arithmetic.proofs.Integers.{plus, less, same, add-parts, sub-parts-ℤ}
 use Rattle.arithmetic.proofs.Tables.{all, all-at}
-use Rattle.arithmetic.proofs.FloatDivision.{div-mono, div-between}
+use Rattle.arithmetic.proofs.FloatDivision.{div-mono}
 use Rattle.arithmetic.proofs.Notes.{bounds}
 
 -- ---- note pitches
@@ -104,15 +104,6 @@ detuning-of-pitch x z h e = record {
 -- so it is finite and above zero, and measuring it meets no refusal
 pub detuning-positive : (x : Float) (z : ℤ) → T (isPitch x) → isNote z ≡ true → T (positive (detuningOf x z))
 detuning-positive x z h e = detuning-is (detuningOf x z) (detuning-of-pitch x z h e)
-
-quotient-ends : T (positive (div binary64 lowDetuning highDetuning)) × T (positive (div binary64 highDetuning lowDetuning))
-unfolding div
-quotient-ends = (tt, tt)
-
-pub quotient-positive : (a b : Float) → Detuning a → Detuning b → T (positive (div binary64 b a))
-quotient-positive a b d e =
-    div-between binary64 lowDetuning b highDetuning lowDetuning a highDetuning tt (detuning-is b e) tt tt (detuning-is a d) tt
-    (e .low) (e .high) (d .low) (d .high) (quotient-ends .0) (quotient-ends .1)
 
 -- a detuning that is planned, 0.5 to 2
 pub planned-is : (x : Float) → T (le (fin false 1 (negsuc 0)) x) → T (le x (fin false 1 (pos 1))) → Detuning x

@@ -12,8 +12,5 @@ pub mod Measure
 pub mod Scaled
 pub mod Fields
 pub mod Range
-pub mod Steps
 pub mod Nearest
-pub mod Octaves
-pub mod Close
 pub mod Refusals

@@ -1,6 +1,6 @@
 -- The nearest note: what the code computes of a measure fits, and for every pitch the measure is small and the note is from -276 to 444.
 -- Assumes nothing.
-use mathlib.Core.Path.{_≡_, refl, sym, ap, _∙_, subst}
+use mathlib.Core.Path.{_≡_, refl, sym, ap, _∙_}
 use mathlib.Core.Bool.{true}
 use Prim.Native.Nat.{ℕ, _+_, _*_, _/_, _^_, _≤_, _<_}
 use native.Mathlib.Nat.{le-of-eq, lt-of-le-of-lt, lt-of-lt-of-le, lt-of-not-le, not-le-of-lt, lt-of-mul-lt-mul-right, mul-right-comm, mul-comm, mul-le-mul-right, mul-lt-mul-of-pos-right, pow-le-pow-left, pow-lt-pow-left, one-le-pow}
@@ -12,23 +12,22 @@ use lib.Ieee.Fits.{and-l, and-r}
 use lib.Ieee.Bits.{is-true}
 use lib.Ieee.Positive.{num, den, den-pos, positive, le→cross, cross→le, through, between}
 use lib.IntN.{ℤ, pos, negsuc, _+ℤ_, _-ℤ_, _*ℤ_}
-use lib.Signed.{mag, _≤ℤ_}
+use lib.Signed.{mag}
 use mir.Syntax.{w32}
 use mir.Val.{SFits}
-use Rattle.arithmetic.specs.Outcome.{Outcome, value, refused}
+use Rattle.arithmetic.specs.Outcome.{value, refused}
 use Rattle.arithmetic.specs.Division.{quotient}
 use Rattle.arithmetic.specs.Measure.{measure, measureRule}
 use Rattle.arithmetic.specs.Powers.{AtLeast, Below}
 use Rattle.arithmetic.specs.Pitch.{lowestPitch, highestPitch, isPitch, a4Pitch, detuningOf}
-use Rattle.arithmetic.specs.Nearest.{semitones, overA4, nearestNote, NearestBound}
+use Rattle.arithmetic.specs.Nearest.{semitones, overA4, nearestNote}
 use Rattle.arithmetic.specs.Note.{isNote}
 use Rattle.arithmetic.proofs.Notes.{within}
-use Rattle.arithmetic.proofs.Powers.{mul-pow, ne-zero}
-use Rattle.arithmetic.proofs.Steps.{two-side, value-side, nearest-law}
+use Rattle.arithmetic.proofs.Powers.{mul-pow, ne-zero, two-side, value-side}
 use Rattle.arithmetic.proofs.Measure.{measure-law}
 use Rattle.arithmetic.proofs.FloatDivision.{div-mono}
 use Rattle.arithmetic.proofs.Bounds.{pitch-positive, detuning-positive}
-use Rattle.arithmetic.proofs.Integers.{plus, less, same, add-parts, sub-parts-ℤ, mul-parts, small-by, small-parts, fits-parts, fits-by, one-sided, between-parts}
+use Rattle.arithmetic.proofs.Integers.{plus, less, add-parts, sub-parts-ℤ, mul-parts, small-by, small-parts, fits-parts, fits-by, one-sided}
 
 -- a number below 2 ^ 40 shifted by 24 places fits an i32
 shifted-fits : (z : ℤ) → mag z < 2 ^ 40 → SFits w32 (quotient z (2 ^ 24))
@@ -155,20 +154,8 @@ nearest-parts x h =
     let e = add-parts (pos 69) (quotient z (2 ^ 24)) in
     one-sided (pos 69 +ℤ quotient z (2 ^ 24)) 444 276 (omega arith) (omega arith)
 
-pub nearest-range : (x : Float) → T (isPitch x) → (negsuc 275 ≤ℤ nearestNote x) × (nearestNote x ≤ℤ pos 444)
-nearest-range x h = let r = nearest-parts x h in between-parts 444 275 (nearestNote x) (r .0) (r .1)
-
 pub nearest-is-note : (x : Float) → T (isPitch x) → isNote (nearestNote x) ≡ true
 nearest-is-note x h = let r = nearest-parts x h in within (nearestNote x) (omega arith) (omega arith)
-
--- document 01's bound: with d = note - 69, v is less than 5001 / 10000 of a semitone from d semitones
-pub nearest-bound : (x : Float) → T (isPitch x) → NearestBound (nearestNote x -ℤ pos 69) (overA4 x)
-unfolding nearestNote
-nearest-bound x h =
-    let d = semitones (measure (overA4 x)) in
-    subst (λ (k : ℤ). NearestBound k (overA4 x))
-    (same d (pos 69 +ℤ d -ℤ pos 69) (omega (arith, sub-parts-ℤ (pos 69 +ℤ d) (pos 69), add-parts (pos 69) d)))
-    (nearest-law (overA4 x) (ratio-positive x h))
 
 -- what the measure's call answers at a pitch over 440
 answered : (x v : Float) → T (isPitch x) → v ≡ overA4 x → measureRule v ≡ value (measure (overA4 x))

@@ -1,20 +1,20 @@
 -- Notes by the bounds of their two parts, which `omega` reads, and what the code's tests say of them. Assumes nothing.
-use mathlib.Core.Path.{_≡_, refl, sym, ap, _∙_}
+use mathlib.Core.Path.{_≡_, refl, sym, _∙_}
 use mathlib.Core.Bool.{Bool, true, false, not, _&&_, true≢false}
-use mathlib.Core.Option.{Option, some, none}
-use Prim.Native.Nat.{ℕ, suc, _+_, _*_, _^_, _≤_, _<_}
+use mathlib.Core.Option.{some, none}
+use Prim.Native.Nat.{ℕ, _+_, _≤_, _<_}
 use native.Mathlib.Omega.{arith}
 use lib.Dec.{leb}
-use lib.IntN.{ℤ, pos, negsuc, natAbs, _+ℤ_, _-ℤ_, _*ℤ_}
+use lib.IntN.{ℤ, pos, negsuc, natAbs, _-ℤ_}
 use lib.Signed.{ltZ}
 use mir.Syntax.{w32}
 use mir.Val.{SFits, toZ, ofZ}
 use mir.ValLaws.{toZ-ofZ}
 use borrow.Author.Tests.{leb-true, ltb-true, ltb-false, le-leb, lt-leb, not-true, not-false}
-use Rattle.arithmetic.specs.Division.{quotient, remainder}
+use Rattle.arithmetic.specs.Division.{quotient}
 use Rattle.arithmetic.specs.Note.{isNote, letterOf, octaveOf, midiNumber}
-use Rattle.arithmetic.proofs.Integers.{plus, less, same, add-parts, mul-parts, sub-parts-ℤ, fits-by}
-use Rattle.arithmetic.proofs.Quotients.{division-law, remainder-below}
+use Rattle.arithmetic.proofs.Integers.{plus, less, sub-parts-ℤ, fits-by}
+use Rattle.arithmetic.proofs.Quotients.{remainder-below}
 
 -- ---- the range
 
@@ -82,14 +82,5 @@ pub midi-number : (z : ℤ) (n : ℕ) → Numbered z n → some n ≡ midiNumber
 unfolding midiNumber
 midi-number z n b = rw (b .is, le-leb n 127 (b .small))
 
--- ---- letter and octave make the note, for every integer
-
 pub letter-below : (z : ℤ) → letterOf z < 12
 letter-below z = remainder-below z 12 (omega arith)
-
-pub letter-and-octave : (z : ℤ) → (octaveOf z +ℤ pos 1) *ℤ pos 12 +ℤ pos (letterOf z) ≡ z
-letter-and-octave z =
-    let q = quotient z 12 in
-    ap (λ (x : ℤ). x *ℤ pos 12 +ℤ pos (letterOf z))
-    (same (q -ℤ pos 1 +ℤ pos 1) q (omega (arith, sub-parts-ℤ q (pos 1), add-parts (q -ℤ pos 1) (pos 1))))
-    ∙ division-law z 12 (omega arith)

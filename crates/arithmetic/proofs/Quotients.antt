@@ -1,8 +1,7 @@
 -- Division rounded down (`specs/Division`): what the quotient and the remainder are, and how the machine's, which are cut toward zero, lead to them.
 -- Assumes nothing.
 use mathlib.Core.Path.{_≡_, refl, sym, ap, _∙_}
-use mathlib.Core.Logic.{_⊎_, inl, inr}
-use mathlib.Core.Bool.{Bool, true, false, true≢false}
+use mathlib.Core.Bool.{true, false, true≢false}
 use Prim.Native.Nat.{ℕ, zero, suc, _+_, _-_, _*_, _/_, _%_, _^_, _≤_, _<_, zero-le}
 use native.Mathlib.Nat.{mod-lt, div-add-mod', div-le-self, suc-mul, zero-mul, add-mul, le-antisymm, le-of-suc-le-suc, lt-of-not-le}
 use native.Mathlib.Decide.{decLt}
@@ -26,15 +25,10 @@ remainder-below (pos n) d D = mod-lt n D
 remainder-below (negsuc n) d D = omega arith
 
 -- the same over the two parts of integers
-whole : (z : ℤ) (d : ℕ) → 0 < d → plus (quotient z d) * d + remainder z d + less z ≡ plus z + less (quotient z d) * d
+pub whole : (z : ℤ) (d : ℕ) → 0 < d → plus (quotient z d) * d + remainder z d + less z ≡ plus z + less (quotient z d) * d
 unfolding remainder
 whole (pos n) d D = omega (arith, div-add-mod' n d, zero-mul d)
 whole (negsuc n) d D = omega (arith, div-add-mod' n d, mod-lt n D, zero-mul d, suc-mul (n / d) d)
-
-pub division-law : (z : ℤ) (d : ℕ) → 0 < d → quotient z d *ℤ pos d +ℤ pos (remainder z d) ≡ z
-division-law z d D =
-    same (quotient z d *ℤ pos d +ℤ pos (remainder z d)) z
-    (omega (arith, whole z d D, mul-parts (quotient z d) d, add-parts (quotient z d *ℤ pos d) (pos (remainder z d))))
 
 digits-unique : (d x y a b : ℕ) → a < d → b < d → x * d + a ≡ y * d + b → (x ≡ y) × (a ≡ b)
 digits-unique d x y a b l k e =

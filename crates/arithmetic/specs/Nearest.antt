@@ -1,5 +1,5 @@
 -- The note nearest to a pitch (document 01, "Nearest note"). Assumes nothing.
-use Prim.Native.Nat.{ℕ, _^_}
+use Prim.Native.Nat.{_^_}
 use lib.IntN.{ℤ, pos, _+ℤ_, _-ℤ_, _*ℤ_}
 use lib.Ieee.{Float, binary64, div}
 use Rattle.arithmetic.specs.Refusal.{pitchOutOfRange}
@@ -8,7 +8,6 @@ use Rattle.arithmetic.specs.Division.{quotient}
 use Rattle.arithmetic.specs.Note.{a4}
 use Rattle.arithmetic.specs.Pitch.{isPitch, a4Pitch, detuningOf}
 use Rattle.arithmetic.specs.Measure.{measure}
-use Rattle.arithmetic.specs.Powers.{Above, Below}
 
 -- half a semitone, in the steps of 12 L: 2 ^ 23
 abbrev pub halfSemitone : ℤ
@@ -32,8 +31,3 @@ nearestNote hz = a4 +ℤ semitones (measure (overA4 hz))
 -- "the nearest-note answer carries the note and its f64 detuning, or the refusal"
 unfoldable pub nearestRule : Float → Outcome (ℤ × Float)
 nearestRule hz = refuse pitchOutOfRange unless isPitch hz then value (nearestNote hz, detuningOf hz (nearestNote hz))
-
--- ---- what is proved of it: with d = note - 69, 2^(10000d-5001) < v^120000 < 2^(10000d+5001)
-
-abbrev pub NearestBound : ℤ → Float → Type 0
-NearestBound d v = Above (d *ℤ pos 10000 -ℤ pos 5001) v 120000 × Below v 120000 (d *ℤ pos 10000 +ℤ pos 5001)

@@ -31,7 +31,7 @@ a4Pitch = fin false 55 (pos 3)
 unfoldable pub octavePitch : ℤ → Float
 octavePitch j = fin false 55 (j +ℤ pos 3)
 
--- The whole numbers m behind R[k] = m / 2 ^ 52, one for each k below 12. `IsSignificand` is what document 01 asks of them.
+-- The whole numbers m behind R[k] = m / 2 ^ 52, one for each k below 12. `IsSignificand` of `theorems` is what document 01 asks of them.
 unfoldable pub significands : List ℕ
 significands =
     4503599627370496 ∷
@@ -47,9 +47,6 @@ significands =
     8024502270083369 ∷
     8501664005755716 ∷
     []
-
-abbrev pub IsSignificand : ℕ → ℕ → Type 0
-IsSignificand k m = ((2 * m - 1) ^ 12 < 2 ^ (k + 636)) × (2 ^ (k + 636) < (2 * m + 1) ^ 12)
 
 -- R[k], exactly
 unfoldable pub factor : ℕ → Float

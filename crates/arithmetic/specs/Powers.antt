@@ -10,14 +10,6 @@ use lib.Ieee.Positive.{num, den}
 abbrev pub AtLeast : ℤ → Float → ℕ → Type 0
 AtLeast k v n = up k * den v ^ n ≤ num v ^ n * down k
 
--- 2 ^ k < v ^ n
-abbrev pub Above : ℤ → Float → ℕ → Type 0
-Above k v n = up k * den v ^ n < num v ^ n * down k
-
--- v ^ n ≤ 2 ^ k
-abbrev pub AtMost : Float → ℕ → ℤ → Type 0
-AtMost v n k = num v ^ n * down k ≤ up k * den v ^ n
-
 -- v ^ n < 2 ^ k
 abbrev pub Below : Float → ℕ → ℤ → Type 0
 Below v n k = num v ^ n * down k < up k * den v ^ n

@@ -15,11 +15,10 @@ use Rattle.models.specs.AotModel as M
 use Rattle.models.specs.declared.steps.TuningKind.{TuningKind}
 use Rattle.senders.specs.Message.{isData, isBend}
 use Rattle.senders.specs.Midi.{bytesOf, checked}
-use Rattle.senders.specs.Lent.{Effect, Answer, sent, fitted, told, Moved, left, Steps}
+use Rattle.senders.specs.Lent.{Effect, Answer, sent, fitted, told, Moved, left, Steps, settled}
 use Rattle.senders.specs.Tuner.{toAll, toAllRule}
 use Rattle.senders.specs.Jit as J
 use Rattle.senders.specs.Aot as A
-use Rattle.senders.specs.Passage.{settled}
 use Rattle.senders.specs.declared.midi.ChannelMessageType.{ChannelMessageType}
 use Rattle.senders.specs.declared.midi.ChannelMessageType.the-variants.{NoteOff, NoteOn, PolyphonicKeyPressure, ControlChange, ProgramChange, ChannelPressure, PitchBendChange}
 use Rattle.exports.specs.declared.message.Heard.{Heard}

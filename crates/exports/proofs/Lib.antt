@@ -1,8 +1,7 @@
 -- Laws of the lists that answers are written to, and of calls one after the other. Assumes nothing.
 mod Elements
 mod Filled
-mod Results
+pub mod Results
 mod PlanAnswers
 mod Calls
 mod Counts
-pub mod Demand1

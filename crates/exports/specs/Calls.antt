@@ -4,8 +4,7 @@ use mathlib.Core.Path.{_≡_}
 use mathlib.Core.List.{List, [], _++_}
 use lib.ListN.{length}
 use Rattle.arithmetic.specs.Outcome.{Outcome, value, refused}
-use Rattle.senders.specs.Lent.{Effect, Answer, fitted, left}
-use Rattle.senders.specs.Passage.{settled}
+use Rattle.senders.specs.Lent.{Effect, Answer, fitted, left, settled}
 use Rattle.exports.specs.Messages.{refusedBy}
 use Rattle.exports.specs.declared.message.Heard.{Heard}
 

@@ -8,4 +8,3 @@ pub mod Messages
 pub mod Calls
 pub mod PoolTuner
 pub mod PlanTuner
-pub mod Functions

@@ -10,8 +10,7 @@ use Rattle.arithmetic.specs.Outcome.{Outcome, value, refused}
 use Rattle.models.specs.AotModel.{planned}
 use Rattle.models.specs.Line.{Line}
 use Rattle.models.specs.PlanLists.{noteLists, pitchLists}
-use Rattle.senders.specs.Lent.{Answer, fitted, told}
-use Rattle.senders.specs.Passage.{settled}
+use Rattle.senders.specs.Lent.{Answer, fitted, told, settled}
 use Rattle.senders.specs.Aot.{Tuner, Planned, tunes, cannot, planEffect, Smallest, setTuningRule, setTuningOfPitchesRule, noteOnRule, noteOffRule, noteAttrRule, globalAttrRule, stopRule}
 use Rattle.exports.specs.Lent.{byteAt, numberAt}
 use Rattle.exports.specs.Messages.{refusedBy, messageOf}

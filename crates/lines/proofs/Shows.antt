@@ -4,10 +4,7 @@ use native.Mathlib.Omega.{arith}
 use mathlib.Core.Path.{_≡_, refl}
 use mathlib.Core.List.{List, [], _∷_}
 use lib.ListN.{length, drop, getD}
-use borrow.Author.Tests.{lt-ltb, le-ltb, ltb-true}
-use lib.Dec.{ltb}
-use mathlib.Core.Bool.{Bool, true, false, cond}
-use Rattle.lines.specs.Grammar.{decimal}
+use borrow.Author.Tests.{lt-ltb, le-ltb}
 use Rattle.lines.specs.Show.{bytesLine, refusalLine, further, decimalOf, hexDigit}
 use Rattle.lines.proofs.Splits.{drop-step}
 
@@ -50,14 +47,3 @@ pub shown-length : (bs : List ℕ) → 0 < length bs → length (bytesLine bs) �
 unfolding bytesLine
 shown-length [] h = absurd (omega arith)
 shown-length (b ∷ bs) h = omega (arith, further-length bs)
-
--- the digits of a refusal's number spell it
-pub decimal-round : (n : ℕ) → n < 1000 → decimal 0 (decimalOf n) ≡ n
-unfolding decimal decimalOf
-decimal-round n h = go (ltb n 10) (ltb n 100) refl refl
-  where
-    go : (x y : Bool) → ltb n 10 ≡ x → ltb n 100 ≡ y
-        → decimal 0 (cond x ((48 + n) ∷ []) (cond y ((48 + n / 10) ∷ (48 + n % 10) ∷ []) ((48 + n / 100) ∷ (48 + n / 10 % 10) ∷ (48 + n % 10) ∷ []))) ≡ n
-    go true y p q = omega arith
-    go false true p q = omega (arith, ltb-true n 100 q)
-    go false false p q = omega arith

@@ -1,12 +1,8 @@
--- The grammar of the console's lines (document 01, "The console program"): "kind (`on`, `off`, `bend`), key, millihertz (at most 9 digits), velocity,
--- all decimal, parted by commas". Assumes nothing.
-use Prim.Native.Nat.{ℕ, _+_, _*_, _-_, _≤_}
-use mathlib.Core.Path.{_≡_}
+-- The words and numbers of the console's lines (document 01, "The console program"). Which lines are events is said by `Means` of `theorems`. Assumes nothing.
+use Prim.Native.Nat.{ℕ, _+_, _*_, _-_}
 use mathlib.Core.Bool.{Bool, true, _&&_}
-use mathlib.Core.List.{List, [], _∷_, _++_}
-use lib.ListN.{length}
+use mathlib.Core.List.{List, [], _∷_}
 use lib.Dec.{eqb, leb}
-use Rattle.lines.specs.Split.{comma}
 use Rattle.lines.specs.declared.line.Kind.{Kind}
 use Rattle.lines.specs.declared.line.Kind.the-variants.{On, Off, Bend}
 
@@ -35,23 +31,3 @@ zeros Bend m v = eqb v 0
 -- "Numbers over 255 for key or velocity .. are 13"
 unfoldable pub allowed : Kind → ℕ → ℕ → ℕ → Bool
 allowed k a m v = (leb a 255 && leb v 255) && zeros k m v
-
--- s spells n in 1 to `places` digits, "leading zeros allowed"
-pub record Spells (places : ℕ) (s : List ℕ) (n : ℕ) : Type 0 where
-  pub least : 1 ≤ length s
-  pub most : length s ≤ places
-  pub all : digits s ≡ true
-  pub value : decimal 0 s ≡ n
-
--- "At most 64 bytes a line. Key and velocity have 1 to 3 digits, millihertz 1 to 9": the line is an event of kind k with key a, millihertz m and
--- velocity v.
-pub record Means (line : List ℕ) (k : Kind) (a m v : ℕ) : Type 0 where
-  pub key : List ℕ
-  pub millihertz : List ℕ
-  pub velocity : List ℕ
-  pub bytes : line ≡ word k ++ comma ∷ (key ++ comma ∷ (millihertz ++ comma ∷ velocity))
-  pub short : length line ≤ 64
-  pub keyed : Spells 3 key a
-  pub pitched : Spells 9 millihertz m
-  pub struck : Spells 3 velocity v
-  pub allows : allowed k a m v ≡ true

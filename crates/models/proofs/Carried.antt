@@ -2,7 +2,7 @@
 -- come first, so what the channels up to it took is what rising order has first. Assumes nothing.
 use mathlib.Core.Path.{_≡_, refl, sym, ap, _∙_}
 use mathlib.Core.Bool.{Bool, true, false, not, cond}
-use mathlib.Core.List.{List, [], _∷_, _++_, nil≢cons}
+use mathlib.Core.List.{List, [], _∷_, _++_}
 use mathlib.Core.Option.{Option, none, some}
 use Prim.Native.Nat.{ℕ, zero, suc, _<_, _≤_}
 use native.Mathlib.Omega.{arith}
@@ -11,7 +11,7 @@ use lib.IntN.{ℤ}
 use lib.Ieee.{Float, le}
 use native.Mathlib.Nat.{le-of-eq}
 use lib.Ieee.Positive.{positive, le-trans-positive, cross→le}
-use lib.ListN.{length, getD}
+use lib.ListN.{length}
 use Rattle.models.specs.declared.aot.GroupBy.{GroupBy}
 use Rattle.models.specs.Lists.{Each, keep, member}
 use Rattle.models.specs.Line.{Line, ofGroup, joins, rising}
@@ -40,7 +40,7 @@ keep-all : {A : Type 0} (f : A → Bool) (l : List A) → Each (λ (x : A). f x 
 keep-all f [] h = refl
 keep-all f (x ∷ l) h = rw (h .0, keep-all f l (h .1))
 
-replaced-is : (kind : GroupBy) (g : ℤ) (e : Option Float) (t : List Line) → replaced kind g e t ≡ lastOf e (keep (ofGroup kind g) t)
+pub replaced-is : (kind : GroupBy) (g : ℤ) (e : Option Float) (t : List Line) → replaced kind g e t ≡ lastOf e (keep (ofGroup kind g) t)
 unfolding replaced
 replaced-is kind g e [] = refl
 replaced-is kind g e (x ∷ t) = elim (outcome (ofGroup kind g x)) [
@@ -155,14 +155,6 @@ module _ (kind : GroupBy) (g : ℤ) where
   entry-beyond [] c e h = refl
   entry-beyond (t ∷ ts) zero e h = absurd (let z : ⊥ = omega arith in z)
   entry-beyond (t ∷ ts) (suc c) e h = entry-beyond ts c (replaced kind g e t) (omega arith)
-
-  -- a channel with keys of the group has the last one's
-  pub entry-own : (ts : List (List Line)) (c : ℕ) (e : Option Float) (x : Line) (l : List Line) → keep (ofGroup kind g) (getD ts c []) ≡ x ∷ l
-      → entryFrom kind g e ts c ≡ lastOf none (x ∷ l)
-  unfolding entryFrom
-  entry-own [] c e x l h = absurd (nil≢cons h)
-  entry-own (t ∷ ts) zero e x l h = replaced-is kind g e t ∙ ap (lastOf e) h
-  entry-own (t ∷ ts) (suc c) e x l h = entry-own ts c (replaced kind g e t) x l h
 
 -- the keys of the group g up to channel c, in order
 abbrev pub heard : GroupBy → List Line → ℕ → ℤ → List Line

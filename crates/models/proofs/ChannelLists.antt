@@ -4,7 +4,6 @@ use mathlib.Core.Path.{_≡_, refl, sym, ap, _∙_}
 use mathlib.Core.Bool.{Bool, true, false}
 use mathlib.Core.List.{List, [], _∷_, _++_, append-nil, append-assoc}
 use mathlib.Core.Option.{some, none}
-use mathlib.Core.Logic.{_⊎_, inl, inr}
 use Prim.Native.Nat.{ℕ, zero, suc, min, _+_, _-_, _*_, _/_, _%_, _^_, _<_, _≤_}
 use native.Mathlib.Numerals.{add-one}
 use native.Mathlib.Nat.{div-div-eq-div-mul, div-one, mul-suc, add-comm, lt-of-lt-of-le, pow-le-pow-right, pow-suc}
@@ -111,15 +110,6 @@ verdict before (c ∷ cs) =
           wrong = rw (← (append-assoc before (c ∷ []) (o .good))) (o .wrong);
         })
 
--- Refused exactly by the first offence, listed exactly without one.
-pub refused-offence : (cs : List ℕ) (n : ℕ) → listRule cs ≡ refused n → Offence [] cs n
-unfolding listRule
-refused-offence cs n e = go (verdict [] cs)
-  where
-    go : Verdict [] cs → Offence [] cs n
-    go (listed f) = let g = fine-listed [] cs f in absurd (let z : _≡_ {A = ℕ} 0 1 = cc in omega arith)
-    go (offended m o) = let g = offence-refused [] cs m o in let same : m ≡ n = cc in rw (← same) o
-
 pub listed-channels : (cs l : List ℕ) → listRule cs ≡ value l → (l ≡ cs) × Channels [] cs
 unfolding listRule
 listed-channels cs l e = go (verdict [] cs)
@@ -127,14 +117,6 @@ listed-channels cs l e = go (verdict [] cs)
     go : Verdict [] cs → (l ≡ cs) × Channels [] cs
     go (listed f) = let g = fine-listed [] cs f in (cc, f)
     go (offended m o) = let g = offence-refused [] cs m o in absurd (let z : _≡_ {A = ℕ} 0 1 = cc in omega arith)
-
--- A refusal's number is 6 or 7.
-pub refused-numbers : (cs : List ℕ) (n : ℕ) → listRule cs ≡ refused n → (n ≡ 6) ⊎ (n ≡ 7)
-refused-numbers cs n e = go (refused-offence cs n e .wrong)
-  where
-    go : {before : List ℕ} {c m : ℕ} → Offends before c m → (m ≡ 6) ⊎ (m ≡ 7)
-    go (over h) = inl refl
-    go (twice h e) = inr refl
 
 -- ---- so a listed list is short: sixteen different numbers below 16
 
@@ -149,13 +131,6 @@ channels-low before (c ∷ cs) f (suc i) h = channels-low (before ++ (c ∷ []))
 
 pub channels-few : (cs : List ℕ) → Channels [] cs → length cs ≤ 16
 channels-few cs f = pigeonhole 16 cs (channels-fresh [] cs f) (channels-low [] cs f)
-
--- A listed list is the one that was given: at most sixteen entries, none of them twice, each below 16.
-pub listed-well : (cs l : List ℕ) → listRule cs ≡ value l
-    → (l ≡ cs) × (length l ≤ 16) × Fresh [] l × ((i : ℕ) → i < length l → getD l i 0 < 16)
-listed-well cs l e =
-    let given = listed-channels cs l e in
-    rw (given .0) (refl, channels-few cs (given .1), channels-fresh [] cs (given .1), channels-low [] cs (given .1))
 
 -- ---- the loop over the entries: before entry i the rule of all is that of those from i on
 

@@ -3,7 +3,6 @@ pub mod Arrays
 pub mod Pigeonhole
 pub mod ChannelLists
 pub mod Values
-pub mod StepBounds
 pub mod Queues
 pub mod HeldKeys
 pub mod Pools
@@ -14,15 +13,7 @@ pub mod Blocks
 pub mod Allocations
 pub mod FreshBlocks
 pub mod SettingsCells
-pub mod Times
-pub mod PoolSettings
-pub mod PoolInvariant
-pub mod PoolAnswers
-pub mod PoolStop
-pub mod PoolRefusals
 pub mod PoolPresses
-pub mod PoolPitches
-pub mod PoolExamples
 pub mod ListLaws
 pub mod Joins
 pub mod Unique
@@ -44,8 +35,4 @@ pub mod Pass
 pub mod Held
 pub mod NextEntry
 pub mod Planned
-pub mod PlanRefusals
 pub mod PlanEntries
-pub mod PlannedKeys
-pub mod PlannedPitches
-pub mod PlanExamples

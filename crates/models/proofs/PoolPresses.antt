@@ -1,13 +1,11 @@
--- What an accepted press or a repitch answers: its detuning can be measured, since its note is a note and its pitch a pitch, and a press's channel is
--- one of the model's. Assumes nothing.
+-- What an accepted press or a repitch answers: its detuning can be measured, since its note is a note and its pitch a pitch. Assumes nothing.
 use mathlib.Core.Path.{_≡_, refl, sym, ap, subst, _∙_}
 use mathlib.Core.Bool.{Bool, true, not}
-use mathlib.Core.Option.{Option, some, none}
 use mathlib.Core.List.{List}
-use Prim.Native.Nat.{ℕ, _<_}
+use mathlib.Core.Option.{Option, some, none}
+use Prim.Native.Nat.{ℕ}
 use native.Mathlib.Omega.{arith}
 use lib.Dec.{T}
-use lib.ListN.{length}
 use lib.IntN.{ℤ}
 use lib.Ieee.{Float}
 use lib.Ieee.Positive.{positive}
@@ -20,11 +18,6 @@ use Rattle.arithmetic.proofs.Nearest.{nearest-is-note}
 use Rattle.models.specs.Lists.{first}
 use Rattle.models.specs.Pool.{State, Place, Press, accepted, pool, found, roomFor, pressedOn, pressed, unlessHeld, registerRule, tuning, repitchRule, isHeld}
 use Rattle.models.specs.Block.{stateOf, registerNoteRule}
-use Rattle.models.specs.Recital.{Call}
-use Rattle.models.specs.declared.jit.PoolGroupBy.{PoolGroupBy}
-use Rattle.models.specs.declared.jit.PoolingMode.{PoolingMode}
-use Rattle.models.proofs.PoolInvariant.{model}
-use Rattle.models.proofs.PoolAnswers.{accepted-channel}
 use Rattle.models.proofs.Pools.{value-by}
 use Rattle.models.proofs.Blocks.{found-note}
 
@@ -72,26 +65,6 @@ register-again s key hz {c} {st} {z} {d} {t} e =
     let noted : isNote z ≡ true = rw (with-these .0) (nearest-is-note hz (subst T (sym (tested .0)) tt)) in
     rw (noted, new .0) (ap (λ (n : ℤ). value (pressed s key n d)) (with-these .0) ∙ ap (λ (x : Float). value (pressed s key note x)) (with-these .1) ∙ ap value same)
 
--- a key that is not held is not found
-not-held : (o : Option Place) → not (isHeld o) ≡ true → o ≡ none
-unfolding isHeld
-not-held (some p) e = let z : _≡_ {A = ℕ} 0 1 = cc in absurd (omega arith)
-not-held none e = refl
-
-pub press-channel :
-    (channels : List ℕ) (group : PoolGroupBy) (mode : PoolingMode) (calls : List Call) (key : ℕ) (hz : Float)
-    {c : ℕ} {st : Option ℤ} {z : ℤ} {d : Float} {u : State} → registerRule (model channels group mode calls) key hz ≡ value (accepted c st z d, u)
-    → c < length (model channels group mode calls .channels)
-unfolding registerRule unlessHeld
-press-channel channels group mode calls key hz {c} {st} {z} {d} {u} e =
-    let s = model channels group mode calls in
-    let note = nearestNote hz in
-    let v = detuningOf hz note in
-    let r : Press × State = (accepted c st z d, u) in
-    let tested = value-by 1 r (isPitch hz) (unlessHeld s key note v) (sym e) in
-    let new = value-by 11 r (not (isHeld (found s key))) (value (pressed s key note v)) (tested .1) in
-    accepted-channel channels group mode calls key hz (tested .0) (not-held (found s key) (new .0)) c st z d u e
-
 pub repitch-measurable :
     (l : List ℕ) (key : ℕ) (hz : Float) {p : Place} {d : Float} → repitchRule (stateOf l) key hz ≡ value (some (p, d)) → positive d ≡ true
 unfolding repitchRule tuning
@@ -105,10 +78,3 @@ repitch-measurable l key hz {p} {d} e = go (found (stateOf l) key) refl (tested 
         let same : _≡_ {A = Place × Float} (p, d) (q, detuningOf hz (q .note)) = cc in
         rw (ap (λ (x : Place × Float). x .1) same) (measurable hz (q .note) (tested .0) (found-note l key q f))
     go none f h = let z : _≡_ {A = ℕ} 0 1 = cc in absurd (omega arith)
-
--- an unknown key answers nothing
-pub repitch-unknown : (s : State) (key : ℕ) (hz : Float) {r : Option (Place × Float)} → found s key ≡ none → repitchRule s key hz ≡ value r → r ≡ none
-unfolding repitchRule tuning
-repitch-unknown s key hz {r} e h =
-    let f : value r ≡ value (tuning hz none) = value-by 1 r (isPitch hz) (value (tuning hz (found s key))) (sym h) .1 ∙ ap (λ (o : Option Place). value (tuning hz o)) e in
-    cc

@@ -14,7 +14,7 @@ use Rattle.models.specs.Lists.{first}
 use Rattle.models.specs.Pool.{Pool, State, Held, poolOf, emptyPool, pool, withPool, freed, freedIn, forgotten, withKey, behind, released, oldest, room, madeRoom, roomFor, roomBy, accepted, rejected, taken, pressed}
 use Rattle.models.specs.declared.jit.PoolingMode.{PoolingMode}
 use Rattle.models.specs.declared.jit.PoolingMode.the-variants.{Block, Stop, Ignore}
-use Rattle.models.proofs.ListLaws.{T→true}
+use Rattle.models.proofs.ListLaws.{T→true, first-rest, first-none}
 use Rattle.models.proofs.Pools.{oldest-is, made-none, pressed-free, pressed-none, released-found}
 
 -- ---- a press, by whether a channel is free
@@ -22,16 +22,6 @@ use Rattle.models.proofs.Pools.{oldest-is, made-none, pressed-free, pre
 pub pressed-front : (s : State) (key : ℕ) (note : ℤ) (d : Float) (c : ℕ) → first (pool s note .free) ≡ some c → pressed s key note d ≡ (accepted c none note d, taken s key note c)
 unfolding roomFor roomBy
 pressed-front s key note d c e = pressed-free s key note d (room s none) (rw e) c e
-
-first-none : (l : List ℕ) → first l ≡ none → l ≡ []
-unfolding first
-first-none [] e = refl
-first-none (x ∷ l) e = absurd (let z : _≡_ {A = ℕ} 0 1 = cc in omega arith)
-
-first-rest : (l : List ℕ) (x : ℕ) → first l ≡ some x → l ≡ x ∷ drop 1 l
-unfolding first
-first-rest [] x e = absurd (let z : _≡_ {A = ℕ} 0 1 = cc in omega arith)
-first-rest (y ∷ l) x e = let same : y ≡ x = cc in ap (λ (n : ℕ). n ∷ l) same
 
 -- a pool whose longest-held key gives its channel up has that one free
 freed-front : (p : Pool) (key channel : ℕ) → first (p .free) ≡ none → first (p .order) ≡ some key → first (freedIn p key channel .free) ≡ some channel

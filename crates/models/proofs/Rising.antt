@@ -1,7 +1,6 @@
 -- `rising` has the list's lines, in the order of their detunings. Assumes nothing.
 use mathlib.Core.Path.{_≡_, refl, sym, ap, _∙_, subst}
-use mathlib.Core.Bool.{Bool, false, _&&_, cond}
-use lib.Ieee.Fits.{and-l, and-r}
+use mathlib.Core.Bool.{Bool, false, cond}
 use mathlib.Core.List.{List, [], _∷_, _++_}
 use Prim.Native.Nat.{ℕ, suc}
 use lib.Dec.{T, eqb, eqb→eq, eqb-refl}
@@ -74,7 +73,7 @@ UpTo-trans {x} {y} {z} h k = record {
   ordered = le-trans-positive (x .detuning) (y .detuning) (z .detuning) (h .first) (h .second) (k .second) (h .ordered) (k .ordered);
 }
 
-abbrev Positive : Line → Type 0
+abbrev pub Positive : Line → Type 0
 Positive l = T (positive (l .detuning))
 
 insert-sorted : (x : Line) (l : List Line) → Positive x → Each Positive l → Sorted l → Sorted (insert x l)
@@ -165,36 +164,6 @@ pub rising-of-sorted : (l : List Line) → Sorted l → rising l ≡ l
 unfolding rising
 rising-of-sorted [] s = refl
 rising-of-sorted (x ∷ l) s = rw (rising-of-sorted l (s .1)) (insert-first x l (s .0))
-
--- ---- equal detunings stay in list order
-
--- x and z have one detuning
-abbrev Level : Line → Line → Bool
-Level z x = le (z .detuning) (x .detuning) && le (x .detuning) (z .detuning)
-
-level-upTo : (z x y : Line) → Positive z → Positive x → Positive y → T (Level z x) → T (Level z y) → UpTo x y
-level-upTo z x y p q r h k = record {
-  first = q;
-  second = r;
-  ordered = le-trans-positive (x .detuning) (z .detuning) (y .detuning) q p r (and-r (le (z .detuning) (x .detuning)) (le (x .detuning) (z .detuning)) h) (and-l (le (z .detuning) (y .detuning)) (le (y .detuning) (z .detuning)) k);
-}
-
-level-after : (z x : Line) (l : List Line) → Positive z → Positive x → T (Level z x) → Each Positive l → Each (UpTo x) (keep (Level z) l)
-level-after z x [] p q h r = tt
-level-after z x (y ∷ l) p q h r = elim (outcome (Level z y)) [
-  | passed e ↦ rw e (level-upTo z x y p q (r .0) h (true→T e), level-after z x l p q h (r .1))
-  | failed e ↦ rw e (level-after z x l p q h (r .1))
-]
-
-level-sorted : (z : Line) (l : List Line) → Positive z → Each Positive l → Sorted (keep (Level z) l)
-level-sorted z [] p h = tt
-level-sorted z (x ∷ l) p h = elim (outcome (Level z x)) [
-  | passed e ↦ rw e (level-after z x l p (h .0) (true→T e) (h .1), level-sorted z l p (h .1))
-  | failed e ↦ rw e (level-sorted z l p (h .1))
-]
-
-pub rising-stable : (z : Line) (l : List Line) → Positive z → Each Positive l → keep (Level z) (rising l) ≡ keep (Level z) l
-rising-stable z l p h = rising-keep (Level z) l h ∙ rising-of-sorted (keep (Level z) l) (level-sorted z l p h)
 
 -- ---- the order built from the front: a new last line goes before the first whose detuning is above its own
 

@@ -1,6 +1,5 @@
 -- Values in which a detuning is sent: what is clamped lies in its range, and what the code computes on the way fits its type. Assumes nothing.
 use mathlib.Core.Path.{_≡_, refl, sym, subst}
-use mathlib.Core.Logic.{_↔_}
 use mathlib.Core.Bool.{Bool, true, false, cond, _&&_, true≢false}
 use Prim.Native.Nat.{ℕ, suc, _+_, _*_, _^_, _≤_, _<_}
 use native.Mathlib.Omega.{arith}
@@ -12,13 +11,12 @@ use lib.Ieee.Bits.{is-true}
 use lib.Ieee.Positive.{positive}
 use mir.Syntax.{w64}
 use mir.Val.{SFits}
-use borrow.Author.Tests.{le-ltb, ltb-false}
-use Rattle.arithmetic.specs.Outcome.{Outcome, value, refused, refuse_unless_then_}
+use borrow.Author.Tests.{ltb-false}
+use Rattle.arithmetic.specs.Outcome.{value, refused, refuse_unless_then_}
 use Rattle.arithmetic.specs.Refusal.{notMeasurable}
 use Rattle.arithmetic.specs.Division.{quotient}
 use Rattle.arithmetic.specs.Measure.{measure, measureRule}
 use Rattle.arithmetic.proofs.Integers.{plus, less, add-parts, mul-parts, fits-by, small-by, between-parts}
-use Rattle.arithmetic.proofs.Outcomes.{refuses-once}
 use Rattle.arithmetic.proofs.Quotients.{quot-fits}
 use Rattle.arithmetic.proofs.Range.{measure-range}
 use Rattle.models.specs.declared.steps.TuningKind.{TuningKind}
@@ -81,17 +79,6 @@ clamp-parts a b z = go (clamp (negsuc b) (pos a) z) (clamped (negsuc b) (pos a) 
     go y low = (omega arith, omega arith)
     go y high = (omega arith, omega arith)
     go y (kept e f) = (not-above a z f, not-below b z e)
-
--- what lies between the ends is kept
-pub clamp-kept : (a b : ℕ) (z : ℤ) → plus z ≤ a → less z ≤ suc b → clamp (negsuc b) (pos a) z ≡ z
-unfolding clamp
-clamp-kept a b (pos n) h k = rw (le-ltb a n h)
-clamp-kept a b (negsuc n) h k = rw (le-ltb b n (omega arith))
-
-pub clamp-kept-whole : (a : ℕ) (z : ℤ) → plus z ≤ a → less z ≤ 0 → pos (natAbs (clamp (pos 0) (pos a) z)) ≡ z
-unfolding clamp
-clamp-kept-whole a (pos n) h k = rw (le-ltb n 0 (omega arith), le-ltb a n h)
-clamp-kept-whole a (negsuc n) h k = absurd (let f : ⊥ = omega arith in f)
 
 pub clamp-between : (a b : ℕ) (z : ℤ) → (leZ (negsuc b) (clamp (negsuc b) (pos a) z) && leZ (clamp (negsuc b) (pos a) z) (pos a)) ≡ true
 clamp-between a b z =
@@ -186,9 +173,3 @@ value-in-steps kind v {t} e = go (positive v) e
     go : (b : Bool) → (refuse notMeasurable unless b then value (sentAs kind v)) ≡ value t → InSteps t
     go true h = let same : sentAs kind v ≡ t = cc in subst InSteps same (sent-in-steps kind v)
     go false h = absurd (let z : _≡_ {A = ℕ} 0 1 = cc in let f : ⊥ = omega arith in f)
-
--- ---- demand 1: refusal 2, exactly where a detuning is not positive and finite
-
-pub tuning-refuses : (kind : TuningKind) (v : Float) (n : ℕ) → (tuningRule kind v ≡ refused n) ↔ ((positive v ≡ false) × (n ≡ notMeasurable))
-unfolding tuningRule
-tuning-refuses kind v n = refuses-once notMeasurable n (positive v) (sentAs kind v)

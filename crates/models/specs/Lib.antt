@@ -10,8 +10,6 @@ pub mod Pool
 pub mod Block
 pub mod JitModel
 pub mod PoolInternal
-pub mod Change
-pub mod Recital
 pub mod Line
 pub mod Walk
 pub mod Placing

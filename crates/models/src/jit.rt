@@ -85,15 +85,6 @@ pub struct Deregistered {
     pub model: JitTuningModel,
 }
 
-// What a press or a release does to a model. It is small where the model is large, and any model may be changed by it.
-pub enum Change {
-    // A press of the key for a note.
-    Press { key: u8, note: i32 },
-    // A release of the key.
-    Release { key: u8 },
-    Nothing,
-}
-
 impl JitTuningModel {
     // A model in which no key is found, with the channels listed. Refuses 6 or 7 as the channel list does; the model has no channels then.
     pub fn open(channels: &[u8], group_by: PoolGroupBy, pooling_mode: PoolingMode) -> Opened

@@ -8,8 +8,8 @@ use lib.Dec.{ltb}
 use lib.ListN.{length}
 use borrow.Author.Tests.{lt-ltb, ltb-true}
 use Rattle.models.specs.Outcome.{Outcome, value, refused}
-use Rattle.senders.specs.Lent.{Effect, sent}
-use Rattle.senders.specs.Message.{Message, noteOff, noteOn, keyPressure, control, program, channelPressure, bend, Valid, AllValid, isBend}
+use Rattle.senders.specs.Lent.{sent}
+use Rattle.senders.specs.Message.{Message, noteOff, noteOn, keyPressure, control, program, channelPressure, bend, Valid, isBend}
 use Rattle.senders.specs.Midi.{bytes, bytesOf, meant, checked, messageRule}
 use Rattle.senders.specs.declared.midi.ChannelMessageType.{ChannelMessageType}
 use Rattle.senders.specs.declared.midi.ChannelMessageType.the-variants.{NoteOff, NoteOn, PolyphonicKeyPressure, ControlChange, ProgramChange, ChannelPressure, PitchBendChange}
@@ -94,11 +94,6 @@ valid-channel ch (PitchBendChange b) h = h .0
 pub message-accepted : (ch : ℕ) (m : ChannelMessageType) → Valid (meant ch m) → messageRule ch m ≡ sent (bytes (meant ch m))
 message-accepted ch m h = rw (lt-ltb ch 16 (valid-channel ch m h)) (valid-checked ch m (sent (bytes (meant ch m))) h)
 
-pub accepted-valid : (ch : ℕ) (m : ChannelMessageType) {f : Effect ℕ (Unit {0})} → messageRule ch m ≡ value f → Valid (meant ch m)
-accepted-valid ch m e =
-    let p = test-held 6 (ltb ch 16) (checked m (sent (bytes (meant ch m)))) e in
-    checked-valid m (sent (bytes (meant ch m))) (p .1) ch (ltb-true ch 16 (p .0))
-
 -- ---- lengths and bytes
 
 -- every message is a record of three bytes
@@ -119,7 +114,3 @@ pub bytes-append : (ms ns : List Message) → bytesOf (ms ++ ns) ≡ bytesOf ms 
 bytes-append [] ns = refl
 bytes-append (m ∷ ms) ns =
     ap (λ (l : List ℕ). bytes m ++ l) (bytes-append ms ns) ∙ sym (append-assoc (bytes m) (bytesOf ms) (bytesOf ns))
-
-pub valid-append : (ms ns : List Message) → AllValid ms → AllValid ns → AllValid (ms ++ ns)
-valid-append [] ns v w = w
-valid-append (m ∷ ms) ns v w = (v .0, valid-append ms ns (v .1) w)

@@ -29,12 +29,10 @@ use Rattle.models.proofs.Demand3.{demand-3}
 use Rattle.models.proofs.ListLaws.{T→true}
 use Rattle.models.proofs.PlanEntries.{planned-positive}
 use Rattle.senders.specs.Midi.{bytesOf}
-use Rattle.senders.specs.Lent.{Effect, fitted, told, Steps, Put}
-use Rattle.senders.specs.Passage.{settled}
+use Rattle.senders.specs.Lent.{Effect, fitted, told, Steps, Put, settled}
 use Rattle.senders.specs.Aot.{Tuner, tuner, withPlan, Planned, tunes, cannot, planMessages, planEffect, SomeFits, Smallest, Measurable, Ready, placed}
 use Rattle.senders.specs.declared.aot.AotTuner.{AotTuner}
-use Rattle.senders.proofs.Lent.{ends-sent}
-use Rattle.senders.proofs.Passages.{handed-back}
+use Rattle.senders.proofs.Lent.{ends-sent, handed-back}
 
 -- where a key is, in the words of a pool
 pub key-found : (r : AccessKeyResult) {o : Option (ℕ × ℤ)} → accessAnswer r ≡ o → place r ≡ placed o

@@ -70,3 +70,8 @@ Answers rule old result new = Steps (λ u. u) rule tt old result tt new
 pub record Put (at : ℕ) (bs : List ℕ) (next : ℕ) (old new : List ℕ) : Type 0 where
   pub next-is : next ≡ at + length bs
   pub new-is : new ≡ take at old ++ bs ++ drop (at + length bs) old
+
+-- what a call goes on to: a refusal leaves what was
+abbrev pub settled : {R S : Type 0} → S → Outcome (Effect R S) → S
+settled s (value e) = e .next
+settled s (refused n) = s

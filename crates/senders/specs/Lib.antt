@@ -6,11 +6,4 @@ pub mod Mts
 pub mod Tuner
 pub mod Aot
 pub mod Jit
-pub mod Passage
-pub mod Retuning
 pub mod Answers
-pub mod Entries
-pub mod Reader
-pub mod Padding
-pub mod Receiver
-pub mod Meant

@@ -3,4 +3,4 @@ pub mod aot;
 pub mod jit;
 pub mod midi;
 pub mod mts;
-mod tuner;
+pub mod tuner;

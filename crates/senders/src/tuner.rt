@@ -40,7 +40,7 @@ use models::steps::tuning_of;
 const HIGHEST_NOTE_NUMBER: i32 = 127;
 
 // The three messages of a note.
-pub(crate) enum NoteMessage {
+pub enum NoteMessage {
     Off,
     On,
     Pressure,

@@ -1,0 +1,2 @@
+-- The values in which a detuning is sent.
+pub mod Bounds
