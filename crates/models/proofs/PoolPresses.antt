@@ -16,7 +16,7 @@ use Rattle.arithmetic.specs.Nearest.{nearestNote}
 use Rattle.arithmetic.proofs.Bounds.{detuning-positive}
 use Rattle.arithmetic.proofs.Nearest.{nearest-is-note}
 use Rattle.models.specs.Lists.{first}
-use Rattle.models.specs.Pool.{State, Place, Press, accepted, pool, found, roomFor, pressedOn, pressed, unlessHeld, registerRule, tuning, repitchRule, isHeld}
+use Rattle.models.specs.Pool.{State, Place, Press, accepted, rejected, pool, found, roomFor, pressedOn, pressed, unlessHeld, registerRule, tuning, repitchRule, isHeld}
 use Rattle.models.specs.Block.{stateOf, registerNoteRule}
 use Rattle.models.proofs.Pools.{value-by}
 use Rattle.models.proofs.Blocks.{found-note}
@@ -64,6 +64,24 @@ register-again s key hz {c} {st} {z} {d} {t} e =
     let with-these = made-with s key note v (ap (λ x. x .0) same) in
     let noted : isNote z ≡ true = rw (with-these .0) (nearest-is-note hz (subst T (sym (tested .0)) tt)) in
     rw (noted, new .0) (ap (λ (n : ℤ). value (pressed s key n d)) (with-these .0) ∙ ap (λ (x : Float). value (pressed s key note x)) (with-these .1) ∙ ap value same)
+
+-- a rejected press leaves the state
+pub rejected-stays : (s : State) (key : ℕ) (hz : Float) {t : State} → registerRule s key hz ≡ value (rejected, t) → s ≡ t
+unfolding registerRule unlessHeld pressed pressedOn
+rejected-stays s key hz {t} e = go (first (pool (roomFor s note .state) note .free)) same
+  where
+    note : ℤ
+    note = nearestNote hz
+
+    tested : (isPitch hz ≡ true) × (value (rejected, t) ≡ unlessHeld s key note (detuningOf hz note))
+    tested = value-by 1 (rejected, t) (isPitch hz) (unlessHeld s key note (detuningOf hz note)) (sym e)
+
+    same : pressed s key note (detuningOf hz note) ≡ (rejected, t)
+    same = let f = value-by 11 (rejected, t) (not (isHeld (found s key))) (value (pressed s key note (detuningOf hz note))) (tested .1) .1 in cc
+
+    go : (x : Option ℕ) → pressedOn x (roomFor s note) s key note (detuningOf hz note) ≡ (rejected, t) → s ≡ t
+    go (some x) f = let g = ap (λ (r : Press × State). r .0) f in let z : _≡_ {A = ℕ} 0 1 = cc in absurd (omega arith)
+    go none f = ap (λ (r : Press × State). r .1) f
 
 pub repitch-measurable :
     (l : List ℕ) (key : ℕ) (hz : Float) {p : Place} {d : Float} → repitchRule (stateOf l) key hz ≡ value (some (p, d)) → positive d ≡ true

@@ -135,7 +135,7 @@ pub fn next_key(cells: &[u16; CELLS], from: usize) -> NextKey
 }
 
 // Every found key is released, by rising key.
-pub fn stop(cells: &mut [u16; CELLS])
+pub fn deregister_all(cells: &mut [u16; CELLS])
     ensures { λ r. ⌜ (stateOf (now (cells .exit)) ≡ stopped (stateOf (now (cells .entry)))) × (kindAt (now (cells .exit)) ≡ kindAt (now (cells .entry))) ⌝ }
 {
     release_all(cells);

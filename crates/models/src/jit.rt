@@ -8,12 +8,12 @@ ghost use Rattle.models.specs.Pool.{found, released, heldKeys, stopped, 
 ghost use Rattle.models.specs.JitModel.{place, nextHeld, view, told, repitched, opened};
 use crate::block::access_key;
 use crate::block::channel_list;
+use crate::block::deregister_all;
 use crate::block::deregister_key;
 use crate::block::next_key;
 use crate::block::open;
 use crate::block::register_key;
 use crate::block::repitch_key;
-use crate::block::stop;
 use crate::cells::CELLS;
 use crate::channels::ChannelList;
 use crate::channels::ChannelsAnswer;
@@ -151,7 +151,7 @@ impl JitTuningModel {
         ensures { λ r. ⌜ view r ≡ stopped (view self) ⌝ }
     {
         let mut model = self;
-        stop(&mut model.cells);
+        deregister_all(&mut model.cells);
         model
     }
 

@@ -4,12 +4,12 @@ use borrow.Author.Needs.{needs}
 use Rattle.models.proofs.jit.JitTuningModel.stop.Statement.{statement}
 use Rattle.models.proofs.jit.JitTuningModel.stop.Tie as tie
 
-stop-requires : tie.Need-stop-requires
-stop-requires c κs = search needs
+deregister-all-requires : tie.Need-deregister-all-requires
+deregister-all-requires c κs = search needs
 
 returns : tie.Need-returns
 unfolding view
-returns c = c .stop .ensures .0
+returns c = c .deregister-all .ensures .0
 
 pub stop-spec : {M : Type 1} → statement M
-stop-spec = tie.close (tie.spec stop-requires returns)
+stop-spec = tie.close (tie.spec deregister-all-requires returns)
