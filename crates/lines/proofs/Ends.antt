@@ -11,8 +11,7 @@ use Rattle.models.specs.Outcome.{value, refused}
 use Rattle.models.specs.Refusal.{bufferTooShort}
 use Rattle.senders.specs.Lent.{Steps, Answers, sent, written}
 use Rattle.senders.specs.Answers.{sentAnswer}
-use Rattle.senders.specs.Jit.{tuner, after}
-use Rattle.models.specs.Change.{noChange}
+use Rattle.senders.specs.Jit.{view}
 use Rattle.senders.specs.declared.midi.Sent.{Sent}
 use Rattle.lines.specs.Console.{answer, next, answers, nonempty, lineRule}
 use Rattle.lines.specs.Session.{Session, session, clip, Taken, nothing, stepRule, Stepped, finish, finishRule}
@@ -20,25 +19,23 @@ use Rattle.lines.specs.Split.{feed}
 use Rattle.lines.specs.Inner.{EndedBy}
 use Rattle.lines.specs.declared.step.Console.{Console}
 use Rattle.lines.specs.declared.step.Step.{Step}
-use Rattle.lines.specs.declared.answer.Reply.{Reply}
 use Rattle.lines.proofs.Clips.{answer-clip, next-clip}
 use Rattle.lines.proofs.Hears.{as-text, as-next}
 use Rattle.lines.proofs.Stepping.{feed-byte, no-room-byte}
 
 -- as many bytes of the line were given as decide what it means
-pub ended-by : (con : Console) (line more : List ℕ) (r : Reply) {out new : List ℕ}
+pub ended-by : (con : Console) (line more : List ℕ) (r : Sent) (cells : List ℕ) {out new : List ℕ}
     → clip line ≡ clip (take (con .len) (con .held) ++ more)
-    → Steps (after (tuner (con .tuner))) (lineRule (tuner (con .tuner)) line) noChange out (sentAnswer (r .answer)) (r .change) new
-    → EndedBy (session con) more out new r
-ended-by con line more r {out = out} {new = new} e s =
-    let t = tuner (con .tuner) in
+    → Steps view (lineRule (view (con .cells)) line) (con .cells) out (sentAnswer r) cells new → EndedBy (session con) more out new r (view cells)
+ended-by con line more r cells {out = out} {new = new} e s =
+    let t = view (con .cells) in
     let whole = take (con .len) (con .held) ++ more in
     let same : answer t line ≡ answer t whole = sym (answer-clip t line) ∙ ap (answer t) e ∙ answer-clip t whole in
     let then : next t line ≡ next t whole = sym (next-clip t line) ∙ ap (next t) e ∙ next-clip t whole in
     record {
-      text = subst (λ (x : List ℕ). Answers (sent x) out (sentAnswer (r .answer)) new) same (as-text {view = after t} (answer t line) (next t line) s);
+      text = subst (λ (x : List ℕ). Answers (sent x) out (sentAnswer r) new) same (as-text {view = view} (answer t line) (next t line) s);
       session-is = λ w.
-          as-next {view = after t} (answer t line) (subst (λ (x : Sent). Steps (after t) (lineRule t line) noChange out (sentAnswer x) (r .change) new) w s) ∙ then;
+          as-next {view = view} (answer t line) (subst (λ (x : Sent). Steps view (lineRule t line) (con .cells) out (sentAnswer x) cells new) w s) ∙ then;
     }
 
 -- ---- the end of the input

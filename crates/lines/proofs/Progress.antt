@@ -3,7 +3,6 @@ use Prim.Native.Nat.{ℕ, _+_, _-_, _≤_, _<_}
 use native.Mathlib.Nat.{zero-add, add-zero, sub-zero}
 use native.Mathlib.Omega.{arith}
 use mathlib.Core.Path.{_≡_, refl, sym, _∙_, ap, subst}
-use mathlib.Core.Bool.{true}
 use mathlib.Core.List.{List, [], _++_, append-nil}
 use lib.ListN.{length, take, drop, length-drop, drop-of-length-le, take-append-drop}
 use lib.Seq.{drop-drop, length-take-le, take-length}
@@ -11,10 +10,7 @@ use borrow.Rule.Slice.PartMut.{putMid}
 use Rattle.models.specs.Outcome.{value}
 use Rattle.senders.specs.Lent.{Answers, sent, written}
 use Rattle.senders.specs.Answers.{sentAnswer}
-use Rattle.models.specs.Change.{changed, isNone}
-use Rattle.models.specs.declared.jit.Change as C
-use Rattle.models.specs.declared.jit.Change.{Change}
-use Rattle.senders.specs.Jit.{Tuner, after}
+use Rattle.senders.specs.Jit.{Tuner}
 use Rattle.senders.proofs.Lent.{tail-part, tail-back}
 use Rattle.senders.specs.declared.midi.Sent.{Sent}
 use Rattle.senders.specs.declared.midi.Sent.the-variants.{Written, Refused}
@@ -23,16 +19,8 @@ use Rattle.lines.specs.Console.{answer}
 use Rattle.lines.specs.Session.{Session, session, Taken, nothing, stepRule, Stepped}
 use Rattle.lines.specs.Inner.{endedBy, longerBy, EndedBy}
 use Rattle.lines.specs.declared.step.Console.{Console}
-use Rattle.lines.specs.declared.answer.Reply.{Reply}
 use Rattle.lines.proofs.Fills.{Filled, unfilled, filled-is, put-length, put-refused, fill, fill-text}
 use Rattle.lines.proofs.Stepping.{behind, behind-behind, Small, no-feed, no-room, line-ends}
-
--- a change that is none leaves the tuner
-pub none-after : (t : Tuner) (c : Change) → isNone c ≡ true → t ≡ after t c
-unfolding changed isNone
-none-after t C.the-variants.Nothing e = refl
-none-after t (C.the-variants.Press key note) e = let z : _≡_ {A = ℕ} 0 1 = cc in absurd (omega arith)
-none-after t (C.the-variants.Release key) e = let z : _≡_ {A = ℕ} 0 1 = cc in absurd (omega arith)
 
 -- `at` bytes of the piece are taken and w bytes written: what a call does is that, and then what it does with the rest
 pub record Progress (s₀ : Session) (piece old : List ℕ) (s : Session) (at w : ℕ) (out : List ℕ) : Type 0 where
@@ -91,8 +79,8 @@ module _ {s₀ : Session} {piece old out : List ℕ} (con : Console) {at w n : �
       closing n back p (no-feed (length old - w) (session con) (drop at piece) (p .small) place i)
       (h ∙ ap (longerBy (session con)) (rest-is ∙ sym all))
 
-  module _ {ys : List ℕ} {r : Reply} (h : n ≡ length (take (length piece - at) (drop at piece)) → ⊥)
-      (e : EndedBy (session con) (take n (take (length piece - at) (drop at piece))) (take (length out - w) (drop w out)) ys r) where
+  module _ {ys : List ℕ} {r : Sent} {t : Tuner} (h : n ≡ length (take (length piece - at) (drop at piece)) → ⊥)
+      (e : EndedBy (session con) (take n (take (length piece - at) (drop at piece))) (take (length out - w) (drop w out)) ys r t) where
     pub below : n < length (drop at piece)
     below = subst (λ (l : List ℕ). n < length l) rest-is (omega (arith, f .within))
 
@@ -100,22 +88,22 @@ module _ {s₀ : Session} {piece old out : List ℕ} (con : Console) {at w n : �
     line-is = ap (take n) rest-is
 
     -- the line's answer, in the rest of the buffer
-    shown : Answers (sent (answer (session con .tuner) (session con .begun ++ take n (drop at piece)))) (drop w out) (sentAnswer (r .answer)) ys
+    shown : Answers (sent (answer (session con .tuner) (session con .begun ++ take n (drop at piece)))) (drop w out) (sentAnswer r) ys
     shown =
-        subst (λ (l : List ℕ). Answers (sent (answer (session con .tuner) (session con .begun ++ l))) (drop w out) (sentAnswer (r .answer)) ys) line-is
-        (subst (λ (o : List ℕ). Answers (sent (answer (session con .tuner) (session con .begun ++ take n (take (length piece - at) (drop at piece))))) o (sentAnswer (r .answer)) ys) (tail-part out w) (e .text))
+        subst (λ (l : List ℕ). Answers (sent (answer (session con .tuner) (session con .begun ++ l))) (drop w out) (sentAnswer r) ys) line-is
+        (subst (λ (o : List ℕ). Answers (sent (answer (session con .tuner) (session con .begun ++ take n (take (length piece - at) (drop at piece))))) o (sentAnswer r) ys) (tail-part out w) (e .text))
 
     -- there was no room for it
-    refused-text : {k : ℕ} → r .answer ≡ Refused k
+    refused-text : {k : ℕ} → r ≡ Refused k
         → (length (drop w out) < length (answer (session con .tuner) (session con .begun ++ take n (drop at piece)))) × (ys ≡ drop w out)
     refused-text {k} q =
         let text = answer (session con .tuner) (session con .begun ++ take n (drop at piece)) in
         put-refused text (drop w out) ys k (subst (λ (a : Sent). Answers (sent text) (drop w out) (sentAnswer a) ys) q shown)
 
-    pub unchanged : {k : ℕ} → r .answer ≡ Refused k → putMid w (length out - w) out ys ≡ out
+    pub unchanged : {k : ℕ} → r ≡ Refused k → putMid w (length out - w) out ys ≡ out
     unchanged q = tail-back out ys w ∙ ap (λ (l : List ℕ). take w out ++ l) (refused-text q .1) ∙ take-append-drop w out
 
-    pub held-up : {k : ℕ} (back : Console) → r .answer ≡ Refused k
+    pub held-up : {k : ℕ} (back : Console) → r ≡ Refused k
         → session back ≡ longerBy (session con) (take n (take (length piece - at) (drop at piece)))
         → Stepped s₀ piece old (putMid w (length out - w) out ys) (record { console = back; used = at + n; written = w })
     held-up back q b =
@@ -126,7 +114,7 @@ module _ {s₀ : Session} {piece old out : List ℕ} (con : Console) {at w n : �
         (b ∙ ap (longerBy (session con)) line-is))
 
     -- it was written
-    pub turn : {k : ℕ} (back : Session) → r .answer ≡ Written k → back ≡ record { tuner = after (session con .tuner) (r .change); begun = [] }
+    pub turn : {k : ℕ} (back : Session) → r ≡ Written k → back ≡ record { tuner = t; begun = [] }
         → Progress s₀ piece old (back) (at + (n + 1)) (w + k) (putMid w (length out - w) out ys)
     turn {k} back q is =
         let line = take n (drop at piece) in

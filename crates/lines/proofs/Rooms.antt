@@ -1,5 +1,5 @@
 -- How much room an answer needs: with 54 bytes a step uses some of its piece. Assumes nothing.
-use Prim.Native.Nat.{ℕ, _+_, _-_, _/_, _%_, _≤_, _<_}
+use Prim.Native.Nat.{ℕ, _+_, _*_, _-_, _/_, _%_, _≤_, _<_}
 use native.Mathlib.Omega.{arith}
 use mathlib.Core.Bool.{Bool, true, false, cond}
 use mathlib.Core.List.{List, [], _∷_, _++_}
@@ -41,6 +41,37 @@ shown-room o (refusing n e) = rw e (refusal-room n)
 pub answer-room : (t : Tuner) (line : List ℕ) → length (answer t line) ≤ 54
 unfolding answer
 answer-room t line = shown-room (eventRule t (meaning line)) (effected t (meaning line))
+
+-- no answer has fewer than two
+refusal-least : (n : ℕ) → 2 ≤ length (refusalLine n)
+unfolding refusalLine decimalOf
+refusal-least n = go (ltb n 10) (ltb n 100)
+  where
+    go : (x y : Bool) → 2 ≤ length (82 ∷ cond x ((48 + n) ∷ []) (cond y ((48 + n / 10) ∷ (48 + n % 10) ∷ [])
+        ((48 + n / 100) ∷ (48 + n / 10 % 10) ∷ (48 + n % 10) ∷ [])) ++ (10 ∷ []))
+    go true y = omega arith
+    go false true = omega arith
+    go false false = omega arith
+
+-- three for each byte that is shown
+pub bytes-fit : (bs : List ℕ) (room : ℕ) → 2 ≤ room → 3 * length bs ≤ room → length (bytesLine bs) ≤ room
+unfolding bytesLine
+bytes-fit [] room h k = omega arith
+bytes-fit (b ∷ bs) room h k = omega (arith, shown-length (b ∷ bs) (omega arith))
+
+bytes-least : (bs : List ℕ) → 2 ≤ length (bytesLine bs)
+unfolding bytesLine
+bytes-least [] = omega arith
+bytes-least (b ∷ bs) = omega (arith, shown-length (b ∷ bs) (omega arith))
+
+shown-least : (o : Outcome (Effect ℕ Tuner)) → Effected o → 2 ≤ length (shown o)
+unfolding shown
+shown-least o (sending bs t e h) = rw e (bytes-least bs)
+shown-least o (refusing n e) = rw e (refusal-least n)
+
+pub answer-least : (t : Tuner) (line : List ℕ) → 2 ≤ length (answer t line)
+unfolding answer
+answer-least t line = shown-least (eventRule t (meaning line)) (effected t (meaning line))
 
 text-room : (s : Session) (b : ℕ) → length (text s b) ≤ 54
 unfolding text

@@ -6,17 +6,11 @@ use lib.ListN.{length, take}
 use Rattle.models.specs.Outcome.{Outcome, value, refused}
 use Rattle.senders.specs.Lent.{Answers, sent}
 use Rattle.senders.specs.Answers.{sentAnswer}
-use Rattle.senders.specs.Jit.{Pressed, sounds, rejects, after}
+use Rattle.senders.specs.Jit.{Tuner, Pressed, sounds, rejects}
 use Rattle.senders.specs.declared.midi.Sent.{Sent}
-use Rattle.senders.specs.declared.midi.Sent.the-variants.{Written, Refused}
+use Rattle.senders.specs.declared.midi.Sent.the-variants.{Written}
 use Rattle.lines.specs.Console.{answer, next}
 use Rattle.lines.specs.Session.{Session, clip}
-use Rattle.lines.specs.declared.answer.Reply.{Reply}
-
--- `answer::settled`: what goes with an answer that was written, or not
-unfoldable pub settle : {A : Type 0} → Sent → A → A → A
-settle (Written n) next before = next
-settle (Refused n) next before = before
 
 -- `answer::sent_of`: how many bytes a press sent
 unfoldable pub count : Pressed → ℕ
@@ -35,9 +29,10 @@ longerBy s more = record { tuner = s .tuner; begun = clip (s .begun ++ more) }
 abbrev pub endedBy : Session → List ℕ → Session
 endedBy s more = record { tuner = next (s .tuner) (s .begun ++ more); begun = [] }
 
-pub record EndedBy (s : Session) (more old new : List ℕ) (r : Reply) : Type 0 where
-  pub text : Answers (sent (answer (s .tuner) (s .begun ++ more))) old (sentAnswer (r .answer)) new
-  pub session-is : {n : ℕ} → r .answer ≡ Written n → after (s .tuner) (r .change) ≡ endedBy s more .tuner
+-- what was answered, and the tuner afterwards
+pub record EndedBy (s : Session) (more old new : List ℕ) (r : Sent) (t : Tuner) : Type 0 where
+  pub text : Answers (sent (answer (s .tuner) (s .begun ++ more))) old (sentAnswer r) new
+  pub session-is : {n : ℕ} → r ≡ Written n → t ≡ endedBy s more .tuner
 
 -- `step::hold`: bytes put behind the bytes of a line that has begun, as many as there is room for
 pub record Holds (held : List ℕ) (n : ℕ) (more new : List ℕ) (r : ℕ) : Type 0 where

@@ -6,7 +6,7 @@ use mathlib.Core.List.{List, [], _∷_, _++_}
 use lib.ListN.{length, take, drop}
 use lib.Dec.{eqb, leb}
 use Rattle.senders.specs.Lent.{Answer, sent, written}
-use Rattle.senders.specs.Jit.{Tuner, tuner}
+use Rattle.senders.specs.Jit.{Tuner, view}
 use Rattle.lines.specs.Split.{feed}
 use Rattle.lines.specs.Console.{opened, answer, answers, next, nonempty}
 use Rattle.lines.specs.declared.step.Console.{Console}
@@ -18,7 +18,7 @@ pub record Session : Type 0 where
   pub begun : List ℕ
 
 abbrev pub session : Console → Session
-session c = record { tuner = tuner (c .tuner); begun = take (c .len) (c .held) }
+session c = record { tuner = view (c .cells); begun = take (c .len) (c .held) }
 
 -- before the input
 abbrev pub start : Session

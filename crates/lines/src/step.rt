@@ -6,19 +6,19 @@ ghost use Rattle.senders.specs.Lent.{Answers};
 ghost use Rattle.senders.specs.Answers.{sentAnswer};
 ghost use Rattle.lines.specs.Session.{session, start, finishRule, Stepped};
 ghost use Rattle.lines.specs.Inner.{Holds};
+use crate::answer::answer;
 use crate::answer::open;
-use crate::answer::reply_to;
 use crate::line::find;
+use models::cells::CELLS;
 use models::refusal::BUFFER_TOO_SHORT;
-use senders::jit::JitTuner;
 use senders::midi::Sent;
 
 // One byte more than the longest line, which says that a line is longer.
 const MOST_HELD: usize = 65;
 
-// The tuner, and the line that has begun: `len` bytes of it.
+// The tuner's block, and the line that has begun: `len` bytes of it.
 pub struct Console {
-    tuner: JitTuner,
+    cells: [u16; CELLS],
     held: [u8; MOST_HELD],
     len: usize,
 }
@@ -35,8 +35,10 @@ impl Console {
     pub fn new() -> Console
         ensures { λ r. ⌜ session r ≡ start ⌝ }
     {
+        let mut cells = [0u16; CELLS];
+        open(&mut cells);
         Console {
-            tuner: open(),
+            cells,
             held: [0; MOST_HELD],
             len: 0,
         }
@@ -47,7 +49,7 @@ impl Console {
     pub fn step(self, piece: &[u8], out: &mut [u8]) -> Step
         ensures { λ r. ⌜ Stepped (session self) (now (piece .entry)) (now (out .entry)) (now (out .exit)) r ⌝ }
     {
-        let mut tuner = self.tuner;
+        let mut cells = self.cells;
         let mut held = self.held;
         let mut len = self.len;
         let mut at: usize = 0;
@@ -58,16 +60,15 @@ impl Console {
             len = hold(&mut held, len, &rest[..n]);
             if n == rest.len() {
                 return Step {
-                    console: Console { tuner, held, len },
+                    console: Console { cells, held, len },
                     used: at + n,
                     written: end,
                 };
             }
-            let reply = reply_to(tuner, &held[..len], &mut out[end..]);
-            let answer = reply.answer;
-            let Sent::Written(written) = answer else {
+            let reply = answer(&mut cells, &held[..len], &mut out[end..]);
+            let Sent::Written(written) = reply else {
                 return Step {
-                    console: Console { tuner, held, len },
+                    console: Console { cells, held, len },
                     used: at + n,
                     written: end,
                 };
@@ -75,15 +76,9 @@ impl Console {
             len = 0;
             end += written;
             at += n + 1;
-            let change = reply.change;
-            if change.is_none() {
-                continue;
-            }
-            let next = tuner.changed(change);
-            tuner = next;
         }
         Step {
-            console: Console { tuner, held, len },
+            console: Console { cells, held, len },
             used: at,
             written: end,
         }

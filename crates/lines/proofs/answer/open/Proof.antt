@@ -1,9 +1,6 @@
--- `lines::answer::open` meets its contract: the tuner of the start. Assumes nothing.
-use Prim.Native.Nat.{ℕ}
-use mathlib.Core.Path.{ap}
-use mathlib.Core.List.{List}
-use Rattle.models.specs.Outcome.{Outcome}
-use Rattle.senders.specs.Jit.{Tuner}
+-- `answer::open` meets its contract: the list is taken, so the tuner is that of the start. Assumes nothing.
+use Rattle.models.specs.Pool.{openRule}
+use Rattle.models.specs.ChannelList.{listRule, listFrom}
 use Rattle.lines.specs.Console.{opened}
 use borrow.Author.Needs.{needs}
 use Rattle.lines.proofs.answer.open.Statement.{statement}
@@ -16,8 +13,8 @@ start-requires : tie.Need-start-requires
 start-requires c κs = search needs
 
 returns : tie.Need-returns
-unfolding opened
-returns c = ap (λ (o : Outcome (List ℕ) × Tuner). o .1) (c .before .start .ensures)
+unfolding opened openRule listRule listFrom
+returns c = c .start .ensures .1
 
 pub open-spec : {M : Type 1} → statement M
 open-spec = tie.close (tie.spec slice-aggregate-start start-requires returns)

@@ -1,4 +1,4 @@
--- `lines::step::Console::new` meets its contract: no line has begun. Assumes nothing.
+-- `step::Console::new` meets its contract: no line has begun. Assumes nothing.
 use mathlib.Core.Path.{ap}
 use mathlib.Core.List.{[]}
 use Rattle.senders.specs.Jit.{Tuner}
