@@ -1,5 +1,5 @@
--- Demand 1 of the tuners and of messages: each call that can be refused, with the numbers that document 01 allows it, in the order of the tests. `press` and
--- `release` of a pool tuner are ruled as `note_on` and `note_off`; the lookups, `tuned` and `changed` cannot be refused. Assumes nothing.
+-- Demand 1 of the tuners and of messages: each call that can be refused, with the numbers that document 01 allows it, in the order of the tests. The
+-- lookups and `tuned` cannot be refused. Assumes nothing.
 use mathlib.Core.List.{List, [], _∷_}
 use Prim.Native.Nat.{ℕ}
 use lib.IntN.{ℤ}

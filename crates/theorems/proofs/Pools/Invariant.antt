@@ -23,10 +23,8 @@ use Rattle.models.specs.declared.jit.PoolingMode.the-variants.{Block, Stop, Ign
 use Rattle.models.specs.Lists.{member, without, upward, first}
 use Rattle.models.specs.ChannelList.{listRule, present}
 use Rattle.models.specs.Pool.{keyCount, Place, Pool, State, Held, emptyPool, poolCount, poolOf, pool, found, fresh, openRule, withPool, withKey, behind, takenIn, taken, freedIn, freed, forgotten, released, releasedAll, stopped, oldest, madeRoom, roomBy, roomFor, pressedOn, pressed, isHeld, unlessHeld, registerRule, replied}
-use Rattle.models.specs.Change.{changed, anyDetuning, OfKey}
-use Rattle.models.specs.declared.jit.Change as C
-use Rattle.models.specs.declared.jit.Change.{Change}
-use Rattle.theorems.specs.PoolCalls.{Call, press, release, lookup, repitch, change, stop, after, played, times, channelAt, keysOn, standing}
+use Rattle.models.specs.Block.{registerNoteRule}
+use Rattle.theorems.specs.PoolCalls.{Call, press, release, lookup, repitch, pressNote, stop, after, played, times, channelAt, keysOn, standing}
 use Rattle.models.proofs.ChannelLists.{Verdict, listed, offended, verdict, fine-listed, offence-refused, channels-few}
 use Rattle.models.proofs.Queues.{behind-room}
 use Rattle.models.proofs.Pools.{pool-small, oldest-is, released-found, released-none, released-other}
@@ -383,17 +381,15 @@ register-ok n s ok key small hz = go (isPitch hz) (found s key) refl
     go true (some p) e = ok
     go true none e = pressed-ok n s ok key e small (nearestNote hz) (detuningOf hz (nearestNote hz))
 
-change-ok : (n : ℕ) (s : State) → Ok n s → (c : Change) → OfKey c → Ok n (changed s c)
-unfolding changed unlessHeld isHeld replied
-change-ok n s ok (C.the-variants.Press key note) small = go (isNote note) (found s key) refl
+note-ok : (n : ℕ) (s : State) → Ok n s → (key : ℕ) → key < keyCount → (note : ℤ) (d : Float) → Ok n (replied s (registerNoteRule s key note d) .1)
+unfolding registerNoteRule unlessHeld isHeld replied
+note-ok n s ok key small note d = go (isNote note) (found s key) refl
   where
     go : (b : Bool) (p : Option Place) → found s key ≡ p
-        → Ok n (cond b (replied s (refuse 11 unless not (isHeld p) then value (pressed s key note anyDetuning)) .1) s)
+        → Ok n (replied s (refuse 4 unless b then refuse 11 unless not (isHeld p) then value (pressed s key note d)) .1)
     go false p e = ok
     go true (some p) e = ok
-    go true none e = pressed-ok n s ok key e small note anyDetuning
-change-ok n s ok (C.the-variants.Release key) small = released-ok n s ok key
-change-ok n s ok C.the-variants.Nothing small = ok
+    go true none e = pressed-ok n s ok key e small note d
 
 all-ok : (n : ℕ) (s : State) → Ok n s → (hs : List Held) → Ok n (releasedAll s hs)
 unfolding releasedAll
@@ -406,7 +402,7 @@ after-ok n s ok (press key small hz) = register-ok n s ok key small hz
 after-ok n s ok (release key) = released-ok n s ok key
 after-ok n s ok (lookup key) = ok
 after-ok n s ok (repitch key hz) = ok
-after-ok n s ok (change c small) = change-ok n s ok c small
+after-ok n s ok (pressNote key small note d) = note-ok n s ok key small note d
 after-ok n s ok stop = all-ok n s ok _
 
 pub played-ok : (n : ℕ) (s : State) → Ok n s → (cs : List Call) → Ok n (played s cs)

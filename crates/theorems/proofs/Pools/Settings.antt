@@ -16,10 +16,8 @@ use Rattle.models.specs.declared.jit.PoolingMode.the-variants.{Block, Stop, Ign
 use Rattle.models.specs.Lists.{first}
 use Rattle.models.specs.ChannelList.{listRule, present}
 use Rattle.models.specs.Pool.{Place, State, Held, pool, found, fresh, openRule, withPool, withKey, taken, freed, forgotten, released, releasedFrom, releasedAll, stopped, oldest, Room, madeRoom, roomBy, roomFor, pressedOn, pressed, isHeld, unlessHeld, registerRule, replied}
-use Rattle.models.specs.Change.{changed, anyDetuning}
-use Rattle.models.specs.declared.jit.Change as C
-use Rattle.models.specs.declared.jit.Change.{Change}
-use Rattle.theorems.specs.PoolCalls.{Call, press, release, lookup, repitch, change, stop, after, played}
+use Rattle.models.specs.Block.{registerNoteRule}
+use Rattle.theorems.specs.PoolCalls.{Call, press, release, lookup, repitch, pressNote, stop, after, played}
 
 pub record Same (s t : State) : Type 0 where
   pub channels : t .channels ≡ s .channels
@@ -81,16 +79,14 @@ register-same s key hz = go (isPitch hz) (not (isHeld (found s key)))
     go true false = same s
     go false b = same s
 
-change-same : (s : State) (c : Change) → Same s (changed s c)
-unfolding changed unlessHeld replied
-change-same s (C.the-variants.Press key note) = go (isNote note) (not (isHeld (found s key)))
+note-same : (s : State) (key : ℕ) (note : ℤ) (d : Float) → Same s (replied s (registerNoteRule s key note d) .1)
+unfolding registerNoteRule unlessHeld replied
+note-same s key note d = go (isNote note) (not (isHeld (found s key)))
   where
-    go : (a b : Bool) → Same s (cond a (replied s (refuse 11 unless b then value (pressed s key note anyDetuning)) .1) s)
-    go true true = pressed-same s key note anyDetuning
+    go : (a b : Bool) → Same s (replied s (refuse 4 unless a then refuse 11 unless b then value (pressed s key note d)) .1)
+    go true true = pressed-same s key note d
     go true false = same s
     go false b = same s
-change-same s (C.the-variants.Release key) = released-same s key
-change-same s C.the-variants.Nothing = same s
 
 all-same : (s : State) (hs : List Held) → Same s (releasedAll s hs)
 unfolding releasedAll
@@ -103,7 +99,7 @@ after-same s (press key small hz) = register-same s key hz
 after-same s (release key) = released-same s key
 after-same s (lookup key) = same s
 after-same s (repitch key hz) = same s
-after-same s (change c small) = change-same s c
+after-same s (pressNote key small note d) = note-same s key note d
 after-same s stop = all-same s _
 
 pub played-same : (s : State) (cs : List Call) → Same s (played s cs)

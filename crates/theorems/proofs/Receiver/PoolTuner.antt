@@ -3,13 +3,13 @@
 use mathlib.Core.Path.{_≡_, refl, sym, ap, subst, _∙_}
 use mathlib.Core.Bool.{Bool, true, false, cond}
 use mathlib.Core.Option.{Option, some, none}
-use mathlib.Core.List.{List, [], _∷_, _++_}
-use Prim.Native.Nat.{ℕ, zero, suc, _<_}
+use mathlib.Core.List.{List, [], _∷_, _++_, map}
+use Prim.Native.Nat.{ℕ, zero, suc, _<_, _≤_, min}
 use native.Mathlib.Omega.{arith}
 use lib.Dec.{ltb, eqb}
 use lib.IntN.{ℤ, pos, negsuc}
 use lib.Ieee.{Float}
-use lib.ListN.{length, take, drop, getD, getElem?}
+use lib.ListN.{length, take, drop, getD, getElem?, length-take, length-map}
 use lib.Seq.{take-at}
 use borrow.Author.Tests.{lt-ltb, ltb-true, eq-eqb}
 use Rattle.arithmetic.specs.Nearest.{nearestNote}
@@ -18,12 +18,16 @@ use Rattle.models.specs.Outcome.{Outcome, value}
 use Rattle.models.specs.Pool.{State as Pools, Place, Held, accepted, found, registerRule, repitchRule, heldFrom, heldKeys}
 use Rattle.models.specs.Steps.{sentAs}
 use Rattle.theorems.specs.Bounds.{valueOf, StepBound}
-use Rattle.models.specs.JitModel.{view}
+use Rattle.models.specs.ChannelList.{entries}
+use Rattle.models.specs.Block.{settings, queueOf, queueAt, channelOf, channelsAt, stateOf, stateWith}
+use Rattle.models.specs.declared.channels.ChannelList.{ChannelList}
+use Rattle.models.proofs.ChannelLists.{number, Low, digits-number}
 use Rattle.theorems.proofs.Pools.Pitches.{press-pitch, press-law}
 use Rattle.models.proofs.Values.{sent-in-steps}
 use Rattle.senders.specs.Lent.{Effect, sent, Steps, Answers, written}
 use Rattle.senders.specs.Message.{Message}
 use Rattle.senders.specs.Midi.{bytesOf}
+use Rattle.senders.specs.Mts.{tuningMessages}
 use Rattle.senders.specs.Tuner.{keyMessages, onChannel, pressMessages}
 use Rattle.senders.specs.Jit.{Tuner, tuner, withPool, Pressed, sounds, noteOnRule, noteOffRule, notePitchRule, repitchMessages, releaseMessages, stopRule}
 use Rattle.theorems.specs.Reader.{State, read}
@@ -37,6 +41,35 @@ use Rattle.theorems.proofs.Receiver.Conveyed.{Conveys, conveys-none, co
 use Rattle.theorems.proofs.Bytes.Accepted.{accepted as done}
 use Rattle.senders.proofs.Messages.{test-held}
 use Rattle.theorems.proofs.Receiver.Received.{pressed-value}
+
+-- ---- the channels of a block are those of some channel list
+
+queue-few : (l : List ℕ) → length l ≤ 17 → length (queueOf l) ≤ 16
+unfolding queueOf
+queue-few [] h = omega arith
+queue-few (n ∷ xs) h = omega (arith, length-take n xs)
+
+channels-few : (l : List ℕ) → length (channelsAt l) ≤ 16
+unfolding channelsAt queueAt
+channels-few l = omega (arith, length-map (queueOf (take 17 (drop settings l))) channelOf, queue-few (take 17 (drop settings l)) (omega (arith, length-take 17 (drop settings l))))
+
+remainders-low : (l : List ℕ) → Low (map channelOf l)
+remainders-low [] i h = absurd (omega arith)
+remainders-low (x ∷ l) zero h = omega arith
+remainders-low (x ∷ l) (suc i) h = remainders-low l i (omega arith)
+
+channels-low : (l : List ℕ) → Low (channelsAt l)
+unfolding channelsAt
+channels-low l = remainders-low (queueAt l settings)
+
+listOf : List ℕ → ChannelList
+listOf l = record { digits = number (channelsAt l); count = length (channelsAt l) }
+
+list-of : (l : List ℕ) → entries (listOf l) ≡ stateOf l .channels
+unfolding entries stateOf stateWith listOf
+list-of l =
+    let all : min (length (channelsAt l)) 16 ≡ length (channelsAt l) = omega (arith, channels-few l) in
+    rw all (digits-number (channelsAt l) (channels-low l))
 
 -- what a press says it wrote stands at the buffer's start
 pub sounding-starts :
@@ -64,14 +97,15 @@ module _ (other : Other) (st : State) (r : Receiver) (self : JitTuner) where
         (e : registerRule (tuner self .pool) key hz ≡ value (accepted i stopped note d, u))
         (p : Steps tuner (noteOnRule (tuner self) key hz v) self old (value (sounds n)) back new) where
       abbrev pressSent : List Message
-      pressSent = onChannel channels i (λ ch. pressMessages ch stopped (sentAs (self .kind) d) note v)
+      pressSent = onChannel channels i (λ ch. pressMessages ch stopped (sentAs (tuner self .kind) d) note v)
 
       low : v < 128
       low = ltb-true v 128 (test-held 8 (ltb v 128) _ (done p .rule-is) .0)
 
-      press-conveyed : Conveys other pressSent (onListed (getElem? channels i) (pressed stopped (sentAs (self .kind) d) note v))
-      unfolding view
-      press-conveyed = conveys-press other (self .model .channels) i stopped (sentAs (self .kind) d) note v (sent-in-steps (self .kind) d) low
+      press-conveyed : Conveys other pressSent (onListed (getElem? channels i) (pressed stopped (sentAs (tuner self .kind) d) note v))
+      press-conveyed =
+          subst (λ (cs : List ℕ). Conveys other (onChannel cs i (λ ch. pressMessages ch stopped (sentAs (tuner self .kind) d) note v)) (onListed (getElem? cs i) (pressed stopped (sentAs (tuner self .kind) d) note v))) (list-of (self .cells))
+          (conveys-press other (listOf (self .cells)) i stopped (sentAs (tuner self .kind) d) note v (sent-in-steps (tuner self .kind) d) low)
 
       pub press-read : read st (take n new) ≡ pressSent
       press-read =
@@ -79,19 +113,19 @@ module _ (other : Other) (st : State) (r : Receiver) (self : JitTuner) where
           sounding-starts {next = withPool (tuner self) u} {bs = bytesOf pressSent} (press-sent (tuner self) key hz v low e) p in
           ap (read st) starts ∙ read-plain st pressSent (press-conveyed .plain)
 
-      pub press-received : hearBytes other st (take n new) r ≡ onListed (getElem? channels i) (pressed stopped (sentAs (self .kind) d) note v) r
+      pub press-received : hearBytes other st (take n new) r ≡ onListed (getElem? channels i) (pressed stopped (sentAs (tuner self .kind) d) note v) r
       press-received = ap (λ (l : List Message). hearAll other l r) press-read ∙ press-conveyed .heard r
 
       -- An accepted press is heard at its pitch: its note is the nearest one, and the channel has the value of the pitch's detuning from that note,
       -- unclamped and within the bound of its kind.
       pub press-near :
           (ch : ℕ) → getElem? channels i ≡ some ch
-          → (note ≡ nearestNote hz) × (d ≡ detuningOf hz note) × StepBound (self .kind) (valueIn (self .kind) (hearBytes other st (take n new) r ch)) d
+          → (note ≡ nearestNote hz) × (d ≡ detuningOf hz note) × StepBound (tuner self .kind) (valueIn (tuner self .kind) (hearBytes other st (take n new) r ch)) d
       press-near ch f =
           let made = press-pitch (tuner self .pool) key hz e in
-          let value-is : valueIn (self .kind) (hearBytes other st (take n new) r ch) ≡ valueOf (sentAs (self .kind) d) =
-          ap (λ (q : Receiver). valueIn (self .kind) (q ch)) press-received ∙ rw (f, eq-eqb ch ch refl) (pressed-value (self .kind) d stopped note v (r ch)) in
-          (made .1, made .2, subst (λ (k : ℤ). StepBound (self .kind) k d) (sym value-is) (press-law (tuner self .pool) key hz e (self .kind)))
+          let value-is : valueIn (tuner self .kind) (hearBytes other st (take n new) r ch) ≡ valueOf (sentAs (tuner self .kind) d) =
+          ap (λ (q : Receiver). valueIn (tuner self .kind) (q ch)) press-received ∙ rw (f, eq-eqb ch ch refl) (pressed-value (tuner self .kind) d stopped note v (r ch)) in
+          (made .1, made .2, subst (λ (k : ℤ). StepBound (tuner self .kind) k d) (sym value-is) (press-law (tuner self .pool) key hz e (tuner self .kind)))
 
     -- A release: a reader finds its message; the key's note is off.
     module _ (key v : ℕ) (p : Steps tuner (noteOffRule (tuner self) key v) self old (value n) back new) where
@@ -102,8 +136,9 @@ module _ (other : Other) (st : State) (r : Receiver) (self : JitTuner) where
       release-low = ltb-true v 128 (test-held 8 (ltb v 128) _ (done p .rule-is) .0)
 
       release-conveyed : Conveys other releaseSent (keyMeant Off channels v (found (tuner self .pool) key))
-      unfolding view
-      release-conveyed = conveys-key other (self .model .channels) Off v (found (tuner self .pool) key) release-low
+      release-conveyed =
+          subst (λ (cs : List ℕ). Conveys other (keyMessages Off cs v (found (tuner self .pool) key)) (keyMeant Off cs v (found (tuner self .pool) key))) (list-of (self .cells))
+          (conveys-key other (listOf (self .cells)) Off v (found (tuner self .pool) key) release-low)
 
       pub release-read : read st (take n new) ≡ releaseSent
       release-read = sent-read-plain st releaseSent (release-sent (tuner self) key v release-low) p (release-conveyed .plain)
@@ -114,8 +149,9 @@ module _ (other : Other) (st : State) (r : Receiver) (self : JitTuner) where
     -- `stop`: a reader finds a release with velocity 0 for every key that was found, by rising key, and so a receiver hears it.
     module _ (p : Steps tuner (stopRule (tuner self)) self old (value n) back new) where
       stop-conveyed : Conveys other (releaseMessages (tuner self)) (inTurn (λ (h : Held). keyMeant Off channels 0 (some (h .place))) (heldKeys (tuner self .pool) 0))
-      unfolding view
-      stop-conveyed = conveys-each other (λ (h : Held). keyMessages Off channels 0 (some (h .place))) (λ (h : Held). keyMeant Off channels 0 (some (h .place))) (heldKeys (tuner self .pool) 0) (λ h. conveys-key other (self .model .channels) Off 0 (some (h .place)) (omega arith))
+      stop-conveyed = conveys-each other (λ (h : Held). keyMessages Off channels 0 (some (h .place))) (λ (h : Held). keyMeant Off channels 0 (some (h .place))) (heldKeys (tuner self .pool) 0) (λ h.
+          subst (λ (cs : List ℕ). Conveys other (keyMessages Off cs 0 (some (h .place))) (keyMeant Off cs 0 (some (h .place)))) (list-of (self .cells))
+          (conveys-key other (listOf (self .cells)) Off 0 (some (h .place)) (omega arith)))
 
       pub stop-read : read st (take n new) ≡ releaseMessages (tuner self)
       stop-read = sent-read-plain st (releaseMessages (tuner self)) refl p (stop-conveyed .plain)
@@ -131,9 +167,10 @@ module _ (other : Other) (st : State) (r : Receiver) (self : JitTuner) where
       abbrev repitchSent : List Message
       repitchSent = repitchMessages (tuner self) (some (p, d))
 
-      repitch-conveyed : Conveys other repitchSent (onListed (getElem? channels (p .channel)) (tuned (sentAs (self .kind) d)))
-      unfolding view
-      repitch-conveyed = conveys-tuning other (self .model .channels) (p .channel) (sentAs (self .kind) d) (sent-in-steps (self .kind) d)
+      repitch-conveyed : Conveys other repitchSent (onListed (getElem? channels (p .channel)) (tuned (sentAs (tuner self .kind) d)))
+      repitch-conveyed =
+          subst (λ (cs : List ℕ). Conveys other (onChannel cs (p .channel) (λ ch. tuningMessages ch (sentAs (tuner self .kind) d))) (onListed (getElem? cs (p .channel)) (tuned (sentAs (tuner self .kind) d)))) (list-of (self .cells))
+          (conveys-tuning other (listOf (self .cells)) (p .channel) (sentAs (tuner self .kind) d) (sent-in-steps (tuner self .kind) d))
 
       sent-repitch : notePitchRule (tuner self) key hz ≡ sent (bytesOf repitchSent)
       sent-repitch = rw e
@@ -141,7 +178,7 @@ module _ (other : Other) (st : State) (r : Receiver) (self : JitTuner) where
       pub repitch-read : read st (take n new) ≡ repitchSent
       repitch-read = sent-read-plain st repitchSent sent-repitch a (repitch-conveyed .plain)
 
-      pub repitch-received : hearBytes other st (take n new) r ≡ onListed (getElem? channels (p .channel)) (tuned (sentAs (self .kind) d)) r
+      pub repitch-received : hearBytes other st (take n new) r ≡ onListed (getElem? channels (p .channel)) (tuned (sentAs (tuner self .kind) d)) r
       repitch-received = sent-conveyed other st repitchSent r repitch-conveyed sent-repitch a
 
     pub repitch-unknown :
