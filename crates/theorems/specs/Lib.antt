@@ -2,6 +2,7 @@
 pub mod Bounds
 pub mod PlannedKeys
 pub mod PoolCalls
+pub mod PoolInvariant
 pub mod PoolTunerCalls
 pub mod PlanTunerCalls
 pub mod Entries

@@ -25,7 +25,10 @@ use Rattle.theorems.specs.PoolCalls.{Call, times}
 use Rattle.models.proofs.Pools.{pool-small, released-found, made-none, pressed-free, pressed-none}
 use Rattle.theorems.proofs.Pools.Occurrences.{times-cons, times-same}
 use Rattle.theorems.proofs.Pools.Settings.{mode-kept}
-use Rattle.theorems.proofs.Pools.Invariant.{Ok, pool-ok, free-low, room-ok, model, model-ok}
+use Rattle.theorems.specs.PoolInvariant.{Ok}
+use Rattle.theorems.proofs.Pools.OnePool.{pool-ok, free-low}
+use Rattle.theorems.proofs.Pools.Changes.{room-ok}
+use Rattle.theorems.proofs.Pools.Invariant.{model, model-ok}
 use Rattle.models.proofs.ListLaws.{first-rest, first-none}
 
 -- an accepted press is no rejected one

@@ -12,7 +12,8 @@ use Rattle.models.specs.Pool.{Place, Pool, State, Held, emptyPool, poolCount, f
 use Rattle.theorems.specs.PoolCalls.{Call, times, keysOn, standing, stop, after}
 use Rattle.theorems.proofs.Pools.Occurrences.{times-cons, times-same, times-range, either}
 use Rattle.models.proofs.Pools.{released-found, released-none, released-other}
-use Rattle.theorems.proofs.Pools.Invariant.{set-none, after-ok, model, model-ok}
+use Rattle.theorems.proofs.Pools.Changes.{set-none}
+use Rattle.theorems.proofs.Pools.Invariant.{after-ok, model, model-ok}
 
 -- a released key is not found
 forgotten-gone : (s : State) (key : ℕ) (p : Place) → found (forgotten (freed s key p) key) key ≡ none

@@ -17,7 +17,8 @@ use Rattle.theorems.specs.PoolCalls as recital
 use Rattle.models.specs.declared.steps.TuningKind.{TuningKind}
 use Rattle.models.specs.declared.jit.PoolingMode.{PoolingMode}
 use Rattle.models.specs.declared.jit.PoolGroupBy.the-variants.{Channel}
-use Rattle.theorems.proofs.Pools.Invariant.{Ok, model, model-ok}
+use Rattle.theorems.specs.PoolInvariant.{Ok}
+use Rattle.theorems.proofs.Pools.Invariant.{model, model-ok}
 use Rattle.theorems.proofs.Pools.Presses.{press-channel}
 use Rattle.theorems.proofs.Pools.Settings.{channels-kept}
 use Rattle.senders.specs.Lent.{Effect, fitted, settled}
