@@ -9,14 +9,12 @@ use lib.Ieee.{Float}
 use lib.ListN.{length}
 use Rattle.arithmetic.specs.Outcome.{Outcome, value, refused}
 use Rattle.models.specs.Pool.{Place, State, Press, accepted, rejected, found, released, registerRule, repitchRule, replied}
-use Rattle.models.specs.JitModel.{view}
 use Rattle.models.specs.declared.jit.PoolGroupBy.{PoolGroupBy}
 use Rattle.models.specs.declared.jit.PoolGroupBy.the-variants.{NoteLetter, Channel}
 use Rattle.models.specs.declared.jit.PoolingMode.{PoolingMode}
 use Rattle.models.specs.declared.jit.PoolingMode.the-variants.{Block, Stop, Ignore}
 use Rattle.exports.specs.Lent.{zeroFloat, byteAt, floatAt}
 use Rattle.exports.specs.declared.pool.Answer.{Answer}
-use Rattle.exports.specs.declared.pool.Played.{Played}
 
 -- ---- the settings, by number: any number from 2 on is Ignore
 
@@ -89,8 +87,3 @@ stateBefore s es (suc i) = eventIn es i (stateBefore s es i) .1
 -- the answer to event i
 abbrev pub answerTo : State → Events → ℕ → Answer
 answerTo s es i = eventIn es i (stateBefore s es i) .0
-
--- ---- the code's answer beside the model
-
-unfoldable pub playedOf : Played → Answer × State
-playedOf r = (r .answer, view (r .model))

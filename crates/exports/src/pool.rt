@@ -2,11 +2,13 @@
 
 ghost use mathlib.Core.Path.{_≡_};
 ghost use lib.ListN.{length};
-ghost use Rattle.models.specs.Pool.{openRule};
-ghost use Rattle.models.specs.JitModel.{view, place, press, repitched, stoppedNote};
+ghost use Rattle.models.specs.Pool.{State, openRule};
+ghost use Rattle.models.specs.Block.{stateOf};
+ghost use Rattle.models.specs.JitModel.{place, press, repitched, stoppedNote};
 ghost use Rattle.exports.specs.Lent.{filled};
 ghost use Rattle.exports.specs.Returned.{listRefusal, unlessRefused};
-ghost use Rattle.exports.specs.Events.{groupOf, modeOf, noPlace, noteOr, pressAnswer, placeAnswer, repitchAnswer, happens, equalLists, answerTo, playedOf};
+ghost use Rattle.exports.specs.declared.pool.Answer.{Answer};
+ghost use Rattle.exports.specs.Events.{groupOf, modeOf, noPlace, noteOr, pressAnswer, placeAnswer, repitchAnswer, happens, equalLists, answerTo};
 use crate::lent::byte_at;
 use crate::lent::float_at;
 use crate::lent::put_byte;
@@ -15,13 +17,21 @@ use crate::lent::put_number;
 use crate::returned::is_result;
 use crate::returned::list_refusal;
 use arithmetic::pitch::Pitch;
-use models::jit::JitTuningModel;
+use models::block::access_key;
+use models::block::deregister_key;
+use models::block::open;
+use models::block::register_key;
+use models::block::repitch_key;
+use models::cells::CELLS;
+use models::channels::ChannelList;
+use models::channels::present;
 use models::jit::PoolGroupBy;
 use models::jit::PoolingMode;
 use models::jit::RegisterKeyResult;
 use models::jit::RepitchKeyResult;
 use models::jit::StoppedNote;
 use models::keys::AccessKeyResult;
+use models::steps::TuningKind;
 
 // The kind of an answer with a place; 1 to 13 are refusals.
 const PLACED: u8 = 0;
@@ -45,11 +55,6 @@ struct Answer {
     note: i32,
     stopped: i32,
     detuning: f64,
-}
-
-struct Played {
-    model: JitTuningModel,
-    answer: Answer,
 }
 
 // Opens a pool on a channel list, for letters or for whole channels, in mode 0 Block, 1 Stop or any other Ignore; plays the events in order, and writes the
@@ -80,14 +85,21 @@ pub extern "C" fn tune_pool(
         × (now («answer_stopped» .exit) ≡ unlessRefused r (filled (λ i. heard i .stopped) n) (now («answer_stopped» .entry)))
         × (now («answer_detunings» .exit) ≡ unlessRefused r (filled (λ i. heard i .detuning) n) (now («answer_detunings» .entry))) ⌝ }
 {
-    let opened = JitTuningModel::open(channels, group_of(letters), mode_of(mode));
-    let listed = opened.answer;
-    let model = opened.model;
+    let listed = ChannelList::of(channels);
+    let list = present(listed);
+    let mut cells = [0u16; CELLS];
+    open(
+        &mut cells,
+        list,
+        group_of(letters),
+        mode_of(mode),
+        TuningKind::FineTuning,
+    );
     let n = kinds.len();
     let refusal = list_refusal(listed, (keys.len() == n) & (pitches.len() == n));
     if is_result(refusal) {
         play_all(
-            model,
+            &mut cells,
             kinds,
             keys,
             pitches,
@@ -101,9 +113,9 @@ pub extern "C" fn tune_pool(
     refusal
 }
 
-// All events in order, from a model on.
+// All events in order, in a block.
 fn play_all(
-    first: JitTuningModel,
+    cells: &mut [u16; CELLS],
     kinds: &[u8],
     keys: &[u8],
     pitches: &[f64],
@@ -114,7 +126,7 @@ fn play_all(
     answer_detunings: &mut [f64],
 )
     ensures { λ r.
-        let heard = answerTo (view first) (record { kinds = now (kinds .entry); keys = now (keys .entry); pitches = now (pitches .entry) }) in
+        let heard = answerTo (stateOf (now (cells .entry))) (record { kinds = now (kinds .entry); keys = now (keys .entry); pitches = now (pitches .entry) }) in
         let n = length (now (kinds .entry)) in
         ⌜ (now («answer_kinds» .exit) ≡ filled (λ i. heard i .kind) n (now («answer_kinds» .entry)))
         × (now («answer_channels» .exit) ≡ filled (λ i. heard i .channel) n (now («answer_channels» .entry)))
@@ -122,24 +134,20 @@ fn play_all(
         × (now («answer_stopped» .exit) ≡ filled (λ i. heard i .stopped) n (now («answer_stopped» .entry)))
         × (now («answer_detunings» .exit) ≡ filled (λ i. heard i .detuning) n (now («answer_detunings» .entry))) ⌝ }
 {
-    let mut model = first;
     let n = kinds.len();
     let mut i: usize = 0;
     while i < n {
-        let played = play(
-            model,
+        let answer = play(
+            cells,
             byte_at(kinds, i),
             byte_at(keys, i),
             float_at(pitches, i),
         );
-        let answer = played.answer;
         put_byte(answer_kinds, i, answer.kind);
         put_byte(answer_channels, i, answer.channel);
         put_number(answer_notes, i, answer.note);
         put_number(answer_stopped, i, answer.stopped);
         put_float(answer_detunings, i, answer.detuning);
-        let next = played.model;
-        model = next;
         i += 1;
     }
 }
@@ -165,39 +173,19 @@ pub(crate) fn mode_of(mode: u8) -> PoolingMode
     PoolingMode::Ignore
 }
 
-fn play(model: JitTuningModel, kind: u8, key: u8, hz: f64) -> Played
-    ensures { λ r. ⌜ playedOf r ≡ happens kind (view model) key hz ⌝ }
+fn play(cells: &mut [u16; CELLS], kind: u8, key: u8, hz: f64) -> Answer
+    ensures { λ r. ⌜ _≡_ {A = Answer × State} (r, stateOf (now (cells .exit))) (happens kind (stateOf (now (cells .entry))) key hz) ⌝ }
 {
     if kind == PRESS {
-        let registered = model.register_key(key, Pitch::from_hz(hz));
-        let result = registered.result;
-        let next = registered.model;
-        return Played {
-            model: next,
-            answer: press_answer(result),
-        };
+        return press_answer(register_key(cells, key, Pitch::from_hz(hz)));
     }
     if kind == RELEASE {
-        let deregistered = model.deregister_key(key);
-        let result = deregistered.result;
-        let next = deregistered.model;
-        return Played {
-            model: next,
-            answer: place_answer(result),
-        };
+        return place_answer(deregister_key(cells, key));
     }
     if kind == REPITCH {
-        let result = model.repitch_key(key, Pitch::from_hz(hz));
-        return Played {
-            model,
-            answer: repitch_answer(result),
-        };
+        return repitch_answer(repitch_key(cells, key, Pitch::from_hz(hz)));
     }
-    let result = model.access_key(key);
-    Played {
-        model,
-        answer: place_answer(result),
-    }
+    place_answer(access_key(cells, key))
 }
 
 fn press_answer(result: RegisterKeyResult) -> Answer

@@ -1,8 +1,17 @@
 // Replays document 01's examples 11 and 12, every pooling mode, letter pools, zero channels and the refusals, and writes what it found.
 
 use arithmetic::pitch::Pitch;
+use models::block::access_key;
+use models::block::allocate_key;
+use models::block::deregister_all;
+use models::block::deregister_key;
+use models::block::register_key;
+use models::block::register_note;
+use models::cells::CELLS;
+use models::channels::ChannelList;
 use models::channels::ChannelsAnswer;
 use models::channels::EntryAnswer;
+use models::channels::present;
 use models::jit::JitTuningModel;
 use models::jit::PoolGroupBy;
 use models::jit::PoolingMode;
@@ -11,6 +20,7 @@ use models::jit::RepitchKeyResult;
 use models::jit::StoppedNote;
 use models::keys::AccessKeyResult;
 use models::keys::NextKey;
+use models::steps::TuningKind;
 
 fn place(channel: u8, note: i32) {
     show::word(b": channel");
@@ -59,6 +69,11 @@ fn press(model: JitTuningModel, key: u8, hz: f64) -> JitTuningModel {
     action(b"  press", key);
     let registered = model.register_key(key, Pitch::from_hz(hz));
     let result = registered.result;
+    pressed(result);
+    registered.model
+}
+
+fn pressed(result: RegisterKeyResult) {
     match result {
         RegisterKeyResult::Accepted {
             channel,
@@ -74,7 +89,6 @@ fn press(model: JitTuningModel, key: u8, hz: f64) -> JitTuningModel {
         RegisterKeyResult::Refused(n) => refused(n),
     }
     show::word(b"\n");
-    registered.model
 }
 
 fn release(model: JitTuningModel, key: u8) -> JitTuningModel {
@@ -110,16 +124,21 @@ fn repitch(model: JitTuningModel, key: u8, hz: f64) {
     show::word(b"\n");
 }
 
+fn found(what: &[u8], key: u16) {
+    show::word(what);
+    show::number(key as u64);
+}
+
 // The first two found keys, and the model after all are released.
 fn stop(model: JitTuningModel) -> JitTuningModel {
     show::word(b"  found");
     match model.next_key(0) {
         NextKey::Held { key, channel, note } => {
-            action(b"", key);
+            found(b"", key);
             place(channel, note);
             match model.next_key(key as usize + 1) {
                 NextKey::Held { key, channel, note } => {
-                    action(b";", key);
+                    found(b";", key);
                     place(channel, note);
                 }
                 NextKey::NoMore => show::word(b"; no more"),
@@ -254,24 +273,54 @@ fn refusals() {
     look(model, 1);
 }
 
-// What a press and a release tell, done to the model, then again, and to another.
-fn changes() {
-    let model = open(b"changes", &[0, 1], PoolGroupBy::Channel, PoolingMode::Stop);
-    let pressing = model.press(1, Pitch::from_hz(440.0));
-    let pressed = pressing.change;
-    let once = model.changed(pressed);
-    look(once, 1);
-    let twice = once.changed(pressed);
-    let twice = press(twice, 2, 450.0);
-    let releasing = twice.release(1);
-    let released = releasing.change;
-    let free = twice.changed(released).changed(released);
-    look(free, 1);
-    let free = press(free, 3, 460.0);
-    let stolen = free.changed(pressed);
-    look(stolen, 1);
-    look(stolen, 2);
-    press(stolen, 4, 470.0);
+fn look_in(cells: &[u16; CELLS], key: u8) {
+    action(b"  lookup", key);
+    access(access_key(cells, key));
+    show::word(b"\n");
+}
+
+// The same in a block that is held here: what a press would answer changes nothing, and a press for its note is that press. Then a block of no sense.
+fn in_place() {
+    show::word(b"in place\n");
+    let list = present(ChannelList::of(&[0, 1]));
+    let mut cells = [0u16; CELLS];
+    models::block::open(
+        &mut cells,
+        list,
+        PoolGroupBy::Channel,
+        PoolingMode::Stop,
+        TuningKind::FineTuning,
+    );
+    action(b"  would press", 1);
+    pressed(allocate_key(&cells, 1, Pitch::from_hz(440.0)));
+    look_in(&cells, 1);
+    action(b"  press", 1);
+    pressed(register_note(&mut cells, 1, 69, 1.0));
+    look_in(&cells, 1);
+    action(b"  would press", 1);
+    pressed(allocate_key(&cells, 1, Pitch::from_hz(440.0)));
+    action(b"  press", 1);
+    pressed(register_note(&mut cells, 1, 69, 1.0));
+    action(b"  press", 2);
+    pressed(register_note(&mut cells, 2, 501, 1.0));
+    action(b"  press", 2);
+    pressed(register_key(&mut cells, 2, Pitch::from_hz(450.0)));
+    action(b"  would press", 3);
+    pressed(allocate_key(&cells, 3, Pitch::from_hz(460.0)));
+    action(b"  press", 3);
+    pressed(register_key(&mut cells, 3, Pitch::from_hz(460.0)));
+    look_in(&cells, 1);
+    action(b"  release", 2);
+    access(deregister_key(&mut cells, 2));
+    show::word(b"\n");
+    deregister_all(&mut cells);
+    look_in(&cells, 3);
+    let mut noise = [65535u16; CELLS];
+    look_in(&noise, 255);
+    action(b"  press", 255);
+    pressed(register_key(&mut noise, 255, Pitch::from_hz(440.0)));
+    deregister_all(&mut noise);
+    look_in(&noise, 255);
 }
 
 fn main() {
@@ -281,5 +330,5 @@ fn main() {
     letters();
     no_channels();
     refusals();
-    changes();
+    in_place();
 }

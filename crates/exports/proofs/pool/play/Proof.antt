@@ -1,10 +1,12 @@
 -- `pool::play` meets its contract, by the kind of the event. Assumes nothing.
-use mathlib.Core.Path.{ap, _∙_}
+use mathlib.Core.Path.{_≡_, ap, sym, _∙_}
 use borrow.Author.Tests.{eq-eqb, ne-eqb}
 use lib.Ieee.{Float}
-use Rattle.models.specs.Pool.{replied, registerRule}
-use Rattle.models.specs.JitModel.{view, told}
-use Rattle.exports.specs.Events.{happens, playedOf, pressAnswer}
+use Rattle.models.specs.Outcome.{Outcome}
+use Rattle.models.specs.Pool.{Press, State, replied, registerRule}
+use Rattle.models.specs.Block.{stateOf}
+use Rattle.models.proofs.Blocks.{moves-state}
+use Rattle.exports.specs.Events.{happens, pressAnswer}
 use borrow.Author.Needs.{needs}
 use Rattle.exports.proofs.pool.play.Statement.{statement}
 use Rattle.exports.proofs.pool.play.Tie as tie
@@ -19,11 +21,17 @@ press-answer-requires : tie.Need-press-answer-requires
 press-answer-requires c κs = search needs
 
 returns : tie.Need-returns
-unfolding happens playedOf told
+unfolding happens
 returns c =
-    let s = c .before .before .before .before .before .args in
-    let e = c .before .before .register-key .ensures ∙ ap (λ (hz : Float). replied (view (s .model)) (registerRule (view (s .model)) (s .key) hz)) (c .before .before .before .from-hz .ensures) in
-    rw (eq-eqb _ _ (c .before .before .before .before .if1 .taken), c .press-answer .ensures) (ap (λ r. (pressAnswer (r .0), r .1)) e)
+    let a = c .before .before .before .before .before .args in
+    let l = a .cells .now in
+    let s = stateOf l in
+    let call = c .before .register-key in
+    let rule = registerRule s (a .key) (c .before .before .from-hz .result .hz) in
+    rw (eq-eqb _ _ (c .before .before .before .before .if1 .taken), c .press-answer .ensures)
+    (ap (λ (o : Outcome Press). (pressAnswer o, stateOf (call .last .0))) (call .ensures .0)
+    ∙ ap (λ (t : State). (pressAnswer (replied s rule .0), t)) (moves-state rule l (call .last .0) (call .ensures .1))
+    ∙ ap (λ (hz : Float). (pressAnswer (replied s (registerRule s (a .key) hz) .0), replied s (registerRule s (a .key) hz) .1)) (c .before .before .from-hz .ensures))
 
 deregister-key-requires : tie.Need-deregister-key-requires
 deregister-key-requires c κs = search needs
@@ -32,9 +40,9 @@ place-answer-requires : tie.Need-place-answer-requires
 place-answer-requires c κs = search needs
 
 returns-2 : tie.Need-returns-2
-unfolding happens playedOf
+unfolding happens
 returns-2 c =
-    let e = c .before .before .deregister-key .ensures in
+    let e = c .before .deregister-key .ensures in
     rw (ne-eqb _ _ (c .before .before .before .before .if1 .left), eq-eqb _ _ (c .before .before .before .if2 .taken), c .place-answer .ensures, e .0, e .1)
 
 from-hz-requires-2 : tie.Need-from-hz-requires-2
@@ -47,9 +55,9 @@ repitch-answer-requires : tie.Need-repitch-answer-requires
 repitch-answer-requires c κs = search needs
 
 returns-3 : tie.Need-returns-3
-unfolding happens playedOf
+unfolding happens
 returns-3 c =
-    rw (ne-eqb _ _ (c .before .before .before .before .before .if1 .left), ne-eqb _ _ (c .before .before .before .before .if2 .left), eq-eqb _ _ (c .before .before .before .if3 .taken), c .repitch-answer .ensures, c .before .repitch-key .ensures, c .before .before .from-hz2 .ensures)
+    rw (ne-eqb _ _ (c .before .before .before .before .before .before .if1 .left), ne-eqb _ _ (c .before .before .before .before .before .if2 .left), eq-eqb _ _ (c .before .before .before .before .if3 .taken), c .repitch-answer .ensures, c .before .repitch-key .ensures, c .before .before .from-hz2 .ensures)
 
 access-key-requires : tie.Need-access-key-requires
 access-key-requires c κs = search needs
@@ -58,9 +66,9 @@ place-answer-requires-2 : tie.Need-place-answer-requires-2
 place-answer-requires-2 c κs = search needs
 
 returns-4 : tie.Need-returns-4
-unfolding happens playedOf
+unfolding happens
 returns-4 c =
-    rw (ne-eqb _ _ (c .before .before .before .before .if1 .left), ne-eqb _ _ (c .before .before .before .if2 .left), ne-eqb _ _ (c .before .before .if3 .left), c .place-answer2 .ensures, c .before .access-key .ensures)
+    rw (ne-eqb _ _ (c .before .before .before .before .before .if1 .left), ne-eqb _ _ (c .before .before .before .before .if2 .left), ne-eqb _ _ (c .before .before .before .if3 .left), c .place-answer2 .ensures, c .before .access-key .ensures)
 
 pub play-spec : {M : Type 1} → statement M
 play-spec =

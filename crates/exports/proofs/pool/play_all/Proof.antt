@@ -8,25 +8,30 @@ use native.Mathlib.Omega.{arith}
 use mir.Facts.{toZ-ofZ}
 use mir.Syntax.{w32}
 use Rattle.exports.specs.Lent.{filled}
-use Rattle.models.specs.JitModel.{view}
+use Rattle.models.specs.Block.{stateOf}
 use Rattle.models.specs.Pool.{State}
-use Rattle.exports.specs.Events.{Events, eventIn, answerTo, stateBefore, playedOf}
+use Rattle.exports.specs.Events.{Events, eventIn, answerTo, stateBefore}
 use Rattle.exports.proofs.Filled.{filled-turn, filled-all, length-filled}
 use Rattle.exports.proofs.pool.play_all.Statement.{statement}
 use Rattle.exports.proofs.pool.play_all.Tie as tie
 
+-- the state after an event is the state before the next one
+state-turn : (s : State) (es : Events) (i : ℕ) (t : State) → t ≡ eventIn es i (stateBefore s es i) .1 → t ≡ stateBefore s es (i + 1)
+unfolding stateBefore
+state-turn s es i t e = e ∙ rw (add-one i)
+
 abbrev Inv-loop : tie.InvT-loop
-Inv-loop kinds keys pitches answer-kinds₀ answer-channels₀ answer-notes₀ answer-stopped₀ answer-detunings₀ model₀ n i₀ answer-kinds answer-channels answer-notes answer-stopped answer-detunings model i =
+Inv-loop cells₀ kinds keys pitches answer-kinds₀ answer-channels₀ answer-notes₀ answer-stopped₀ answer-detunings₀ n i₀ cells answer-kinds answer-channels answer-notes answer-stopped answer-detunings i =
     (i ≤ n)
-    × (view model ≡ stateBefore (view model₀) (record { kinds = kinds; keys = keys; pitches = pitches }) i)
-    × (answer-kinds ≡ filled (λ k. answerTo (view model₀) (record { kinds = kinds; keys = keys; pitches = pitches }) k .kind) i answer-kinds₀)
-    × (answer-channels ≡ filled (λ k. answerTo (view model₀) (record { kinds = kinds; keys = keys; pitches = pitches }) k .channel) i answer-channels₀)
-    × (answer-notes ≡ filled (λ k. answerTo (view model₀) (record { kinds = kinds; keys = keys; pitches = pitches }) k .note) i answer-notes₀)
-    × (answer-stopped ≡ filled (λ k. answerTo (view model₀) (record { kinds = kinds; keys = keys; pitches = pitches }) k .stopped) i answer-stopped₀)
-    × (answer-detunings ≡ filled (λ k. answerTo (view model₀) (record { kinds = kinds; keys = keys; pitches = pitches }) k .detuning) i answer-detunings₀)
+    × (stateOf cells ≡ stateBefore (stateOf cells₀) (record { kinds = kinds; keys = keys; pitches = pitches }) i)
+    × (answer-kinds ≡ filled (λ k. answerTo (stateOf cells₀) (record { kinds = kinds; keys = keys; pitches = pitches }) k .kind) i answer-kinds₀)
+    × (answer-channels ≡ filled (λ k. answerTo (stateOf cells₀) (record { kinds = kinds; keys = keys; pitches = pitches }) k .channel) i answer-channels₀)
+    × (answer-notes ≡ filled (λ k. answerTo (stateOf cells₀) (record { kinds = kinds; keys = keys; pitches = pitches }) k .note) i answer-notes₀)
+    × (answer-stopped ≡ filled (λ k. answerTo (stateOf cells₀) (record { kinds = kinds; keys = keys; pitches = pitches }) k .stopped) i answer-stopped₀)
+    × (answer-detunings ≡ filled (λ k. answerTo (stateOf cells₀) (record { kinds = kinds; keys = keys; pitches = pitches }) k .detuning) i answer-detunings₀)
 
 abbrev μ-loop : tie.MeasureT-loop
-μ-loop kinds keys pitches answer-kinds₀ answer-channels₀ answer-notes₀ answer-stopped₀ answer-detunings₀ model₀ n i₀ answer-kinds answer-channels answer-notes answer-stopped answer-detunings model i = n - i
+μ-loop cells₀ kinds keys pitches answer-kinds₀ answer-channels₀ answer-notes₀ answer-stopped₀ answer-detunings₀ n i₀ cells answer-kinds answer-channels answer-notes answer-stopped answer-detunings i = n - i
 
 loop-holds : tie.Need-loop-holds Inv-loop μ-loop
 unfolding filled stateBefore
@@ -60,41 +65,35 @@ put-float-requires : tie.Need-put-float-requires Inv-loop μ-loop
 put-float-requires c κs = search needs
 
 add-i : tie.Need-add-i Inv-loop μ-loop
-add-i c = omega (arith, c .before .before .before .before .before .before .before .before .before .before .before .before .before .before .before .before .before .before .before .before .before .before .before .before .before .before .loop-test .taken, c .before .before .before .before .before .before .before .before .before .before .before .before .before .before .before .before .before .before .before .before .before .before .before .before .before .before .before .before .before .before .before .before .before .before .good .1 .0 .0)
+add-i c = omega (arith, c .before .before .before .before .before .before .before .before .before .before .before .before .before .before .before .before .before .before .before .before .before .before .before .before .before .loop-test .taken, c .before .before .before .before .before .before .before .before .before .before .before .before .before .before .before .before .before .before .before .before .before .before .before .before .before .before .before .before .before .before .before .before .before .good .1 .0 .0)
 
 loop-less : tie.Need-loop-less Inv-loop μ-loop
-loop-less c = omega (arith, c .before .before .before .before .before .before .before .before .before .before .before .before .before .before .before .before .before .before .before .before .before .before .before .before .before .before .loop-test .taken)
-
--- the state after an event is the state before the next one
-state-turn : (s : State) (es : Events) (i : ℕ) (t : State) → t ≡ eventIn es i (stateBefore s es i) .1 → t ≡ stateBefore s es (i + 1)
-unfolding stateBefore
-state-turn s es i t e = e ∙ rw (add-one i)
+loop-less c = omega (arith, c .before .before .before .before .before .before .before .before .before .before .before .before .before .before .before .before .before .before .before .before .before .before .before .before .before .loop-test .taken)
 
 -- the event that a turn plays
-played : (c : tie.After-next Inv-loop μ-loop)
-    → let start = c .before .before .before .before .before .before .before .before .before .before .before .before .before .before .before .before .before .before .before .before .before .before .before .before .before .before .before .before .before .before .before .before .before .before in
+played : (c : tie.After-slice-known6 Inv-loop μ-loop)
+    → let start = c .before .before .before .before .before .before .before .before .before .before .before .before .before .before .before .before .before .before .before .before .before .before .before .before .before .before .before .before .before .before .before .before .before in
     let es : Events = record { kinds = start .args .kinds .now; keys = start .args .keys .now; pitches = start .args .pitches .now } in
-    let i = c .before .before .before .before .before .before .before .before .before .before .before .before .before .before .before .before .before .before .before .before .before .before .before .before .before .before .before .loop .i in
-    (c .before .before .before .before .before .before .before .before .before .before .before .before .before .before .before .before .before .before .before .before .before .before .play .result .answer, view (c .before .before .before .before .before .before .before .before .before .before .before .before .before .before .before .before .before .before .before .before .before .before .play .result .model)) ≡ eventIn es i (stateBefore (view (c .before .before .before .before .before .before .before .before .before .before .before .before .before .before .before .before .before .before .before .before .before .before .before .before .before .before .before .before .before .before .before .before .before .before .args .first)) es i)
-unfolding playedOf
-played c = c .before .before .before .before .before .before .before .before .before .before .before .before .before .before .before .before .before .before .before .before .before .before .play .ensures
-    ∙ rw (c .before .before .before .before .before .before .before .before .before .before .before .before .before .before .before .before .before .before .before .before .before .before .before .before .before .byte-at .ensures, c .before .before .before .before .before .before .before .before .before .before .before .before .before .before .before .before .before .before .before .before .before .before .before .before .byte-at2 .ensures, c .before .before .before .before .before .before .before .before .before .before .before .before .before .before .before .before .before .before .before .before .before .before .before .float-at .ensures, c .before .before .before .before .before .before .before .before .before .before .before .before .before .before .before .before .before .before .before .before .before .before .before .before .before .before .before .loop .inv .1)
+    let i = c .before .before .before .before .before .before .before .before .before .before .before .before .before .before .before .before .before .before .before .before .before .before .before .before .before .before .loop .i in
+    (c .before .before .before .before .before .before .before .before .before .before .before .before .before .before .before .before .before .before .before .before .play .result, stateOf (c .before .before .before .before .before .before .before .before .before .before .before .before .before .before .before .before .before .before .before .before .play .last .0)) ≡ eventIn es i (stateBefore (stateOf (start .args .cells .now)) es i)
+played c =
+    c .before .before .before .before .before .before .before .before .before .before .before .before .before .before .before .before .before .before .before .before .play .ensures ∙ rw (c .before .before .before .before .before .before .before .before .before .before .before .before .before .before .before .before .before .before .before .before .before .before .before .byte-at .ensures, c .before .before .before .before .before .before .before .before .before .before .before .before .before .before .before .before .before .before .before .before .before .before .byte-at2 .ensures, c .before .before .before .before .before .before .before .before .before .before .before .before .before .before .before .before .before .before .before .before .before .float-at .ensures, c .before .before .before .before .before .before .before .before .before .before .before .before .before .before .before .before .before .before .before .before .before .before .before .before .before .before .loop .inv .1)
 
 loop-again : tie.Need-loop-again Inv-loop μ-loop
 loop-again c =
-    let start = c .before .before .before .before .before .before .before .before .before .before .before .before .before .before .before .before .before .before .before .before .before .before .before .before .before .before .before .before .before .before .before .before .before .before in
+    let start = c .before .before .before .before .before .before .before .before .before .before .before .before .before .before .before .before .before .before .before .before .before .before .before .before .before .before .before .before .before .before .before .before .before in
     let es : Events = record { kinds = start .args .kinds .now; keys = start .args .keys .now; pitches = start .args .pitches .now } in
-    let s = view (c .before .before .before .before .before .before .before .before .before .before .before .before .before .before .before .before .before .before .before .before .before .before .before .before .before .before .before .before .before .before .before .before .before .before .args .first) in
-    let i = c .before .before .before .before .before .before .before .before .before .before .before .before .before .before .before .before .before .before .before .before .before .before .before .before .before .before .before .loop .i in
-    let inv = c .before .before .before .before .before .before .before .before .before .before .before .before .before .before .before .before .before .before .before .before .before .before .before .before .before .before .before .loop .inv in
+    let s = stateOf (start .args .cells .now) in
+    let i = c .before .before .before .before .before .before .before .before .before .before .before .before .before .before .before .before .before .before .before .before .before .before .before .before .before .before .loop .i in
+    let inv = c .before .before .before .before .before .before .before .before .before .before .before .before .before .before .before .before .before .before .before .before .before .before .before .before .before .before .loop .inv in
     let told = played c in (
-      omega (arith, c .before .before .before .before .before .before .before .before .before .before .before .before .before .before .before .before .before .before .before .before .before .before .before .before .before .before .loop-test .taken),
+      omega (arith, c .before .before .before .before .before .before .before .before .before .before .before .before .before .before .before .before .before .before .before .before .before .before .before .before .before .loop-test .taken),
       state-turn s es i _ (ap (λ r. r .1) told),
-      filled-turn (λ k. answerTo s es k .kind) (start .args .answer-kinds .now) i _ _ _ (c .before .before .before .before .before .before .before .before .before .before .before .before .before .before .before .before .before .before .before .put-byte .ensures) (inv .2) (ap (λ r. r .0 .kind) told),
-      filled-turn (λ k. answerTo s es k .channel) (start .args .answer-channels .now) i _ _ _ (c .before .before .before .before .before .before .before .before .before .before .before .before .before .before .before .put-byte2 .ensures) (inv .3) (ap (λ r. r .0 .channel) told),
-      filled-turn (λ k. answerTo s es k .note) (start .args .answer-notes .now) i _ _ _ (c .before .before .before .before .before .before .before .before .before .before .put-number .ensures) (inv .4) (toZ-ofZ {w = w32} {z = c .before .before .before .before .before .before .before .before .before .before .before .before .before .before .before .before .before .before .before .before .before .before .play .result .answer .note} (record { sfits = c .before .before .before .before .before .before .before .before .before .before .before .struct-told .given .1 .1 .0 .1 }) ∙ ap (λ r. r .0 .note) told),
-      filled-turn (λ k. answerTo s es k .stopped) (start .args .answer-stopped .now) i _ _ _ (c .before .before .before .before .before .before .put-number2 .ensures) (inv .5) (toZ-ofZ {w = w32} {z = c .before .before .before .before .before .before .before .before .before .before .before .before .before .before .before .before .before .before .before .before .before .before .play .result .answer .stopped} (record { sfits = c .before .before .before .before .before .before .before .struct-told2 .given .1 .1 .1 .0 .1 }) ∙ ap (λ r. r .0 .stopped) told),
-      filled-turn (λ k. answerTo s es k .detuning) (start .args .answer-detunings .now) i _ _ _ (c .before .before .before .put-float .ensures) (inv .6) (ap (λ r. r .0 .detuning) told),
+      filled-turn (λ k. answerTo s es k .kind) (start .args .answer-kinds .now) i _ _ _ (c .before .before .before .before .before .before .before .before .before .before .before .before .before .before .before .before .before .before .put-byte .ensures) (inv .2) (ap (λ r. r .0 .kind) told),
+      filled-turn (λ k. answerTo s es k .channel) (start .args .answer-channels .now) i _ _ _ (c .before .before .before .before .before .before .before .before .before .before .before .before .before .before .put-byte2 .ensures) (inv .3) (ap (λ r. r .0 .channel) told),
+      filled-turn (λ k. answerTo s es k .note) (start .args .answer-notes .now) i _ _ _ (c .before .before .before .before .before .before .before .before .before .put-number .ensures) (inv .4) (toZ-ofZ {w = w32} {z = c .before .before .before .before .before .before .before .before .before .before .before .before .before .before .before .before .before .before .before .before .play .result .note} (record { sfits = c .before .before .before .before .before .before .before .before .before .before .struct-told .given .1 .1 .0 .1 }) ∙ ap (λ r. r .0 .note) told),
+      filled-turn (λ k. answerTo s es k .stopped) (start .args .answer-stopped .now) i _ _ _ (c .before .before .before .before .before .put-number2 .ensures) (inv .5) (toZ-ofZ {w = w32} {z = c .before .before .before .before .before .before .before .before .before .before .before .before .before .before .before .before .before .before .before .before .play .result .stopped} (record { sfits = c .before .before .before .before .before .before .struct-told2 .given .1 .1 .1 .0 .1 }) ∙ ap (λ r. r .0 .stopped) told),
+      filled-turn (λ k. answerTo s es k .detuning) (start .args .answer-detunings .now) i _ _ _ (c .before .before .put-float .ensures) (inv .6) (ap (λ r. r .0 .detuning) told),
     )
 
 same-length : tie.Need-same-length Inv-loop μ-loop
@@ -118,7 +117,7 @@ returns c =
     let es : Events = record { kinds = start .kinds .now; keys = start .keys .now; pitches = start .pitches .now } in
     let l = c .before .loop in
     let all : l .i ≡ length (es .kinds) = omega (arith, c .loop-test .left, l .inv .0) in
-    let s = view (start .first) in (
+    let s = stateOf (start .cells .now) in (
       filled-all (λ k. answerTo s es k .kind) (start .answer-kinds .now) _ _ _ (l .inv .2) all,
       filled-all (λ k. answerTo s es k .channel) (start .answer-channels .now) _ _ _ (l .inv .3) all,
       filled-all (λ k. answerTo s es k .note) (start .answer-notes .now) _ _ _ (l .inv .4) all,
