@@ -5,9 +5,11 @@ use mathlib.Core.Path.{_≡_, refl, ap}
 use mathlib.Core.Bool.{true, false, not}
 use mathlib.Core.List.{List, []}
 use mathlib.Core.Logic.{_⊎_, _↔_}
+use lib.IntN.{ℤ}
 use lib.Ieee.{Float}
-use Rattle.arithmetic.specs.Refusal.{pitchOutOfRange, keyHeld}
+use Rattle.arithmetic.specs.Refusal.{pitchOutOfRange, noteOutOfRange, keyHeld}
 use Rattle.arithmetic.specs.Outcome.{Outcome, value, refused}
+use Rattle.arithmetic.specs.Note.{isNote}
 use Rattle.arithmetic.specs.Pitch.{isPitch, detuningOf}
 use Rattle.arithmetic.specs.Nearest.{nearestNote}
 use Rattle.arithmetic.proofs.Outcomes.{no-value, refuses-once, refuses-twice}
@@ -15,6 +17,7 @@ use Rattle.models.specs.declared.jit.PoolGroupBy.{PoolGroupBy}
 use Rattle.models.specs.declared.jit.PoolingMode.{PoolingMode}
 use Rattle.models.specs.ChannelList.{present}
 use Rattle.models.specs.Pool.{State, found, fresh, openRule, pressed, isHeld, unlessHeld, registerRule, replied, tuning, repitchRule}
+use Rattle.models.specs.Block.{registerNoteRule}
 use Rattle.models.proofs.ChannelLists.{Offence}
 use Rattle.theorems.proofs.ChannelLists.{refused-offence, refused-numbers}
 
@@ -34,6 +37,13 @@ pub register-refused : (s : State) (key : ℕ) (hz : Float) (n : ℕ)
 unfolding registerRule unlessHeld
 register-refused s key hz n =
     refuses-twice pitchOutOfRange keyHeld n (isPitch hz) (not (isHeld (found s key))) (pressed s key (nearestNote hz) (detuningOf hz (nearestNote hz)))
+
+-- a press for a note, in place: 4, then 11
+pub register-note-refused : (s : State) (key : ℕ) (note : ℤ) (d : Float) (n : ℕ)
+    → (registerNoteRule s key note d ≡ refused n)
+    ↔ (((isNote note ≡ false) × (n ≡ noteOutOfRange)) ⊎ ((isNote note ≡ true) × ((not (isHeld (found s key)) ≡ false) × (n ≡ keyHeld))))
+unfolding registerNoteRule unlessHeld
+register-note-refused s key note d n = refuses-twice noteOutOfRange keyHeld n (isNote note) (not (isHeld (found s key))) (pressed s key note d)
 
 -- A refusal hands the state back as it was.
 pub refused-keeps : {A : Type 0} (s : State) (o : Outcome (A × State)) (n : ℕ) → replied s o .0 ≡ refused n → replied s o .1 ≡ s
