@@ -9,7 +9,7 @@ use lib.Dec.{lit<}
 use lib.Pow.{pow-add}
 use lib.IntN.{ℤ, pos, negsuc, natAbs, _+ℤ_, _-ℤ_, _*ℤ_}
 use lib.Signed.{_≤ℤ_}
-use lib.Ieee.{Float, nan, binary64, mul, round, up, down}
+use lib.Ieee.{Float, nan, binary64, mul, up, down}
 use lib.Ieee.Fits.{down-pos}
 use lib.Ieee.Scale.{round-same}
 use mir.Syntax.{w32}
@@ -28,16 +28,6 @@ use Rattle.arithmetic.proofs.Notes.{bounds}
 pub above-fits : (z : ℤ) → isNote z ≡ true → SFits w32 (z -ℤ a4)
 above-fits z e =
     fits-by w32 (z -ℤ a4) (plus z) (less z + 69) (omega (arith, sub-parts-ℤ z a4)) (omega (arith, bounds z e)) (omega (arith, bounds z e))
-
-quotient-parts : (y : ℤ) → plus y ≤ less y + 431 → less y ≤ plus y + 369 → (plus (quotient y 12) ≤ 35) × (less (quotient y 12) ≤ 31)
-quotient-parts (pos n) h k = omega arith
-quotient-parts (negsuc n) h k = omega arith
-
-pub octave-range : (z : ℤ) → isNote z ≡ true → (negsuc 30 ≤ℤ quotient (z -ℤ a4) 12) × (quotient (z -ℤ a4) 12 ≤ℤ pos 35)
-octave-range z e =
-    let b = bounds z e in
-    let q = quotient-parts (z -ℤ a4) (omega (arith, sub-parts-ℤ z a4)) (omega (arith, sub-parts-ℤ z a4)) in
-    between-parts 35 30 (quotient (z -ℤ a4) 12) (q .0) (q .1)
 
 pub record Place (j : ℤ) (i : ℕ) : Type 0 where
   pub raised : j +ℤ pos 31 ≡ pos i

@@ -1,7 +1,5 @@
 -- `tuning::Place::pitch` meets its contract: the octaves of a note lie in the table. Assumes nothing.
 use mathlib.Core.Path.{_≡_, ap, _∙_}
-use Prim.Native.Nat.{ℕ}
-use lib.IntN.{ℤ}
 use mir.Syntax.{w32}
 use mir.Val.{toZ, ofZ}
 use mir.ValLaws.{toZ-ofZ}
