@@ -3,8 +3,9 @@
 use mathlib.Core.Path.{_≡_, refl}
 use mathlib.Core.Bool.{Bool, true, false, cond, _&&_}
 use mathlib.Core.List.{List}
-use Prim.Native.Nat.{ℕ, zero, suc, _+_, _-_, _*_, _/_, _%_, _^_, _≤_, _<_}
+use Prim.Native.Nat.{ℕ, zero, suc, _+_, _-_, _*_, _/_, _%_, _^_, _≤_, _<_, min}
 use native.Mathlib.Nat.{mul-le-mul}
+use native.Mathlib.Decide.{decLe}
 use native.Mathlib.Omega.{arith}
 use borrow.Author.Tests.{leb-true, leb-false}
 use lib.Dec.{T, leb, leb→le}
@@ -64,25 +65,41 @@ module _ (ts : List ℕ) (ok : T (all (boundary ts) 12)) (y : ℕ) (u : y < 2 ^ 
   here : T (boundary ts i)
   here = all-at (boundary ts) 12 i ok h
 
-  pub passed : t ≤ y → suc i ≤ within y
+  small : t ≤ 2 ^ 32
+  small = leb→le t (2 ^ 32) (and-r (leb (within (t - 1)) i) (leb t (2 ^ 32)) (and-r (leb (suc i) (within t)) _ here))
+
+  passed : t ≤ y → suc i ≤ within y
   passed l = omega (arith, leb→le (suc i) (within t) (and-l (leb (suc i) (within t)) _ here), within-mono t y l u)
 
-  pub not-passed : y < t → within y ≤ i
+  not-passed : y < t → within y ≤ i
   not-passed l =
       let rest = and-r (leb (suc i) (within t)) _ here in
-      let small = leb→le t (2 ^ 32) (and-r (leb (within (t - 1)) i) (leb t (2 ^ 32)) rest) in
-      omega (arith, leb→le (within (t - 1)) i (and-l (leb (within (t - 1)) i) (leb t (2 ^ 32)) rest), within-mono y (t - 1) (omega arith) (omega arith))
+      omega (arith, small, leb→le (within (t - 1)) i (and-l (leb (within (t - 1)) i) (leb t (2 ^ 32)) rest), within-mono y (t - 1) (omega arith) (omega (arith, small)))
+
+  -- the quotient that says whether entry i is passed, and the count of those before it
+  pub counted : (t ≤ 2 ^ 33) × ((y + (2 ^ 33 - t)) / 2 ^ 33 ≤ 1) × (min i (within y) + (y + (2 ^ 33 - t)) / 2 ^ 33 ≡ min (i + 1) (within y))
+  counted = go (decLe t y)
+    where
+      go : Dec (t ≤ y) → (t ≤ 2 ^ 33) × ((y + (2 ^ 33 - t)) / 2 ^ 33 ≤ 1) × (min i (within y) + (y + (2 ^ 33 - t)) / 2 ^ 33 ≡ min (i + 1) (within y))
+      go (yes l) =
+          let q : (y + (2 ^ 33 - t)) / 2 ^ 33 ≡ 1 = omega (arith, small) in
+          (omega (arith, small), omega arith, rw q (omega (arith, passed l)))
+      go (no n) =
+          let l : y < t = omega arith in
+          let q : (y + (2 ^ 33 - t)) / 2 ^ 33 ≡ 0 = omega (arith, small) in
+          (omega (arith, small), omega arith, rw q (omega (arith, not-passed l)))
 
 -- ---- octaves and what is within one
 
-pub split : (o y : ℕ) → semitones (pos (o * 2 ^ 24 + digits 24 y) -ℤ pos (1074 * 2 ^ 24)) ≡ pos (o * 12 + within y) -ℤ pos (1074 * 12)
+pub split : (o y : ℕ) → semitones (pos (o * 2 ^ 24 + digits 24 y) -ℤ pos (1074 * 2 ^ 24)) ≡ (pos o -ℤ pos 1074) *ℤ pos 12 +ℤ pos (within y)
 unfolding semitones within
 split o y =
     let D = digits 24 y in
     let w = (D * 12 + 8388318) / 2 ^ 24 in
     let r = (D * 12 + 8388318) % 2 ^ 24 in
     let a = pos (o * 2 ^ 24 + D) -ℤ pos (1074 * 2 ^ 24) in
-    let q = pos (o * 12 + w) -ℤ pos (1074 * 12) in
+    let j = pos o -ℤ pos 1074 in
+    let q = j *ℤ pos 12 +ℤ pos w in
     division-unique (a *ℤ pos 12 +ℤ pos 8388608 -ℤ pos 290) q (2 ^ 24) r (omega arith)
     (same (q *ℤ pos (2 ^ 24) +ℤ pos r) (a *ℤ pos 12 +ℤ pos 8388608 -ℤ pos 290)
     (omega (
@@ -91,7 +108,9 @@ split o y =
       mul-parts a 12,
       add-parts (a *ℤ pos 12) (pos 8388608),
       add-parts (a *ℤ pos 12 +ℤ pos 8388608) (negsuc 289),
-      add-parts (pos (o * 12 + w)) (negsuc 12887),
+      add-parts (pos o) (negsuc 1073),
+      mul-parts j 12,
+      add-parts (j *ℤ pos 12) (pos w),
       mul-parts q (2 ^ 24),
       add-parts (q *ℤ pos (2 ^ 24)) (pos r),
     )))

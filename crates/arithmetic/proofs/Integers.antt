@@ -2,7 +2,7 @@
 -- Assumes nothing.
 use mathlib.Core.Path.{_≡_, refl, sym, ap, _∙_}
 use Prim.Native.Nat.{ℕ, zero, suc, _+_, _*_, _-_, _/_, _%_, _^_, _≤_, _<_, zero-le, suc-le-suc}
-use native.Mathlib.Nat.{mul-comm, mul-zero, zero-mul, add-zero, zero-add, lt-of-le-of-lt, le-refl, le-of-suc-le-suc}
+use native.Mathlib.Nat.{mul-comm, mul-zero, zero-mul, add-zero, zero-add, lt-of-le-of-lt, le-of-suc-le-suc}
 use native.Mathlib.Omega.{arith}
 use mathlib.Core.Bool.{Bool, true, false, not, cond}
 use lib.Dec.{T, ltb, ltb→lt, nltb→le, leb→le, le→leb}
@@ -66,10 +66,6 @@ small-by h (negsuc n) a b e k l = omega arith
 
 pub fits-by : (w : Width) (z : ℤ) (a b : ℕ) → plus z + b ≡ less z + a → a < 2 ^ hbits w → b < 2 ^ hbits w → SFits w z
 fits-by w z a b e k l = record { sfits = small-by (2 ^ hbits w) z a b e k l }
-
-pub small-parts : (z : ℤ) → (plus z ≤ mag z) × (less z ≤ suc (mag z))
-small-parts (pos n) = (le-refl n, zero-le)
-small-parts (negsuc n) = (zero-le, le-refl (suc n))
 
 -- the parts of what fits are small
 pub fits-parts : (w : Width) (z : ℤ) → SFits w z → (plus z < 2 ^ hbits w) × (less z ≤ 2 ^ hbits w)

@@ -1,8 +1,7 @@
--- The nearest note: what the code computes of a measure fits, and for every pitch the measure is small and the note is from -276 to 444.
--- Assumes nothing.
+-- The nearest note: for every pitch the measure is small and the note is from -276 to 444. Assumes nothing.
 use mathlib.Core.Path.{_≡_, refl, sym, ap, _∙_}
 use mathlib.Core.Bool.{true}
-use Prim.Native.Nat.{ℕ, _+_, _*_, _/_, _^_, _≤_, _<_}
+use Prim.Native.Nat.{ℕ, _+_, _*_, _^_, _≤_, _<_}
 use native.Mathlib.Nat.{le-of-eq, lt-of-le-of-lt, lt-of-lt-of-le, lt-of-not-le, not-le-of-lt, lt-of-mul-lt-mul-right, mul-right-comm, mul-comm, mul-le-mul-right, mul-lt-mul-of-pos-right, pow-le-pow-left, pow-lt-pow-left, one-le-pow}
 use native.Mathlib.Omega.{arith}
 use lib.Dec.{T, lit<, lit≤}
@@ -12,9 +11,6 @@ use lib.Ieee.Fits.{and-l, and-r}
 use lib.Ieee.Bits.{is-true}
 use lib.Ieee.Positive.{num, den, den-pos, positive, le→cross, cross→le, through, between}
 use lib.IntN.{ℤ, pos, negsuc, _+ℤ_, _-ℤ_, _*ℤ_}
-use lib.Signed.{mag}
-use mir.Syntax.{w32}
-use mir.Val.{SFits}
 use Rattle.arithmetic.specs.Outcome.{value, refused}
 use Rattle.arithmetic.specs.Division.{quotient}
 use Rattle.arithmetic.specs.Measure.{measure, measureRule}
@@ -27,31 +23,7 @@ use Rattle.arithmetic.proofs.Powers.{mul-pow, ne-zero, two-side, value-
 use Rattle.arithmetic.proofs.Measure.{measure-law}
 use Rattle.arithmetic.proofs.FloatDivision.{div-mono}
 use Rattle.arithmetic.proofs.Bounds.{pitch-positive, detuning-positive}
-use Rattle.arithmetic.proofs.Integers.{plus, less, add-parts, sub-parts-ℤ, mul-parts, small-by, small-parts, fits-parts, fits-by, one-sided}
-
--- a number below 2 ^ 40 shifted by 24 places fits an i32
-shifted-fits : (z : ℤ) → mag z < 2 ^ 40 → SFits w32 (quotient z (2 ^ 24))
-shifted-fits (pos n) h = record { sfits = omega arith }
-shifted-fits (negsuc n) h = record { sfits = omega arith }
-
--- ---- a small number z moved by a small step y
-module _ (z y : ℤ) (f : mag z < 2 ^ 39) (g : mag y < 2 ^ 31) where
-  moved-small : mag (z +ℤ y) < 2 ^ 40
-  moved-small =
-      small-by (2 ^ 40) (z +ℤ y) (plus z + plus y) (less z + less y) (add-parts z y)
-      (omega (arith, small-parts z, small-parts y)) (omega (arith, small-parts z, small-parts y))
-
--- ---- the semitones of a measure l that fits an i32 fit one too
-module _ (l : ℤ) (f : SFits w32 l) where
-  raised-small : mag (l *ℤ pos 12 +ℤ pos 8388608) < 2 ^ 39
-  raised-small =
-      small-by (2 ^ 39) (l *ℤ pos 12 +ℤ pos 8388608) (plus l * 12 + 8388608) (less l * 12)
-      (omega (arith, mul-parts l 12, add-parts (l *ℤ pos 12) (pos 8388608)))
-      (omega (arith, fits-parts w32 l f)) (omega (arith, fits-parts w32 l f))
-
-  pub semitones-fits : SFits w32 (semitones l)
-  unfolding semitones
-  semitones-fits = shifted-fits (l *ℤ pos 12 +ℤ pos 8388608 -ℤ pos 290) (moved-small (l *ℤ pos 12 +ℤ pos 8388608) (negsuc 289) raised-small (lit< tt))
+use Rattle.arithmetic.proofs.Integers.{plus, less, add-parts, sub-parts-ℤ, mul-parts, one-sided}
 
 -- ---- comparing powers of a positive v with powers of 2
 
@@ -129,12 +101,6 @@ measure-range x h =
     let a = between-powers v (negsuc 402) (L +ℤ pos 2) 14 (2 ^ 24) (lit< tt) lo (law .1) in
     let b = between-powers v L (pos 125) (2 ^ 24) 4 (lit< tt) (law .0) hi in
     one-sided L 524287999 482944148 (omega arith) (omega (arith, add-parts L (pos 2)))
-
--- it fits an i32
-pub measure-fits : (x : Float) → T (isPitch x) → SFits w32 (measure (overA4 x))
-measure-fits x h =
-    let L = measure (overA4 x) in
-    fits-by w32 L (plus L) (less L) (omega arith) (omega (arith, measure-range x h)) (omega (arith, measure-range x h))
 
 shifted : (z : ℤ) → plus z ≤ 6299844318 → less z ≤ 5786941458 → (plus (quotient z (2 ^ 24)) ≤ 375) × (less (quotient z (2 ^ 24)) ≤ 345)
 shifted (pos n) h k = omega arith

@@ -197,14 +197,11 @@ fn squarings(y: u64) -> u64
     let mut written: u64 = 0;
     let mut i: u64 = 0;
     while i < 24 {
-        let z = rest * rest / 0x8000_0000;
-        if z >= 0x1_0000_0000 {
-            rest = z / 2;
-            written = written * 2 + 1;
-        } else {
-            rest = z;
-            written = written * 2;
-        }
+        let square = rest * rest;
+        // A square has 64 binary digits where its digit is 1, else 63.
+        let digit = square >> 63;
+        rest = (square >> 31) >> digit;
+        written = written * 2 + digit;
         i += 1;
     }
     written

@@ -2,14 +2,13 @@
 
 ghost use mathlib.Core.Path.{_≡_};
 ghost use mathlib.Core.Bool.{true};
-ghost use Prim.Native.Nat.{_+_, _*_, _^_, _<_};
-ghost use lib.IntN.{pos, negsuc, _+ℤ_, _-ℤ_};
+ghost use Prim.Native.Nat.{_^_, _<_};
+ghost use lib.IntN.{pos, negsuc};
 ghost use lib.Signed.{_≤ℤ_};
 ghost use Rattle.arithmetic.specs.Note.{isNote};
-ghost use Rattle.arithmetic.specs.Pitch.{isPitch, octavePitch, factor, pitchOf, pitchRule, detuningRule};
-ghost use Rattle.arithmetic.specs.Measure.{digits};
-ghost use Rattle.arithmetic.specs.Nearest.{semitones, nearestNote, nearestRule};
-ghost use Rattle.arithmetic.specs.Inside.{within};
+ghost use Rattle.arithmetic.specs.Pitch.{isPitch, octavePitch, pitchOf, pitchRule, detuningRule};
+ghost use Rattle.arithmetic.specs.Nearest.{nearestNote, nearestRule};
+ghost use Rattle.arithmetic.specs.Inside.{within, factorTo12, noteAt, Stands};
 ghost use Rattle.arithmetic.specs.Answers.{pitchAnswer, ratioAnswer, approximation};
 use crate::math::i32_div_u;
 use crate::math::i32_rem_u;
@@ -38,6 +37,29 @@ pub enum Approximation {
     Nearest(i32, f64),
     // 1.
     Refused(u8),
+}
+
+// Where a note stands: whole octaves above A4, and up to 12 semitones above that.
+struct Place {
+    octaves: i32,
+    semitones: u32,
+}
+
+impl Place {
+    fn note(self) -> i32
+        requires { ⌜ (isNote (noteAt (self .octaves) (self .semitones)) ≡ true) × (self .semitones < 13) ⌝ }
+        ensures { λ r. ⌜ r ≡ noteAt (self .octaves) (self .semitones) ⌝ }
+    {
+        A4 + (self.octaves * 12 + self.semitones as i32)
+    }
+
+    // The pitch of A4, moved by the octaves and then by the semitones.
+    fn pitch(self) -> Pitch
+        requires { ⌜ (isNote (noteAt (self .octaves) (self .semitones)) ≡ true) × (self .semitones < 13) ⌝ }
+        ensures { λ r. ⌜ r .hz ≡ pitchOf (noteAt (self .octaves) (self .semitones)) ⌝ }
+    {
+        Pitch::from_hz(octave_pitch(self.octaves) * semitone_factor(self.semitones))
+    }
 }
 
 const A4_HZ: f64 = 440.0;
@@ -176,35 +198,31 @@ pub fn find_by_pitch(pitch: Pitch) -> Approximation
     if !pitch.is_in_range() {
         return Approximation::Refused(PITCH_OUT_OF_RANGE);
     }
-    let note = nearest_note(pitch);
-    let deviation = Ratio::between_pitches(note_pitch(note), pitch);
-    Approximation::Nearest(note, deviation.as_float())
+    let place = nearest_place(pitch);
+    let deviation = Ratio::between_pitches(place.pitch(), pitch);
+    Approximation::Nearest(place.note(), deviation.as_float())
 }
 
-// The note nearest to a pitch in range, by the first digits of the ratio to A4.
-fn nearest_note(pitch: Pitch) -> i32
+// Where the note nearest to a pitch in range stands, by the first digits of the ratio to A4.
+fn nearest_place(pitch: Pitch) -> Place
     requires { ⌜ isPitch (pitch .hz) ≡ true ⌝ }
-    ensures { λ r. ⌜ r ≡ nearestNote (pitch .hz) ⌝ }
+    ensures { λ r. ⌜ Stands (r .octaves) (r .semitones) (nearestNote (pitch .hz)) ⌝ }
 {
     let over_a4 = Ratio::between_pitches(Pitch::from_hz(A4_HZ), pitch);
     let Binary::Digits { octave, first } = over_a4.binary() else {
         // Not reached: a pitch over 440 Hz is positive and finite.
-        return A4;
+        return Place {
+            octaves: 0,
+            semitones: 0,
+        };
     };
-    A4 + semitones(octave, first)
-}
-
-// How many semitones above A4 the nearest note is.
-fn semitones(octave: u64, first: u64) -> i32
-    requires { ⌜ (octave < 2 ^ 12) × (first < 2 ^ 32) ⌝ }
-    ensures { λ r. ⌜ r ≡ semitones (pos (octave * 2 ^ 24 + digits 24 first) -ℤ pos (1074 * 2 ^ 24)) ⌝ }
-{
-    let above = octave * 12 + within(first);
     // Octaves are counted from 2^-1074, the smallest positive f64.
-    (above as i32) - 1074 * 12
+    let octaves = (octave as i32) - 1074;
+    let semitones = within(first) as u32;
+    Place { octaves, semitones }
 }
 
-// The part of them within an octave: how many boundaries the first digits have come to.
+// How many semitones above the octave the nearest note is: as many as boundaries that the first digits have come to. Each quotient is 1 or 0.
 fn within(first: u64) -> u64
     requires { ⌜ first < 2 ^ 32 ⌝ }
     ensures { λ r. ⌜ r ≡ within first ⌝ }
@@ -212,15 +230,12 @@ fn within(first: u64) -> u64
     let mut passed: u64 = 0;
     let mut i: usize = 0;
     while i < 12 {
-        if first >= BOUNDARIES[i] {
-            passed += 1;
-        }
+        passed += (first + (0x2_0000_0000 - BOUNDARIES[i])) / 0x2_0000_0000;
         i += 1;
     }
     passed
 }
 
-// The pitch of a note: that of A4, moved by whole octaves and then by up to 11 semitones.
 fn note_pitch(note: i32) -> Pitch
     requires { ⌜ isNote note ≡ true ⌝ }
     ensures { λ r. ⌜ r .hz ≡ pitchOf note ⌝ }
@@ -228,7 +243,8 @@ fn note_pitch(note: i32) -> Pitch
     let above_a4 = note - A4;
     let octaves = i32_div_u(above_a4, 12);
     let semitones = i32_rem_u(above_a4, 12);
-    Pitch::from_hz(octave_pitch(octaves) * semitone_factor(semitones))
+    let place = Place { octaves, semitones };
+    place.pitch()
 }
 
 // 440 Hz times 2^j.
@@ -237,13 +253,94 @@ fn octave_pitch(j: i32) -> f64
     ensures { λ r. ⌜ r ≡ octavePitch j ⌝ }
 {
     let at = (j + 31) as usize;
-    OCTAVE_PITCHES[at]
+    match at {
+        0 => OCTAVE_PITCHES[0],
+        1 => OCTAVE_PITCHES[1],
+        2 => OCTAVE_PITCHES[2],
+        3 => OCTAVE_PITCHES[3],
+        4 => OCTAVE_PITCHES[4],
+        5 => OCTAVE_PITCHES[5],
+        6 => OCTAVE_PITCHES[6],
+        7 => OCTAVE_PITCHES[7],
+        8 => OCTAVE_PITCHES[8],
+        9 => OCTAVE_PITCHES[9],
+        10 => OCTAVE_PITCHES[10],
+        11 => OCTAVE_PITCHES[11],
+        12 => OCTAVE_PITCHES[12],
+        13 => OCTAVE_PITCHES[13],
+        14 => OCTAVE_PITCHES[14],
+        15 => OCTAVE_PITCHES[15],
+        16 => OCTAVE_PITCHES[16],
+        17 => OCTAVE_PITCHES[17],
+        18 => OCTAVE_PITCHES[18],
+        19 => OCTAVE_PITCHES[19],
+        20 => OCTAVE_PITCHES[20],
+        21 => OCTAVE_PITCHES[21],
+        22 => OCTAVE_PITCHES[22],
+        23 => OCTAVE_PITCHES[23],
+        24 => OCTAVE_PITCHES[24],
+        25 => OCTAVE_PITCHES[25],
+        26 => OCTAVE_PITCHES[26],
+        27 => OCTAVE_PITCHES[27],
+        28 => OCTAVE_PITCHES[28],
+        29 => OCTAVE_PITCHES[29],
+        30 => OCTAVE_PITCHES[30],
+        31 => OCTAVE_PITCHES[31],
+        32 => OCTAVE_PITCHES[32],
+        33 => OCTAVE_PITCHES[33],
+        34 => OCTAVE_PITCHES[34],
+        35 => OCTAVE_PITCHES[35],
+        36 => OCTAVE_PITCHES[36],
+        37 => OCTAVE_PITCHES[37],
+        38 => OCTAVE_PITCHES[38],
+        39 => OCTAVE_PITCHES[39],
+        40 => OCTAVE_PITCHES[40],
+        41 => OCTAVE_PITCHES[41],
+        42 => OCTAVE_PITCHES[42],
+        43 => OCTAVE_PITCHES[43],
+        44 => OCTAVE_PITCHES[44],
+        45 => OCTAVE_PITCHES[45],
+        46 => OCTAVE_PITCHES[46],
+        47 => OCTAVE_PITCHES[47],
+        48 => OCTAVE_PITCHES[48],
+        49 => OCTAVE_PITCHES[49],
+        50 => OCTAVE_PITCHES[50],
+        51 => OCTAVE_PITCHES[51],
+        52 => OCTAVE_PITCHES[52],
+        53 => OCTAVE_PITCHES[53],
+        54 => OCTAVE_PITCHES[54],
+        55 => OCTAVE_PITCHES[55],
+        56 => OCTAVE_PITCHES[56],
+        57 => OCTAVE_PITCHES[57],
+        58 => OCTAVE_PITCHES[58],
+        59 => OCTAVE_PITCHES[59],
+        60 => OCTAVE_PITCHES[60],
+        61 => OCTAVE_PITCHES[61],
+        62 => OCTAVE_PITCHES[62],
+        63 => OCTAVE_PITCHES[63],
+        64 => OCTAVE_PITCHES[64],
+        65 => OCTAVE_PITCHES[65],
+        _ => OCTAVE_PITCHES[66],
+    }
 }
 
+// R[k], and 2 from 12 semitones on, an octave's.
 fn semitone_factor(k: u32) -> f64
-    requires { ⌜ k < 12 ⌝ }
-    ensures { λ r. ⌜ r ≡ factor k ⌝ }
+    ensures { λ r. ⌜ r ≡ factorTo12 k ⌝ }
 {
-    let at = k as usize;
-    SEMITONE_FACTORS[at]
+    match k {
+        0 => SEMITONE_FACTORS[0],
+        1 => SEMITONE_FACTORS[1],
+        2 => SEMITONE_FACTORS[2],
+        3 => SEMITONE_FACTORS[3],
+        4 => SEMITONE_FACTORS[4],
+        5 => SEMITONE_FACTORS[5],
+        6 => SEMITONE_FACTORS[6],
+        7 => SEMITONE_FACTORS[7],
+        8 => SEMITONE_FACTORS[8],
+        9 => SEMITONE_FACTORS[9],
+        10 => SEMITONE_FACTORS[10],
+        11 => SEMITONE_FACTORS[11],
+        _ => 2.0,
+    }
 }

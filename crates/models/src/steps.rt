@@ -4,7 +4,8 @@ ghost use mathlib.Core.Path.{_≡_};
 ghost use Prim.Native.Nat.{_^_, _<_};
 ghost use lib.IntN.{pos};
 ghost use lib.Signed.{mag, _≤ℤ_};
-ghost use Rattle.models.specs.Steps.{clamp, fineValue, bendValue, tuningOf, tuningRule};
+ghost use Rattle.models.specs.declared.steps.TuningKind.the-variants.{FineTuning, Bend};
+ghost use Rattle.models.specs.Steps.{clamp, fineValue, bendValue, tuningRule};
 ghost use Rattle.models.specs.Answers.{tuningAnswer};
 use arithmetic::pitch::Measured;
 use arithmetic::pitch::Ratio;
@@ -30,24 +31,37 @@ pub enum TuningAnswer {
     Refused(u8),
 }
 
+// Of each kind.
+pub struct Tunings {
+    pub fine: TuningAnswer,
+    pub bend: TuningAnswer,
+}
+
 // The tuning in which a detuning is sent. Refuses 2.
 pub fn tuning_of(kind: TuningKind, detuning: Ratio) -> TuningAnswer
     ensures { λ r. ⌜ tuningAnswer r ≡ tuningRule kind (detuning .«float_value») ⌝ }
 {
-    let Measured::Measure(l) = detuning.measure() else {
-        return TuningAnswer::Refused(NOT_MEASURABLE);
-    };
-    TuningAnswer::Value(value_of(kind, l))
+    let tunings = tunings_of(detuning);
+    match kind {
+        TuningKind::FineTuning => tunings.fine,
+        TuningKind::Bend => tunings.bend,
+    }
 }
 
-// The value of a kind, from the measure of a detuning.
-fn value_of(kind: TuningKind, l: i64) -> Tuning
-    requires { ⌜ mag l < 2 ^ 40 ⌝ }
-    ensures { λ r. ⌜ r ≡ tuningOf kind l ⌝ }
+// Those of both kinds, from one measure.
+pub fn tunings_of(detuning: Ratio) -> Tunings
+    ensures { λ r. ⌜ tuningAnswer (r .fine) ≡ tuningRule FineTuning (detuning .«float_value») ⌝ }
+    ensures { λ r. ⌜ tuningAnswer (r .bend) ≡ tuningRule Bend (detuning .«float_value») ⌝ }
 {
-    match kind {
-        TuningKind::FineTuning => Tuning::Fine(fine_value(l)),
-        TuningKind::Bend => Tuning::Bend(bend_value(l)),
+    let Measured::Measure(l) = detuning.measure() else {
+        return Tunings {
+            fine: TuningAnswer::Refused(NOT_MEASURABLE),
+            bend: TuningAnswer::Refused(NOT_MEASURABLE),
+        };
+    };
+    Tunings {
+        fine: TuningAnswer::Value(Tuning::Fine(fine_value(l))),
+        bend: TuningAnswer::Value(Tuning::Bend(bend_value(l))),
     }
 }
 

@@ -1,6 +1,7 @@
 -- `arithmetic::tuning::find_by_pitch` meets its contract: the nearest note of a pitch in range is a note, so it has a pitch. Assumes nothing.
 use mathlib.Core.Path.{_≡_, sym, ap, _∙_, subst}
 use mathlib.Core.Bool.{true}
+use Prim.Native.Nat.{_<_}
 use lib.Dec.{T}
 use lib.IntN.{ℤ}
 use lib.Ieee.{Float, binary64, div}
@@ -14,6 +15,8 @@ use Rattle.arithmetic.specs.Refusal.{pitchOutOfRange}
 use Rattle.arithmetic.specs.Note.{isNote}
 use Rattle.arithmetic.specs.Pitch.{isPitch, pitchOf, detuningOf}
 use Rattle.arithmetic.specs.Nearest.{nearestNote, nearestRule}
+use Rattle.arithmetic.specs.Inside.{noteAt}
+use Rattle.arithmetic.specs.declared.tuning.Place.{Place}
 use Rattle.arithmetic.proofs.Outcomes.{stops, passes}
 use Rattle.arithmetic.proofs.Notes.{note-fits}
 use Rattle.arithmetic.proofs.Nearest.{nearest-is-note}
@@ -30,24 +33,30 @@ returns c = stops pitchOutOfRange _ (sym (c .before .is-in-range .ensures) ∙ n
 is-pitch : (c : tie.Else1) → isPitch (c .before .before .args .pitch .hz) ≡ true
 is-pitch c = sym (c .before .is-in-range .ensures) ∙ not-false _ (c .if1 .left)
 
-nearest-note-requires : tie.Need-nearest-note-requires
-nearest-note-requires c κs = is-pitch c
+nearest-place-requires : tie.Need-nearest-place-requires
+nearest-place-requires c κs = is-pitch c
 
-is-note : (c : tie.After-nearest-note) → isNote (nearestNote (c .before .before .before .args .pitch .hz)) ≡ true
-is-note c = nearest-is-note (c .before .before .before .args .pitch .hz) (subst T (sym (is-pitch (c .before))) tt)
+module _ (c : tie.After-nearest-place) where
+  abbrev hz : Float
+  hz = c .before .before .before .args .pitch .hz
 
-back : (c : tie.After-nearest-note) → toZ w32 (ofZ w32 (c .nearest-note .result)) ≡ nearestNote (c .before .before .before .args .pitch .hz)
-back c =
-    let note = nearestNote (c .before .before .before .args .pitch .hz) in
-    rw (c .nearest-note .ensures) (toZ-ofZ w32 note (note-fits note (is-note c)))
+  abbrev place : Place
+  place = c .nearest-place .result
 
-note-pitch-requires : tie.Need-note-pitch-requires
-note-pitch-requires c κs =
-    let h : isNote (toZ w32 (ofZ w32 (c .nearest-note .result))) ≡ true = rw (back c) (is-note c) in
-    search (needs, h)
+  is-note : isNote (nearestNote hz) ≡ true
+  is-note = nearest-is-note hz (subst T (sym (is-pitch (c .before))) tt)
+
+  stands : (isNote (noteAt (place .octaves) (place .semitones)) ≡ true) × (place .semitones < 13)
+  stands = (ap isNote (c .nearest-place .ensures .is) ∙ is-note, c .nearest-place .ensures .few)
+
+pitch-requires : tie.Need-pitch-requires
+pitch-requires c κs = stands c
 
 between-pitches-requires : tie.Need-between-pitches-requires
 between-pitches-requires c κs = search needs
+
+note-requires : tie.Need-note-requires
+note-requires c κs = stands (c .before .before)
 
 as-float-requires : tie.Need-as-float-requires
 as-float-requires c κs = search needs
@@ -55,11 +64,12 @@ as-float-requires c κs = search needs
 returns-2 : tie.Need-returns-2
 unfolding nearestRule detuningOf
 returns-2 c =
-    let n = c .before .before .before in
-    let hz = n .before .before .before .args .pitch .hz in
-    let deviation = c .as-float .ensures ∙ c .before .between-pitches .ensures
-    ∙ ap (λ (x : Float). div binary64 hz x) (c .before .before .note-pitch .ensures ∙ ap pitchOf (back n)) in
-    passes pitchOutOfRange _ (is-pitch (n .before)) (ap (λ (z : ℤ). value (z, c .as-float .result)) (back n) ∙ ap (λ (x : Float). value (nearestNote hz, x)) deviation)
+    let n = c .before .before .before .before in
+    let note = nearestNote (hz n) in
+    let back = ap (λ (z : ℤ). toZ w32 (ofZ w32 z)) (c .before .note .ensures ∙ n .nearest-place .ensures .is) ∙ toZ-ofZ w32 note (note-fits note (is-note n)) in
+    let deviation = c .as-float .ensures ∙ c .before .before .between-pitches .ensures
+    ∙ ap (λ (x : Float). div binary64 (hz n) x) (c .before .before .before .pitch .ensures ∙ ap pitchOf (n .nearest-place .ensures .is)) in
+    passes pitchOutOfRange _ (is-pitch (n .before)) (ap (λ (z : ℤ). value (z, c .as-float .result)) back ∙ ap (λ (x : Float). value (note, x)) deviation)
 
 pub find-by-pitch-spec : {M : Type 1} → statement M
 find-by-pitch-spec =
@@ -67,8 +77,9 @@ find-by-pitch-spec =
     (tie.spec
     is-in-range-requires
     returns
-    nearest-note-requires
-    note-pitch-requires
+    nearest-place-requires
+    pitch-requires
     between-pitches-requires
+    note-requires
     as-float-requires
     returns-2)

@@ -1,18 +1,17 @@
--- `arithmetic::tuning::note_pitch` meets its contract: the octave of a note lies in the table, and its semitone is below 12. Assumes nothing.
+-- `arithmetic::tuning::note_pitch` meets its contract: a note stands at the quotient and the remainder. Assumes nothing.
 use mathlib.Core.Path.{_≡_, ap, _∙_}
-use Prim.Native.Nat.{ℕ}
 use native.Mathlib.Omega.{arith}
 use lib.IntN.{ℤ, pos, _-ℤ_}
-use lib.Ieee.{Float, binary64, mul}
 use mir.Syntax.{w32}
 use mir.Val.{toZ, ofZ}
 use mir.ValLaws.{toZ-ofZ}
 use borrow.Author.Needs.{needs}
 use Rattle.arithmetic.specs.Division.{quotient, remainder}
 use Rattle.arithmetic.specs.Note.{a4}
-use Rattle.arithmetic.specs.Pitch.{octavePitch, factor, pitchOf}
+use Rattle.arithmetic.specs.Pitch.{pitchOf}
+use Rattle.arithmetic.specs.Inside.{noteAt}
 use Rattle.arithmetic.proofs.Quotients.{remainder-below, quotient-fits}
-use Rattle.arithmetic.proofs.Pitches.{above-fits, octave-range}
+use Rattle.arithmetic.proofs.Pitches.{above-fits, stands}
 use Rattle.arithmetic.proofs.tuning.note_pitch.Statement.{statement}
 use Rattle.arithmetic.proofs.tuning.note_pitch.Tie as tie
 
@@ -44,31 +43,15 @@ octaves c =
 semitones : (c : tie.After-i32-rem-u) → c .i32-rem-u .result ≡ remainder (above (c .before .before)) 12
 semitones c = c .i32-rem-u .ensures ∙ ap (λ (z : ℤ). remainder z 12) (back (c .before .before))
 
-octave-pitch-requires : tie.Need-octave-pitch-requires
-octave-pitch-requires c κs = let s = c .before .before in rw (octaves (c .before)) (octave-range (s .args .note) (s .pre))
+note : (c : tie.After-i32-rem-u) → noteAt (toZ w32 (ofZ w32 (c .before .i32-div-u .result))) (c .i32-rem-u .result) ≡ c .before .before .args .note
+note c = rw (octaves (c .before), semitones c) (stands (c .before .before .args .note))
 
-semitone-factor-requires : tie.Need-semitone-factor-requires
-semitone-factor-requires c κs = rw (semitones (c .before)) (remainder-below (above (c .before .before .before)) 12 (omega arith))
-
-from-hz-requires : tie.Need-from-hz-requires
-from-hz-requires c κs = search needs
+pitch-requires : tie.Need-pitch-requires
+pitch-requires c κs =
+    (rw (note c) (c .before .before .pre), omega (arith, semitones c, remainder-below (above (c .before .before)) 12 (omega arith)))
 
 returns : tie.Need-returns
-unfolding pitchOf
-returns c =
-    let r = c .before .before .before in
-    let o = c .before .before .octave-pitch .ensures ∙ ap octavePitch (octaves (r .before)) in
-    let f = c .before .semitone-factor .ensures ∙ ap factor (semitones r) in
-    c .from-hz .ensures ∙ rw (o, f)
+returns c = c .pitch .ensures ∙ ap pitchOf (note (c .before))
 
 pub note-pitch-spec : {M : Type 1} → statement M
-note-pitch-spec =
-    tie.close
-    (tie.spec
-    sub-above-a4
-    i32-div-u-requires
-    i32-rem-u-requires
-    octave-pitch-requires
-    semitone-factor-requires
-    from-hz-requires
-    returns)
+note-pitch-spec = tie.close (tie.spec sub-above-a4 i32-div-u-requires i32-rem-u-requires pitch-requires returns)

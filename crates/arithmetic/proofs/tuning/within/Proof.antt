@@ -1,13 +1,14 @@
--- `tuning::within` meets its contract. The loop's invariant: of the entries gone through those are counted that are passed, the first ones of them. Assumes nothing.
-use mathlib.Core.Path.{_≡_, sym, _∙_}
-use mathlib.Core.Logic.{⊎-elim}
+-- `tuning::within` meets its contract. The loop's invariant: of the entries gone through those are counted that are passed, the first ones of them.
+-- Assumes nothing.
+use mathlib.Core.Path.{_≡_, ap, _∙_}
 use mathlib.Core.List.{List, [], _∷_}
 use lib.Dec.{T}
-use Prim.Native.Nat.{ℕ, _+_, _-_, _^_, _≤_, _<_}
+use Prim.Native.Nat.{ℕ, _+_, _-_, _/_, _^_, _≤_, min}
+use lib.ListN.{getD}
 use native.Mathlib.Omega.{arith}
 use Rattle.arithmetic.specs.Measure.{square, digit, next, digits}
 use Rattle.arithmetic.specs.Inside.{within}
-use Rattle.arithmetic.proofs.Boundaries.{boundary, passed, not-passed, within-small}
+use Rattle.arithmetic.proofs.Boundaries.{boundary, counted, within-small}
 use Rattle.arithmetic.proofs.Tables.{all}
 use borrow.Author.Needs.{needs}
 use Rattle.arithmetic.proofs.tuning.within.Statement.{statement}
@@ -22,27 +23,45 @@ unfolding within digits digit next square
 table-passes = tt
 
 abbrev Inv-loop : tie.InvT-loop
-Inv-loop first p₀ i₀ p i = (i ≤ 12) × (i ≤ within first → p ≡ i) × (within first ≤ i → p ≡ within first)
+Inv-loop first p₀ i₀ p i = (i ≤ 12) × (p ≡ min i (within first))
 
 abbrev μ-loop : tie.MeasureT-loop
 μ-loop first p₀ i₀ p i = 12 - i
 
 loop-holds : tie.Need-loop-holds Inv-loop μ-loop
-loop-holds c = (omega arith, λ h. omega arith, λ h. omega arith)
+loop-holds c = (omega arith, omega arith)
 
-mul-if1 : tie.Need-mul-if1 Inv-loop μ-loop
-mul-if1 c = search needs
+mul-passed : tie.Need-mul-passed Inv-loop μ-loop
+mul-passed c = search needs
 
-array-read-if1 : tie.Need-array-read-if1 Inv-loop μ-loop
-array-read-if1 c = search needs
+array-read-passed : tie.Need-array-read-passed Inv-loop μ-loop
+array-read-passed c = search needs
+
+-- what the entry at hand adds
+module _ (c : tie.In-loop Inv-loop μ-loop) where
+  abbrev first : ℕ
+  first = c .before .before .args .first
+
+  abbrev i : ℕ
+  i = c .before .loop .i
+
+  abbrev entry : ℕ
+  entry = getD table i 0
+
+  abbrev more : ℕ
+  more = (first + (2 ^ 33 - entry)) / 2 ^ 33
+
+  here : (entry ≤ 2 ^ 33) × (more ≤ 1) × (min i (within first) + more ≡ min (i + 1) (within first))
+  here = counted table table-passes first (c .before .before .pre) i (c .loop-test .taken)
+
+sub-passed : tie.Need-sub-passed Inv-loop μ-loop
+sub-passed c = here c .0
 
 add-passed : tie.Need-add-passed Inv-loop μ-loop
-add-passed c =
-    let l = c .before .before .loop in
-    let first = c .before .before .before .args .first in
-    let more = passed table table-passes first (c .before .before .before .pre) (l .i) (c .before .loop-test .taken) (c .if1 .taken) in
-    let is = l .inv .1 (omega arith) in
-    record { fits = omega arith }
+add-passed c = let u = c .before .before .pre in record { fits = omega arith }
+
+add-passed-2 : tie.Need-add-passed-2 Inv-loop μ-loop
+add-passed-2 c = let l = c .before .loop .inv in record { fits = omega (arith, here c .1) }
 
 add-i : tie.Need-add-i Inv-loop μ-loop
 add-i c = omega arith
@@ -51,24 +70,10 @@ loop-less : tie.Need-loop-less Inv-loop μ-loop
 loop-less c = omega arith
 
 loop-again : tie.Need-loop-again Inv-loop μ-loop
-loop-again c =
-    let l = c .before .before .loop in
-    let first = c .before .before .before .args .first in
-    let u = c .before .before .before .pre in
-    let in-table = c .before .loop-test .taken in
-    ⊎-elim
-    (λ w.
-    let more = passed table table-passes first u (l .i) in-table (w .0 .taken) in
-    let is = l .inv .1 (omega arith) in
-    (omega arith, λ h. omega arith, λ h. omega arith))
-    (λ w.
-    let no-more = not-passed table table-passes first u (l .i) in-table (w .0 .left) in
-    let is = l .inv .2 no-more in
-    (omega arith, λ h. omega arith, λ h. omega arith))
-    (c .if1 .came)
+loop-again c = (omega arith, ap (λ (p : ℕ). p + more c) (c .before .loop .inv .1) ∙ here c .2)
 
 returns : tie.Need-returns Inv-loop μ-loop
-returns c = let l = c .before .loop in l .inv .2 (omega (arith, within-small (c .before .before .args .first)))
+returns c = let l = c .before .loop in omega (arith, within-small (c .before .before .args .first), l .inv .1)
 
 pub within-spec : {M : Type 1} → statement M
-within-spec = tie.close (tie.spec Inv-loop μ-loop loop-holds mul-if1 array-read-if1 add-passed add-i loop-less loop-again returns)
+within-spec = tie.close (tie.spec Inv-loop μ-loop loop-holds mul-passed array-read-passed sub-passed add-passed add-passed-2 add-i loop-less loop-again returns)

@@ -1,23 +1,26 @@
--- `arithmetic::tuning::nearest_note` meets its contract: a pitch over 440 is positive and finite, so it has first digits; they write its measure, and the
--- note is small. Assumes nothing.
+-- `arithmetic::tuning::nearest_place` meets its contract: a pitch over 440 is positive and finite, so it has first digits; they write its measure.
+-- Assumes nothing.
 use mathlib.Core.Path.{_≡_, sym, ap, _∙_, subst}
-use Prim.Native.Nat.{ℕ, _+_, _*_, _^_}
-use lib.Dec.{T}
+use Prim.Native.Nat.{ℕ, _+_, _*_, _^_, _<_}
+use native.Mathlib.Omega.{arith}
+use lib.Dec.{T, lit≤}
 use lib.IntN.{ℤ, pos, _+ℤ_, _-ℤ_}
 use lib.Ieee.{ofBits}
 use mir.Syntax.{w32}
 use mir.Val.{SFits, toZ, ofZ}
-use mir.ValLaws.{toZ-ofZ}
+use mir.ValLaws.{toZ-ofZ, toZ-pos}
 use borrow.Author.Needs.{needs}
 use Rattle.arithmetic.specs.Measure.{digits, measure, measureRule}
+use Rattle.arithmetic.specs.Note.{a4}
 use Rattle.arithmetic.specs.Pitch.{isPitch}
 use Rattle.arithmetic.specs.Nearest.{semitones, overA4, nearestNote}
-use Rattle.arithmetic.specs.Inside.{Writes}
+use Rattle.arithmetic.specs.Inside.{Writes, noteAt}
 use Rattle.arithmetic.specs.declared.pitch.Binary as B
-use Rattle.arithmetic.proofs.Notes.{note-fits}
-use Rattle.arithmetic.proofs.Nearest.{the-measure, no-refusal, measure-fits, semitones-fits, nearest-is-note}
-use Rattle.arithmetic.proofs.tuning.nearest_note.Statement.{statement}
-use Rattle.arithmetic.proofs.tuning.nearest_note.Tie as tie
+use Rattle.arithmetic.proofs.Integers.{mag-sub}
+use Rattle.arithmetic.proofs.Boundaries.{within-small, split}
+use Rattle.arithmetic.proofs.Nearest.{the-measure, no-refusal}
+use Rattle.arithmetic.proofs.tuning.nearest_place.Statement.{statement}
+use Rattle.arithmetic.proofs.tuning.nearest_place.Tie as tie
 
 from-hz-requires : tie.Need-from-hz-requires
 from-hz-requires c κs = search needs
@@ -69,28 +72,41 @@ module _ (c : tie.After-known-told) where
       the-measure (start .args .pitch .hz) (c .before .before .before .before .between-pitches .result .«float_value») (pos (octave * 2 ^ 24 + digits 24 first) -ℤ pos (1074 * 2 ^ 24))
       (pitched start) (ratio (c .before .before .before .before)) (sym (writes .2))
 
-semitones-requires : tie.Need-semitones-requires
-semitones-requires c κs = (writes c .0, writes c .1)
+octave-small : (c : tie.After-known-told) → octave c < 2 ^ 31
+octave-small c = omega (arith, writes c .0)
 
--- the note
-noted : (c : tie.After-semitones) → pos 69 +ℤ toZ w32 (ofZ w32 (c .semitones .result)) ≡ nearestNote (start (c .before) .args .pitch .hz)
-unfolding nearestNote
-noted c =
-    let s = start (c .before) in
-    let l = measure (overA4 (s .args .pitch .hz)) in
-    rw (c .semitones .ensures ∙ ap semitones (level (c .before)), toZ-ofZ w32 (semitones l) (semitones-fits l (measure-fits (s .args .pitch .hz) (pitched s))))
+octaves-fit : (c : tie.After-known-told) → SFits w32 (toZ w32 (octave c) -ℤ pos 1074)
+octaves-fit c = rw (toZ-pos w32 (octave c) (octave-small c)) (record { sfits = mag-sub (octave c) 1074 (2 ^ 31) (octave-small c) (lit≤ tt) })
 
-fits : (s : tie.Start) → SFits w32 (nearestNote (s .args .pitch .hz))
-fits s = note-fits (nearestNote (s .args .pitch .hz)) (nearest-is-note (s .args .pitch .hz) (pitched s))
+cast-octaves : tie.Need-cast-octaves
+cast-octaves c = record { sfits = octave-small c }
 
-add-result : tie.Need-add-result
-add-result c = rw (noted c) (fits (start (c .before)))
+sub-octaves : tie.Need-sub-octaves
+sub-octaves c = octaves-fit c
+
+within-requires : tie.Need-within-requires
+within-requires c κs = writes c .1
+
+-- at most 12 semitones
+few : (c : tie.After-within) → c .within .result < 13
+few c = omega (arith, c .within .ensures, within-small (first (c .before)))
+
+cast-semitones : tie.Need-cast-semitones
+cast-semitones c = record { fits = omega (arith, few c) }
 
 returns-2 : tie.Need-returns-2
-returns-2 c = let s = start (c .before) in rw (noted c) (toZ-ofZ w32 (nearestNote (s .args .pitch .hz)) (fits s))
+unfolding noteAt nearestNote
+returns-2 c =
+    let k = c .before in
+    let j = pos (octave k) -ℤ pos 1074 in
+    let back : toZ w32 (ofZ w32 (toZ w32 (octave k) -ℤ pos 1074)) ≡ j = toZ-ofZ w32 (toZ w32 (octave k) -ℤ pos 1074) (octaves-fit k) ∙ rw (toZ-pos w32 (octave k) (octave-small k)) in
+    record {
+      few = few c;
+      is = rw (back, c .within .ensures) (ap (λ (z : ℤ). a4 +ℤ z) (sym (split (octave k) (first k)) ∙ ap semitones (level k)));
+    }
 
-pub nearest-note-spec : {M : Type 1} → statement M
-nearest-note-spec =
+pub nearest-place-spec : {M : Type 1} → statement M
+nearest-place-spec =
     tie.close
     (tie.spec
     from-hz-requires
@@ -99,6 +115,8 @@ nearest-note-spec =
     enum-known-octave
     enum-told
     returns
-    semitones-requires
-    add-result
+    cast-octaves
+    sub-octaves
+    within-requires
+    cast-semitones
     returns-2)
