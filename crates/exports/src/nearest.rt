@@ -19,8 +19,7 @@ use arithmetic::tuning::Approximation;
 use arithmetic::tuning::find_by_pitch;
 use models::steps::Tuning;
 use models::steps::TuningAnswer;
-use models::steps::TuningKind;
-use models::steps::tuning_of;
+use models::steps::tunings_of;
 
 // A nearest note and its detuning, or the number of a refusal, which is 0 where there is none.
 struct Found {
@@ -67,9 +66,9 @@ pub extern "C" fn tune_values(
     let n = detunings.len();
     let mut i: usize = 0;
     while i < n {
-        let detuning = ratio_at(detunings, i);
-        let fine = tuning_of(TuningKind::FineTuning, detuning);
-        let bend = tuning_of(TuningKind::Bend, detuning);
+        let tunings = tunings_of(ratio_at(detunings, i));
+        let fine = tunings.fine;
+        let bend = tunings.bend;
         put_byte(refusals, i, refusal_of(fine));
         put_short(fines, i, fine_of(fine));
         put_bend(bends, i, bend_of(bend));

@@ -31,11 +31,8 @@ loop-holds c = (omega arith, refl, refl, refl)
 ratio-at-requires : tie.Need-ratio-at-requires Inv-loop μ-loop
 ratio-at-requires c κs = search needs
 
-tuning-of-requires : tie.Need-tuning-of-requires Inv-loop μ-loop
-tuning-of-requires c κs = search needs
-
-tuning-of-requires-2 : tie.Need-tuning-of-requires-2 Inv-loop μ-loop
-tuning-of-requires-2 c κs = search needs
+tunings-of-requires : tie.Need-tunings-of-requires Inv-loop μ-loop
+tunings-of-requires c κs = search needs
 
 refusal-of-requires : tie.Need-refusal-of-requires Inv-loop μ-loop
 refusal-of-requires c κs = search needs
@@ -63,12 +60,15 @@ loop-less c = omega arith
 
 loop-again : tie.Need-loop-again Inv-loop μ-loop
 loop-again c =
-    let start = c .before .before .before .before .before .before .before .before .before .before .before .before .before .before .before .before .before .before .before .before .before .before in
+    let ratio = c .before .before .before .before .before .before .before .before .before .before .before .before .before .before .before .ratio-at .ensures in
+    let tunings = c .before .before .before .before .before .before .before .before .before .before .before .before .before .before .tunings-of .ensures in
+    let start = c .before .before .before .before .before .before .before .before .before .before .before .before .before .before .before .before .before .before .before .before .before in
+    let l = c .before .before .before .before .before .before .before .before .before .before .before .before .before .before .before .before .before .loop in
+    let i = l .i in
+    let inv = l .inv in
     let detunings = start .args .detunings .now in
-    let i = c .before .before .before .before .before .before .before .before .before .before .before .before .before .before .before .before .before .before .loop .i in
-    let inv = c .before .before .before .before .before .before .before .before .before .before .before .before .before .before .before .before .before .before .loop .inv in
-    let fine = c .before .before .before .before .before .before .before .before .before .before .before .before .before .before .before .tuning-of .ensures ∙ ap (tuningRule FineTuning) (c .before .before .before .before .before .before .before .before .before .before .before .before .before .before .before .before .ratio-at .ensures) in
-    let bend = c .before .before .before .before .before .before .before .before .before .before .before .before .before .before .tuning-of2 .ensures ∙ ap (tuningRule Bend) (c .before .before .before .before .before .before .before .before .before .before .before .before .before .before .before .before .ratio-at .ensures) in (
+    let fine = tunings .0 ∙ ap (tuningRule FineTuning) ratio in
+    let bend = tunings .1 ∙ ap (tuningRule Bend) ratio in (
       omega arith,
       filled-turn (λ k. refusalOf (tuningAt FineTuning detunings k)) (start .args .refusals .now) i _ _ _ (c .before .before .before .before .before .before .before .before .before .before .before .put-byte .ensures) (inv .1) (c .before .before .before .before .before .before .before .before .before .before .before .before .refusal-of .ensures ∙ ap refusalOf fine),
       filled-turn (λ k. fineOf (tuningAt FineTuning detunings k)) (start .args .fines .now) i _ _ _ (c .before .before .before .before .before .before .put-short .ensures) (inv .2) (c .before .before .before .before .before .before .before .fine-of .ensures ∙ ap fineOf fine),
@@ -105,8 +105,7 @@ tune-values-spec =
     μ-loop
     loop-holds
     ratio-at-requires
-    tuning-of-requires
-    tuning-of-requires-2
+    tunings-of-requires
     refusal-of-requires
     put-byte-requires
     fine-of-requires
