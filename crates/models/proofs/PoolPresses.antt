@@ -1,6 +1,7 @@
 -- What an accepted press or a repitch answers: its detuning can be measured, since its note is a note and its pitch a pitch. Assumes nothing.
 use mathlib.Core.Path.{_≡_, refl, sym, ap, subst, _∙_}
 use mathlib.Core.Bool.{Bool, true, not}
+use mathlib.Core.List.{List}
 use mathlib.Core.Option.{Option, some, none}
 use Prim.Native.Nat.{ℕ}
 use native.Mathlib.Omega.{arith}
@@ -15,10 +16,10 @@ use Rattle.arithmetic.specs.Nearest.{nearestNote}
 use Rattle.arithmetic.proofs.Bounds.{detuning-positive}
 use Rattle.arithmetic.proofs.Nearest.{nearest-is-note}
 use Rattle.models.specs.Lists.{first}
-use Rattle.models.specs.Pool.{State, Place, Press, accepted, pool, found, roomFor, pressedOn, pressed, unlessHeld, registerRule, tuning, repitchRule, isHeld}
-use Rattle.models.specs.JitModel.{view}
-use Rattle.models.specs.declared.jit.JitTuningModel.{JitTuningModel}
-use Rattle.models.proofs.Pools.{value-by, found-note}
+use Rattle.models.specs.Pool.{State, Place, Press, accepted, rejected, pool, found, roomFor, pressedOn, pressed, unlessHeld, registerRule, tuning, repitchRule, isHeld}
+use Rattle.models.specs.Block.{stateOf, registerNoteRule}
+use Rattle.models.proofs.Pools.{value-by}
+use Rattle.models.proofs.Blocks.{found-note}
 
 true-of : (b : Bool) → T b → b ≡ true
 true-of true t = refl
@@ -48,16 +49,50 @@ press-measurable s key hz {r} e a =
     let same : pressed s key note v ≡ r = cc in
     rw (made-with s key note v (ap (λ x. x .0) same ∙ a) .1) (measurable hz note (tested .0) (nearest-is-note hz (subst T (sym (tested .0)) tt)))
 
-pub repitch-measurable :
-    (m : JitTuningModel) (key : ℕ) (hz : Float) {p : Place} {d : Float} → repitchRule (view m) key hz ≡ value (some (p, d)) → positive d ≡ true
-unfolding repitchRule tuning
-repitch-measurable m key hz {p} {d} e = go (found (view m) key) refl (tested .1)
-  where
-    tested : (isPitch hz ≡ true) × (value (some (p, d)) ≡ value (tuning hz (found (view m) key)))
-    tested = value-by 1 (some (p, d)) (isPitch hz) (value (tuning hz (found (view m) key))) (sym e)
+-- an accepted press is the press for the note and the detuning that it answers
+pub register-again :
+    (s : State) (key : ℕ) (hz : Float) {c : ℕ} {st : Option ℤ} {z : ℤ} {d : Float} {t : State} → registerRule s key hz ≡ value (accepted c st z d, t)
+    → registerNoteRule s key z d ≡ value (accepted c st z d, t)
+unfolding registerRule unlessHeld registerNoteRule
+register-again s key hz {c} {st} {z} {d} {t} e =
+    let note = nearestNote hz in
+    let v = detuningOf hz note in
+    let r : Press × State = (accepted c st z d, t) in
+    let tested = value-by 1 r (isPitch hz) (unlessHeld s key note v) (sym e) in
+    let new = value-by 11 r (not (isHeld (found s key))) (value (pressed s key note v)) (tested .1) in
+    let same : pressed s key note v ≡ r = cc in
+    let with-these = made-with s key note v (ap (λ x. x .0) same) in
+    let noted : isNote z ≡ true = rw (with-these .0) (nearest-is-note hz (subst T (sym (tested .0)) tt)) in
+    rw (noted, new .0) (ap (λ (n : ℤ). value (pressed s key n d)) (with-these .0) ∙ ap (λ (x : Float). value (pressed s key note x)) (with-these .1) ∙ ap value same)
 
-    go : (o : Option Place) → found (view m) key ≡ o → value (some (p, d)) ≡ value (tuning hz o) → positive d ≡ true
+-- a rejected press leaves the state
+pub rejected-stays : (s : State) (key : ℕ) (hz : Float) {t : State} → registerRule s key hz ≡ value (rejected, t) → s ≡ t
+unfolding registerRule unlessHeld pressed pressedOn
+rejected-stays s key hz {t} e = go (first (pool (roomFor s note .state) note .free)) same
+  where
+    note : ℤ
+    note = nearestNote hz
+
+    tested : (isPitch hz ≡ true) × (value (rejected, t) ≡ unlessHeld s key note (detuningOf hz note))
+    tested = value-by 1 (rejected, t) (isPitch hz) (unlessHeld s key note (detuningOf hz note)) (sym e)
+
+    same : pressed s key note (detuningOf hz note) ≡ (rejected, t)
+    same = let f = value-by 11 (rejected, t) (not (isHeld (found s key))) (value (pressed s key note (detuningOf hz note))) (tested .1) .1 in cc
+
+    go : (x : Option ℕ) → pressedOn x (roomFor s note) s key note (detuningOf hz note) ≡ (rejected, t) → s ≡ t
+    go (some x) f = let g = ap (λ (r : Press × State). r .0) f in let z : _≡_ {A = ℕ} 0 1 = cc in absurd (omega arith)
+    go none f = ap (λ (r : Press × State). r .1) f
+
+pub repitch-measurable :
+    (l : List ℕ) (key : ℕ) (hz : Float) {p : Place} {d : Float} → repitchRule (stateOf l) key hz ≡ value (some (p, d)) → positive d ≡ true
+unfolding repitchRule tuning
+repitch-measurable l key hz {p} {d} e = go (found (stateOf l) key) refl (tested .1)
+  where
+    tested : (isPitch hz ≡ true) × (value (some (p, d)) ≡ value (tuning hz (found (stateOf l) key)))
+    tested = value-by 1 (some (p, d)) (isPitch hz) (value (tuning hz (found (stateOf l) key))) (sym e)
+
+    go : (o : Option Place) → found (stateOf l) key ≡ o → value (some (p, d)) ≡ value (tuning hz o) → positive d ≡ true
     go (some q) f h =
         let same : _≡_ {A = Place × Float} (p, d) (q, detuningOf hz (q .note)) = cc in
-        rw (ap (λ (x : Place × Float). x .1) same) (measurable hz (q .note) (tested .0) (found-note m key q f))
+        rw (ap (λ (x : Place × Float). x .1) same) (measurable hz (q .note) (tested .0) (found-note l key q f))
     go none f h = let z : _≡_ {A = ℕ} 0 1 = cc in absurd (omega arith)

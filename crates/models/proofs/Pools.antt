@@ -18,14 +18,11 @@ use Rattle.arithmetic.proofs.Outcomes.{no-value}
 use Rattle.arithmetic.proofs.Notes.{letter-below}
 use Rattle.arithmetic.proofs.Refusals.{letter-refuses, detuning-refuses}
 use Rattle.models.specs.Lists.{first}
-use Rattle.models.specs.Pool.{Place, State, Held, poolCount, poolOf, pool, found, withPool, withKey, freed, forgotten, released, releasedFrom, releasedAll, heldAt, oldestOf, oldest, Room, room, madeRoom, roomFor, accepted, rejected, taken, pressed, pressedOn, heldFrom}
-use Rattle.models.specs.JitModel.{records, view}
+use Rattle.models.specs.Pool.{Place, State, Held, poolCount, poolOf, pool, found, withPool, withKey, freed, forgotten, released, releasedFrom, releasedAll, heldAt, oldestOf, oldest, Room, room, madeRoom, roomFor, accepted, rejected, taken, pressed, pressedOn, heldFrom, unlessHeld, registerRule}
 use Rattle.models.specs.declared.jit.PoolGroupBy.{PoolGroupBy}
 use Rattle.models.specs.declared.jit.PoolGroupBy.the-variants.{NoteLetter, Channel}
 use Rattle.models.specs.declared.jit.PoolingMode.{PoolingMode}
 use Rattle.models.specs.declared.jit.PoolingMode.the-variants.{Block, Stop, Ignore}
-use Rattle.models.specs.declared.jit.JitTuningModel.{JitTuningModel}
-use Rattle.models.proofs.KeyRecords.{records-note}
 use Rattle.models.proofs.HeldKeys.{held-here, held-not}
 
 -- ---- what a call's value says of a rule
@@ -54,12 +51,6 @@ module _ (z : ℤ) (is : isNote z ≡ true) (n : ℕ) where
 
   pub letter-not : refused n ≡ letterRule z → ⊥
   letter-not e = true≢false (sym is ∙ letter-refuses z n .0 (sym e) .0)
-
--- ---- a found key's note is a note, in every model
-
-pub found-note : (m : JitTuningModel) (key : ℕ) (p : Place) → found (view m) key ≡ some p → isNote (p .note) ≡ true
-unfolding found view records
-found-note m key p e = records-note (m .keys .slots) key p e
 
 -- the longest-held key is the first of the press order, and is found
 pub oldest-is : (s : State) (note : ℤ) (o : Held) → oldest s note ≡ some o → (first (pool s note .order) ≡ some (o .key)) × (found s (o .key) ≡ some (o .place))
@@ -148,6 +139,12 @@ module _ (hz : Float) where
       let g = f .1 in
       let same : _≡_ {A = ℤ × Float} (n, d) nearest = cc in
       (f .0, ap (λ (x : ℤ × Float). x .0) same, ap (λ (x : ℤ × Float). x .1) same)
+
+  -- a press by its pitch is one for the nearest note
+  pub register-nearest : (s : State) (key : ℕ) (n : ℤ) (d : Float) → (isPitch hz ≡ true) × (n ≡ nearestNote hz) × (d ≡ detuningOf hz (nearestNote hz))
+      → unlessHeld s key n d ≡ registerRule s key hz
+  unfolding registerRule
+  register-nearest s key n d is = ap (λ z. unlessHeld s key z d) (is .1) ∙ ap (unlessHeld s key (nearestNote hz)) (is .2) ∙ rw (is .0)
 
   module _ (z : ℤ) (pitch : isPitch hz ≡ true) (note : isNote z ≡ true) where
     pub detuning-is : (d : Float) → value d ≡ detuningRule hz z → d ≡ detuningOf hz z

@@ -1,57 +1,26 @@
 -- What the structs of the pool model hold, and what its answers are, in the words of the rules. Assumes nothing.
 use Prim.Native.Nat.{ℕ}
-use mathlib.Core.Bool.{cond}
-use mathlib.Core.List.{List, map}
+use mathlib.Core.List.{List}
 use mathlib.Core.Option.{Option, some, none}
-use lib.IntN.{ℤ, pos}
+use lib.IntN.{ℤ}
 use lib.Ieee.{Float}
-use lib.ListN.{take}
 use Rattle.arithmetic.specs.Outcome.{Outcome, value, refused}
-use Rattle.arithmetic.specs.Note.{isNote}
-use Rattle.models.specs.ChannelList.{entries, channelsAnswer}
-use Rattle.models.specs.Pool.{Place, Held, Pool, State, poolCount, Press, accepted, rejected}
-use Rattle.models.specs.declared.queue.Queue.{Queue}
+use Rattle.models.specs.ChannelList.{channelsAnswer}
+use Rattle.models.specs.Pool.{Place, Held, State, Press, accepted, rejected}
+use Rattle.models.specs.Block.{stateOf}
 use Rattle.models.specs.declared.keys.AccessKeyResult as A
 use Rattle.models.specs.declared.keys.NextKey as N
-use Rattle.models.specs.declared.keys.Slot.{Slot}
-use Rattle.models.specs.declared.keys.Keys.{Keys}
 use Rattle.models.specs.declared.jit.StoppedNote as S
 use Rattle.models.specs.declared.jit.RegisterKeyResult as R
 use Rattle.models.specs.declared.jit.RepitchKeyResult as P
-use Rattle.models.specs.declared.pool.JitPool.{JitPool}
 use Rattle.models.specs.declared.jit.JitTuningModel.{JitTuningModel}
 use Rattle.models.specs.declared.jit.Registered.{Registered}
 use Rattle.models.specs.declared.jit.Opened.{Opened}
 
 -- ---- the model
 
--- A queue's items, the front first: the first of its sixteen places, all of them if its length is larger.
-unfoldable pub items : Queue → List ℕ
-items q = take (q .len) (q .slots)
-
--- A key is found if its record has a note.
-unfoldable pub recordOf : Slot → Option Place
-recordOf s = cond (isNote (s .note)) (some (record { channel = s .channel; note = s .note })) none
-
--- that of a key that is not found: 501 is no note
-abbrev pub noRecord : Slot
-noRecord = record { channel = 0; note = pos 501 }
-
-unfoldable pub records : Keys → List (Option Place)
-records k = map recordOf (k .slots)
-
-unfoldable pub poolView : JitPool → Pool
-poolView p = record { free = items (p .free); order = items (p .order) }
-
 unfoldable pub view : JitTuningModel → State
-view m =
-    record {
-      channels = entries (m .channels);
-      group = m .«group_by»;
-      mode = m .«pooling_mode»;
-      pools = take (poolCount (m .«group_by»)) (map poolView (m .pools));
-      keys = records (m .keys);
-    }
+view m = stateOf (m .cells)
 
 -- ---- the answers
 

@@ -2,13 +2,14 @@
 pub mod Outcome
 pub mod Refusal
 pub mod Lists
+pub mod Keys
 pub mod ChannelList
 pub mod Steps
 pub mod Answers
 pub mod Pool
+pub mod Block
 pub mod JitModel
-pub mod PoolInside
-pub mod Change
+pub mod PoolInternal
 pub mod Line
 pub mod Walk
 pub mod Placing

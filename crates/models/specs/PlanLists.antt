@@ -11,12 +11,9 @@ use Rattle.arithmetic.specs.Refusal.{detuningOutOfRange, noteOutOfRange, keyTwi
 use Rattle.arithmetic.specs.Outcome.{Outcome, value, refused, refuse_unless_then_}
 use Rattle.arithmetic.specs.Note.{isNote}
 use Rattle.arithmetic.specs.Nearest.{nearestRule}
+pub use Rattle.models.specs.Keys.{keyCount}
 use Rattle.models.specs.Lists.{member}
 use Rattle.models.specs.Line.{Line}
-
--- "A key is a number 0 to 255": how many there are.
-abbrev pub keyCount : ℕ
-keyCount = 256
 
 -- "0.5 to 2": no comparison with a NaN holds. (`fin false m e` is the f64 m * 2 ^ e.)
 unfoldable pub isPlanned : Float → Bool

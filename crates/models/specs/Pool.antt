@@ -12,6 +12,7 @@ use Rattle.arithmetic.specs.Outcome.{Outcome, value, refused, refuse_unless_the
 use Rattle.arithmetic.specs.Note.{letterOf}
 use Rattle.arithmetic.specs.Pitch.{isPitch, detuningOf}
 use Rattle.arithmetic.specs.Nearest.{nearestNote}
+pub use Rattle.models.specs.Keys.{keyCount}
 use Rattle.models.specs.Lists.{member, without, upward, first}
 use Rattle.models.specs.ChannelList.{listRule, present}
 use Rattle.models.specs.declared.jit.PoolGroupBy.{PoolGroupBy}
@@ -20,10 +21,6 @@ use Rattle.models.specs.declared.jit.PoolingMode.{PoolingMode}
 use Rattle.models.specs.declared.jit.PoolingMode.the-variants.{Block, Stop, Ignore}
 
 -- ---- the state
-
--- "A key is a number 0 to 255."
-abbrev pub keyCount : ℕ
-keyCount = 256
 
 -- Where a found key sounds.
 pub record Place : Type 0 where

@@ -1,131 +1,114 @@
-// A queue of at most sixteen numbers, by value, first in first out.
+// A queue of at most sixteen numbers in a region of the block: a count, then the items, the front first.
 
 ghost use mathlib.Core.Path.{_≡_};
-ghost use mathlib.Core.List.{[]};
-ghost use Prim.Native.Nat.{_≤_};
-ghost use lib.ListN.{length, take, drop};
-ghost use Rattle.models.specs.Lists.{member, upward, without, first};
-ghost use Rattle.models.specs.JitModel.{items};
-ghost use Rattle.models.specs.PoolInside.{front};
+ghost use Prim.Native.Nat.{_+_, _≤_, _<_};
+ghost use lib.ListN.{length, take, drop, replicate};
+ghost use Rattle.models.specs.Lists.{member, without, upward};
 ghost use Rattle.models.specs.Pool.{behind};
+ghost use Rattle.models.specs.Block.{queueAt};
+ghost use Rattle.models.specs.PoolInternal.{Kept};
 
-// As many as there are MIDI channels.
-const MOST_ITEMS: u8 = 16;
+const MOST_ITEMS: u16 = 16;
 
-pub struct Queue {
-    slots: [u8; 16],
-    len: u8,
+// The cells behind a place, moved down by one.
+fn shift(cells: &mut [u16], from: usize, len: usize)
+    requires { ⌜ from + len < length (now cells) ⌝ }
+    ensures { λ r. ⌜ Kept from len (now (cells .entry)) (now (cells .exit)) × (take len (drop from (now (cells .exit))) ≡ take len (drop (from + 1) (now (cells .entry)))) ⌝ }
+{
+    let mut i: usize = 0;
+    while i < len {
+        let y = cells[from + i + 1];
+        cells[from + i] = y;
+        i += 1;
+    }
 }
 
-pub(crate) enum Front {
-    Item(u8),
-    Empty,
+// The cells of a region without a number, moved together; how many they are.
+fn sift(cells: &mut [u16], from: usize, len: usize, x: u16) -> usize
+    requires { ⌜ from + len ≤ length (now cells) ⌝ }
+    ensures { λ r. ⌜ (r ≤ len) × Kept from len (now (cells .entry)) (now (cells .exit)) × (take r (drop from (now (cells .exit))) ≡ without x (take len (drop from (now (cells .entry))))) ⌝ }
+{
+    let mut kept: usize = 0;
+    let mut i: usize = 0;
+    while i < len {
+        let y = cells[from + i];
+        cells[from + kept] = y;
+        if y != x {
+            kept += 1;
+        }
+        i += 1;
+    }
+    kept
 }
 
-impl Queue {
-    pub(crate) fn new() -> Queue
-        ensures { λ r. ⌜ items r ≡ [] ⌝ }
-    {
-        Queue {
-            slots: [0; 16],
-            len: 0,
-        }
+// Zeros in a region.
+pub(crate) fn clear(cells: &mut [u16], from: usize, len: usize)
+    requires { ⌜ from + len ≤ length (now cells) ⌝ }
+    ensures { λ r. ⌜ Kept from len (now (cells .entry)) (now (cells .exit)) × (take len (drop from (now (cells .exit))) ≡ replicate len 0) ⌝ }
+{
+    let mut i: usize = 0;
+    while i < len {
+        cells[from + i] = 0;
+        i += 1;
     }
+}
 
-    // The numbers from 0 upward, n of them.
-    pub(crate) fn counting(n: u8) -> Queue
-        requires { ⌜ n ≤ 16 ⌝ }
-        ensures { λ r. ⌜ items r ≡ upward 0 n ⌝ }
-    {
-        Queue {
-            slots: [0, 1, 2, 3, 4, 5, 6, 7, 8, 9, 10, 11, 12, 13, 14, 15],
-            len: n,
-        }
+// The numbers from 0 upward in a region.
+pub(crate) fn count_up(cells: &mut [u16], from: usize, len: usize)
+    requires { ⌜ (from + len ≤ length (now cells)) × (len ≤ 16) ⌝ }
+    ensures { λ r. ⌜ Kept from len (now (cells .entry)) (now (cells .exit)) × (take len (drop from (now (cells .exit))) ≡ upward 0 len) ⌝ }
+{
+    let mut i: usize = 0;
+    while i < len {
+        let low = i as u16;
+        cells[from + i] = low;
+        i += 1;
     }
+}
 
-    // How many items there are, and that they are the array's first.
-    fn size(self) -> usize
-        ensures { λ r. ⌜ (r ≡ length (items self)) × (r ≤ 16) × (length (self .slots) ≡ 16) × (take r (self .slots) ≡ items self) ⌝ }
-    {
-        let len = self.len;
-        if len < MOST_ITEMS {
-            return len as usize;
-        }
-        MOST_ITEMS as usize
+// How many items there are, and that they are the first behind the count.
+pub(crate) fn size(cells: &[u16], at: usize) -> usize
+    requires { ⌜ at + 17 ≤ length (now cells) ⌝ }
+    ensures { λ r. ⌜ (r ≤ 16) × (queueAt (now (cells .entry)) at ≡ take r (drop (at + 1) (now (cells .entry)))) ⌝ }
+{
+    let count = cells[at];
+    if count < MOST_ITEMS {
+        return count as usize;
     }
+    MOST_ITEMS as usize
+}
 
-    // One item more at the back; a full queue stays as it is.
-    pub(crate) fn push(self, x: u8) -> Queue
-        ensures { λ r. ⌜ items r ≡ behind (items self) x ⌝ }
-    {
-        let size = self.size();
-        let mut slots = self.slots;
-        if size < 16 {
-            slots[size] = x;
-            let len = (size + 1) as u8;
-            return Queue { slots, len };
-        }
-        self
+// One item more at the back; a full queue stays as it is.
+pub(crate) fn push(cells: &mut [u16], at: usize, x: u16)
+    requires { ⌜ at + 17 ≤ length (now cells) ⌝ }
+    ensures { λ r. ⌜ Kept at 17 (now (cells .entry)) (now (cells .exit)) × (queueAt (now (cells .exit)) at ≡ behind (queueAt (now (cells .entry)) at) x) ⌝ }
+{
+    let n = size(cells, at);
+    if n < 16 {
+        cells[at + 1 + n] = x;
+        cells[at] = (n + 1) as u16;
     }
+}
 
-    pub(crate) fn front(self) -> Front
-        ensures { λ r. ⌜ front r ≡ first (items self) ⌝ }
-    {
-        let size = self.size();
-        if 0 < size {
-            let slots = self.slots;
-            return Front::Item(slots[0]);
-        }
-        Front::Empty
+// The queue without its front.
+pub(crate) fn drop_front(cells: &mut [u16], at: usize)
+    requires { ⌜ at + 17 ≤ length (now cells) ⌝ }
+    ensures { λ r. ⌜ Kept at 17 (now (cells .entry)) (now (cells .exit)) × (queueAt (now (cells .exit)) at ≡ drop 1 (queueAt (now (cells .entry)) at)) ⌝ }
+{
+    let n = size(cells, at);
+    if 0 < n {
+        shift(cells, at + 1, n - 1);
+        cells[at] = (n - 1) as u16;
     }
+}
 
-    // The queue without its front.
-    pub(crate) fn rest(self) -> Queue
-        ensures { λ r. ⌜ items r ≡ drop 1 (items self) ⌝ }
-    {
-        let size = self.size();
-        let slots = self.slots;
-        let mut kept = Queue::new();
-        let mut i: usize = 1;
-        while i < size {
-            let y = slots[i];
-            kept = kept.push(y);
-            i += 1;
-        }
-        kept
-    }
-
-    pub(crate) fn has(self, x: u8) -> bool
-        ensures { λ r. ⌜ r ≡ member x (items self) ⌝ }
-    {
-        let size = self.size();
-        let slots = self.slots;
-        let mut i: usize = 0;
-        while i < size {
-            let y = slots[i];
-            if y == x {
-                return true;
-            }
-            i += 1;
-        }
-        false
-    }
-
-    // The queue without a number.
-    pub(crate) fn without(self, x: u8) -> Queue
-        ensures { λ r. ⌜ items r ≡ without x (items self) ⌝ }
-    {
-        let size = self.size();
-        let slots = self.slots;
-        let mut kept = Queue::new();
-        let mut i: usize = 0;
-        while i < size {
-            let y = slots[i];
-            if y != x {
-                kept = kept.push(y);
-            }
-            i += 1;
-        }
-        kept
-    }
+// The queue without a number; whether it was there.
+pub(crate) fn remove(cells: &mut [u16], at: usize, x: u16) -> bool
+    requires { ⌜ at + 17 ≤ length (now cells) ⌝ }
+    ensures { λ r. ⌜ (r ≡ member x (queueAt (now (cells .entry)) at)) × Kept at 17 (now (cells .entry)) (now (cells .exit)) × (queueAt (now (cells .exit)) at ≡ without x (queueAt (now (cells .entry)) at)) ⌝ }
+{
+    let n = size(cells, at);
+    let left = sift(cells, at + 1, n, x);
+    cells[at] = left as u16;
+    left < n
 }

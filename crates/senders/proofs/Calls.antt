@@ -10,41 +10,32 @@ use lib.ListN.{length}
 use borrow.Author.Tests.{lt-ltb}
 use Rattle.models.specs.Outcome.{Outcome, value, refused}
 use Rattle.models.specs.Pool.{State, found, released, accepted, rejected, registerRule, replied}
-use Rattle.models.specs.Change.{noChange}
+use Rattle.models.specs.Block.{stateOf, kindAt}
 use Rattle.models.specs.Steps.{sentAs}
-use Rattle.models.specs.declared.jit.Change.{Change}
+use Rattle.models.specs.declared.steps.TuningKind.{TuningKind}
 use Rattle.senders.specs.Lent.{Effect, sends, sent, fitted, Moved, Answers, Steps}
 use Rattle.senders.specs.Midi.{bytesOf}
 use Rattle.senders.specs.Tuner.{onChannel, pressMessages, keyMessages}
-use Rattle.senders.specs.Jit.{Tuner, tuner, after, withPool, Pressed, sounds, rejects, noteOnRule, noteOffRule}
+use Rattle.senders.specs.Jit.{Tuner, view, tuner, withPool, Pressed, sounds, rejects, noteOnRule, noteOffRule}
 use Rattle.senders.specs.declared.tuner.NoteMessage.the-variants.{Off}
 use Rattle.senders.specs.declared.jit.JitTuner.{JitTuner}
 use Rattle.senders.proofs.Lent.{counted, ends-written}
 
 -- ---- the model's reply
 
-pub reply-value : {A : Type 0} (s : State) (o : Outcome (A × State)) {a : A} {u : State} → _≡_ {A = Outcome A × State} (value a, u) (replied s o) → o ≡ value (a, u)
+pub reply-value : {A : Type 0} (s : State) (o : Outcome (A × State)) {a : A} → value a ≡ replied s o .0 → o ≡ value (a, replied s o .1)
 unfolding replied
-reply-value {A} s (value r) {a} {u} e =
-    let f : _≡_ {A = Outcome A} (value a) (value (r .0)) = ap (λ (x : Outcome A × State). x .0) e in
-    let g : u ≡ r .1 = ap (λ (x : Outcome A × State). x .1) e in
-    let h : a ≡ r .0 = cc in
-    rw (h, g)
-reply-value {A} s (refused n) {a} e =
-    let f : _≡_ {A = Outcome A} (value a) (refused n) = ap (λ (x : Outcome A × State). x .0) e in
-    let z : _≡_ {A = ℕ} 0 1 = cc in
-    absurd (omega arith)
+reply-value s (value r) {a} e = let h : a ≡ r .0 = cc in ap (λ x. value (x, r .1)) (sym h)
+reply-value s (refused n) {a} e = let z : _≡_ {A = ℕ} 0 1 = cc in absurd (omega arith)
 
-pub reply-refused : {A : Type 0} (s : State) (o : Outcome (A × State)) {n : ℕ} {u : State} → _≡_ {A = Outcome A × State} (refused n, u) (replied s o) → o ≡ refused n
+pub reply-refused : {A : Type 0} (s : State) (o : Outcome (A × State)) {n : ℕ} → refused n ≡ replied s o .0 → o ≡ refused n
 unfolding replied
-reply-refused {A} s (value r) {n} e =
-    let f : _≡_ {A = Outcome A} (refused n) (value (r .0)) = ap (λ (x : Outcome A × State). x .0) e in
-    let z : _≡_ {A = ℕ} 0 1 = cc in
-    absurd (omega arith)
-reply-refused {A} s (refused m) {n} e =
-    let f : _≡_ {A = Outcome A} (refused n) (refused m) = ap (λ (x : Outcome A × State). x .0) e in
-    let same : m ≡ n = cc in
-    ap refused same
+reply-refused s (value r) {n} e = let z : _≡_ {A = ℕ} 0 1 = cc in absurd (omega arith)
+reply-refused s (refused m) {n} e = let same : m ≡ n = cc in ap refused same
+
+-- the tuner of a block whose pool has changed
+pub view-moved : (l m : List ℕ) {u : State} → stateOf m ≡ u → kindAt m ≡ kindAt l → view m ≡ withPool (view l) u
+view-moved l m {u} e k = ap (λ (s : State). record { pool = s; kind = kindAt m }) e ∙ ap (λ (d : TuningKind). record { pool = u; kind = d }) k
 
 -- ---- the press
 
@@ -85,15 +76,14 @@ releaseBytes t key v = bytesOf (keyMessages Off (t .pool .channels) v (found (t 
 pub release-sent : (t : Tuner) (key v : ℕ) → v < 128 → noteOffRule t key v ≡ sends (releaseBytes t key v) (withPool t (released (t .pool) key))
 release-sent t key v low = rw (lt-ltb v 128 low)
 
--- ---- a call that tells what it changes, and the tuner after the change
+-- ---- a call in place, and the call by value made of it
 
-pub carried :
-    {R : Type 0} {rule : Outcome (Effect R Tuner)} {old new : List ℕ} {answer : Outcome R} {change : Change} (t back : JitTuner)
-    → (tuner back ≡ after (tuner t) change) × (change ≡ noChange → back ≡ t) → Steps (after (tuner t)) rule noChange old answer change new
-    → Steps tuner rule t old answer back new
-carried {R} {rule} {old} {new} {answer} {change} t back m s =
-    record { told-is = s .told-is; moved-is = by (fitted (length old) rule) (s .moved-is); left-is = s .left-is }
+pub by-value :
+    {R : Type 0} {rule : Outcome (Effect R Tuner)} {old new : List ℕ} {answer : Outcome R} (t : JitTuner) (cells : List ℕ)
+    → Steps view rule (t .cells) old answer cells new → Steps tuner rule t old answer (record { cells = cells }) new
+by-value {R} {rule} {old} {new} {answer} t cells s =
+    record { told-is = s .told-is; moved-is = moved (fitted (length old) rule) (s .moved-is); left-is = s .left-is }
   where
-    by : (o : Outcome (Effect R Tuner)) → Moved (after (tuner t)) o noChange change → Moved tuner o t back
-    by (value e) h = m .0 ∙ h
-    by (refused n) h = m .1 h
+    moved : (o : Outcome (Effect R Tuner)) → Moved view o (t .cells) cells → Moved tuner o t (record { cells = cells })
+    moved (value e) h = h
+    moved (refused n) h = ap (λ (l : List ℕ). let u : JitTuner = record { cells = l } in u) h

@@ -1,5 +1,6 @@
 -- The pool tuner (document 01, "midi.rs under tuner" over "jit.rs"): the rule of each call, over what the tuner holds. `fitted` adds 10 to each.
 -- Assumes nothing.
+use mathlib.Core.Path.{_≡_}
 use mathlib.Core.List.{List, []}
 use mathlib.Core.Option.{Option, some, none}
 use Prim.Native.Nat.{ℕ}
@@ -8,13 +9,11 @@ use lib.ListN.{length}
 use Rattle.models.specs.Outcome.{Outcome, value, refused, refuse_unless_then_}
 use Rattle.models.specs.Refusal.{dataByteOver127}
 use Rattle.models.specs.ChannelList.{channelsAnswer}
-use Rattle.models.specs.Pool.{State, Place, Held, Press, accepted, rejected, found, released, registerRule, replied, repitchRule, openRule, heldKeys, stopped}
-use Rattle.models.specs.JitModel.{view}
-use Rattle.models.specs.Change.{changed, noChange, pressChange, releaseChange}
+use Rattle.models.specs.Pool.{State, Place, Held, Press, accepted, rejected, found, released, registerRule, repitchRule, openRule, heldKeys, stopped}
+use Rattle.models.specs.Block.{stateOf, kindAt}
 use Rattle.models.specs.Steps.{sentAs}
 use Rattle.models.specs.declared.steps.TuningKind.{TuningKind}
 use Rattle.models.specs.declared.jit.PoolingMode.{PoolingMode}
-use Rattle.models.specs.declared.jit.Change.{Change}
 use Rattle.models.specs.declared.jit.PoolGroupBy.the-variants.{Channel}
 use Rattle.senders.specs.Message.{Message, isData}
 use Rattle.senders.specs.Midi.{bytesOf}
@@ -31,31 +30,25 @@ pub record Tuner : Type 0 where
   pub pool : State
   pub kind : TuningKind
 
+-- the tuner of a block
+abbrev pub view : List ℕ → Tuner
+view l = record { pool = stateOf l; kind = kindAt l }
+
 abbrev pub tuner : JitTuner → Tuner
-tuner t = record { pool = view (t .model); kind = t .kind }
+tuner t = view (t .cells)
 
 abbrev pub withPool : Tuner → State → Tuner
 withPool t s = record { pool = s; kind = t .kind }
-
--- the tuner after a change of its pool
-abbrev pub after : Tuner → Change → Tuner
-after t c = withPool t (changed (t .pool) c)
-
--- the changes that a press and a release tell where they are not refused
-abbrev pub pressTells : Tuner → ℕ → Float → Change
-pressTells t key hz = pressChange key (replied (t .pool) (registerRule (t .pool) key hz) .0)
-
-abbrev pub releaseTells : Tuner → ℕ → Change
-releaseTells t key = releaseChange key (found (t .pool) key)
-
-abbrev pub unlessRefused : {R : Type 0} → Outcome R → Change → Change
-unlessRefused (value r) c = c
-unlessRefused (refused n) c = noChange
 
 -- ---- a tuner is started on a channel list; "only channel groups are sent"
 
 abbrev pub startRule : List ℕ → TuningKind → PoolingMode → Outcome (List ℕ) × Tuner
 startRule channels kind mode = let o = openRule channels Channel mode in (o .0, record { pool = o .1; kind = kind })
+
+-- a block after a start in place: a refused list leaves it as it was
+abbrev pub Starts : Outcome (List ℕ) → Tuner → List ℕ → List ℕ → Type 0
+Starts (value cs) t old new = view new ≡ t
+Starts (refused n) t old new = new ≡ old
 
 abbrev pub opened : Opened → Outcome (List ℕ) × Tuner
 opened o = (channelsAnswer (o .answer), tuner (o .tuner))

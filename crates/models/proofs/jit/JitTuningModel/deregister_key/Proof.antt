@@ -1,23 +1,15 @@
--- `jit::JitTuningModel::deregister_key` meets its contract: what a release answers, and the model after its change. Assumes nothing.
-use borrow.Author.Needs.{needs}
-use mathlib.Core.Path.{_≡_, ap, _∙_}
+-- `jit::JitTuningModel::deregister_key` meets its contract: that of the call in place. Assumes nothing.
 use Rattle.models.specs.JitModel.{view}
-use Rattle.models.specs.Change.{changed}
-use Rattle.models.proofs.Told.{release-told}
+use borrow.Author.Needs.{needs}
 use Rattle.models.proofs.jit.JitTuningModel.deregister_key.Statement.{statement}
 use Rattle.models.proofs.jit.JitTuningModel.deregister_key.Tie as tie
 
-release-requires : tie.Need-release-requires
-release-requires c κs = search needs
-
-changed-requires : tie.Need-changed-requires
-changed-requires c κs = search needs
+deregister-key-requires : tie.Need-deregister-key-requires
+deregister-key-requires c κs = search needs
 
 returns : tie.Need-returns
-returns c =
-    let a = c .before .before .args in
-    let r = c .before .release .ensures in
-    (r .0, c .changed .ensures .0 ∙ ap (changed (view (a .self))) (r .1) ∙ release-told (view (a .self)) (a .key))
+unfolding view
+returns c = (c .deregister-key .ensures .0, c .deregister-key .ensures .1)
 
 pub deregister-key-spec : {M : Type 1} → statement M
-deregister-key-spec = tie.close (tie.spec release-requires changed-requires returns)
+deregister-key-spec = tie.close (tie.spec deregister-key-requires returns)

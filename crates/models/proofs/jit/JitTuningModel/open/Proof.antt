@@ -1,7 +1,7 @@
 -- `jit::JitTuningModel::open` meets its contract: the channel list's answer, and a fresh model with the channels present. Assumes nothing.
 use borrow.Author.Needs.{needs}
 use Rattle.models.specs.Pool.{openRule}
-use Rattle.models.specs.JitModel.{opened}
+use Rattle.models.specs.JitModel.{view, opened}
 use Rattle.models.proofs.jit.JitTuningModel.open.Statement.{statement}
 use Rattle.models.proofs.jit.JitTuningModel.open.Tie as tie
 
@@ -11,12 +11,12 @@ of-requires c κs = search needs
 present-requires : tie.Need-present-requires
 present-requires c κs = search needs
 
-fresh-requires : tie.Need-fresh-requires
-fresh-requires c κs = search needs
+open-requires : tie.Need-open-requires
+open-requires c κs = search needs
 
 returns : tie.Need-returns
-unfolding opened openRule
-returns c = rw (c .fresh .ensures, c .before .present .ensures, c .before .before .of .ensures)
+unfolding opened openRule view
+returns c = rw (c .«open» .ensures .0, c .before .before .present .ensures, c .before .before .before .of .ensures)
 
 pub open-spec : {M : Type 1} → statement M
-open-spec = tie.close (tie.spec of-requires present-requires fresh-requires returns)
+open-spec = tie.close (tie.spec of-requires present-requires open-requires returns)

@@ -1,24 +1,25 @@
--- `jit::JitTuningModel::register_key` meets its contract: what a press answers, and the model after its change. Assumes nothing.
-use borrow.Author.Needs.{needs}
+-- `jit::JitTuningModel::register_key` meets its contract: that of the call in place. Assumes nothing.
 use mathlib.Core.Path.{_≡_, ap, _∙_}
-use Rattle.models.specs.Pool.{State}
-use Rattle.models.specs.JitModel.{told, view, press}
-use Rattle.models.proofs.Told.{press-leads}
+use Rattle.arithmetic.specs.Outcome.{Outcome}
+use Rattle.models.specs.Pool.{Press, State, registerRule, replied}
+use Rattle.models.specs.Block.{stateOf}
+use Rattle.models.specs.JitModel.{view, told}
+use Rattle.models.proofs.Blocks.{moves-state}
+use borrow.Author.Needs.{needs}
 use Rattle.models.proofs.jit.JitTuningModel.register_key.Statement.{statement}
 use Rattle.models.proofs.jit.JitTuningModel.register_key.Tie as tie
 
-press-requires : tie.Need-press-requires
-press-requires c κs = search needs
-
-changed-requires : tie.Need-changed-requires
-changed-requires c κs = search needs
+register-key-requires : tie.Need-register-key-requires
+register-key-requires c κs = search needs
 
 returns : tie.Need-returns
-unfolding told
+unfolding view told
 returns c =
     let a = c .before .before .args in
-    let r = c .before .press in
-    ap (λ (s : State). (press (r .result .result), s)) (c .changed .ensures .0) ∙ press-leads (view (a .self)) (a .key) (a .pitch .hz) (r .result) (r .ensures)
+    let s = stateOf (a .self .cells) in
+    let call = c .register-key in
+    let rule = registerRule s (a .key) (a .pitch .hz) in
+    ap (λ (o : Outcome Press). (o, stateOf (call .last .0))) (call .ensures .0) ∙ ap (λ (t : State). (replied s rule .0, t)) (moves-state rule (a .self .cells) (call .last .0) (call .ensures .1))
 
 pub register-key-spec : {M : Type 1} → statement M
-register-key-spec = tie.close (tie.spec press-requires changed-requires returns)
+register-key-spec = tie.close (tie.spec register-key-requires returns)

@@ -1,27 +1,22 @@
--- `senders::jit::JitTuner::start` meets its contract: the model's opening, with the kind beside it. Assumes nothing.
-use mathlib.Core.Path.{ap}
-use mathlib.Core.List.{List}
-use Prim.Native.Nat.{ℕ}
-use Rattle.models.specs.Outcome.{Outcome}
-use Rattle.models.specs.Pool.{State}
-use Rattle.models.specs.JitModel.{opened}
-use Rattle.models.specs.declared.steps.TuningKind.{TuningKind}
-use Rattle.senders.specs.Jit.{Tuner}
+-- `jit::JitTuner::start` meets its contract: the channel list's answer, and a tuner in which no key is found. Assumes nothing.
+use mathlib.Core.Path.{_≡_, sym, ap, _∙_}
+use Rattle.models.specs.Pool.{openRule}
 use borrow.Author.Needs.{needs}
 use Rattle.senders.proofs.jit.JitTuner.start.Statement.{statement}
 use Rattle.senders.proofs.jit.JitTuner.start.Tie as tie
 
-abbrev beside : TuningKind → Outcome (List ℕ) × State → Outcome (List ℕ) × Tuner
-beside k o = (o .0, record { pool = o .1; kind = k })
+of-requires : tie.Need-of-requires
+of-requires c κs = search needs
+
+present-requires : tie.Need-present-requires
+present-requires c κs = search needs
 
 open-requires : tie.Need-open-requires
 open-requires c κs = search needs
 
 returns : tie.Need-returns
-unfolding opened
-returns c =
-    let k = c .before .before .before .args .kind in
-    ap (beside k) (c .before .«open» .ensures)
+unfolding openRule
+returns c = rw (c .«open» .ensures .0, c .«open» .ensures .1, c .before .before .present .ensures, c .before .before .before .of .ensures)
 
 pub start-spec : {M : Type 1} → statement M
-start-spec = tie.close (tie.spec open-requires returns)
+start-spec = tie.close (tie.spec of-requires present-requires open-requires returns)

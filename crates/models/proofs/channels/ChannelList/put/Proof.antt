@@ -1,0 +1,66 @@
+-- `channels::ChannelList::put` meets its contract: the digits, and how many there are. Assumes nothing.
+use mathlib.Core.Path.{_≡_, sym, ap, _∙_}
+use Prim.Native.Nat.{ℕ, _+_, min}
+use native.Mathlib.Omega.{arith}
+use lib.ListN.{length}
+use Rattle.models.specs.ChannelList.{entries, digits}
+use Rattle.models.proofs.ChannelLists.{entries-few, length-digits}
+use Rattle.models.proofs.Regions.{kept-then, kept-wider, kept-set, queue-counted}
+use borrow.Author.Needs.{needs}
+use Rattle.models.proofs.channels.ChannelList.put.Statement.{statement}
+use Rattle.models.proofs.channels.ChannelList.put.Tie as tie
+
+len-requires : tie.Need-len-requires
+len-requires c κs = search needs
+
+add-put-digits : tie.Need-add-put-digits
+add-put-digits c = search needs
+
+cast-put-digits : tie.Need-cast-put-digits
+cast-put-digits c = search needs
+
+put-digits-requires : tie.Need-put-digits-requires
+put-digits-requires c κs = omega (arith, c .before .before .before .pre, c .before .len .ensures, entries-few (c .before .before .before .args .self))
+
+cast-cells : tie.Need-cast-cells
+cast-cells c = search needs
+
+mul-cells : tie.Need-mul-cells
+mul-cells c = search needs
+
+slice-write-cells : tie.Need-slice-write-cells
+slice-write-cells c = search needs
+
+same-length : tie.Need-same-length
+same-length c = search needs
+
+returns : tie.Need-returns
+unfolding entries
+returns c =
+    let start = c .before .before .before .before .before .before in
+    let a = start .args in
+    let n = c .before .before .before .before .len .result in
+    let put = c .before .before .put-digits in
+    let few = entries-few (a .self) in
+    let counted : n ≡ min (a .self .count) 16 = c .before .before .before .before .len .ensures ∙ length-digits (min (a .self .count) 16) (a .self .digits) in (
+      kept-then
+          (kept-wider (put .ensures .0) (a .at) 17 (omega arith) (omega (arith, c .before .before .before .before .len .ensures)))
+          (kept-set (a .at) 17 (put .last .0) (a .at) n (omega arith) (omega arith)),
+      queue-counted (put .last .0) (a .at) (omega (arith, start .pre, put .ensures .0 .long)) n (omega (arith, c .before .before .before .before .len .ensures))
+          ∙ put .ensures .1
+          ∙ ap (λ (k : ℕ). digits k (a .self .digits)) counted,
+    )
+
+pub put-spec : {M : Type 1} → statement M
+put-spec =
+    tie.close
+    (tie.spec
+    len-requires
+    add-put-digits
+    cast-put-digits
+    put-digits-requires
+    cast-cells
+    mul-cells
+    slice-write-cells
+    same-length
+    returns)
