@@ -19,18 +19,19 @@ use Rattle.arithmetic.specs.Pitch.{isPitch, detuningOf}
 use Rattle.arithmetic.specs.Nearest.{nearestRule, nearestNote}
 use Rattle.arithmetic.proofs.Bounds.{detuning-is, planned-is}
 use Rattle.arithmetic.proofs.Nearest.{nearest-is-note, nearest-detuning}
-use Rattle.models.specs.declared.waiting.Waiting.{Waiting}
 use Rattle.models.specs.Lists.{member}
 use Rattle.models.specs.Line.{Line}
 use Rattle.models.specs.PlanLists.{isPlanned, noteLine, pitchLine, noteLines, pitchLines, keys, lineByLine, noteLists, pitchLists}
-use Rattle.models.specs.PlanInside.{Accepted, Fine, Holds, inOrder, waits}
+use Rattle.models.specs.Pool.{isHeld}
+use Rattle.models.specs.Block.{placeOf}
+use Rattle.models.specs.PlanInside.{Accepted, Adds, Checked, Holds, Room}
 use Rattle.models.proofs.ListLaws.{true→T, outcome, passed, failed}
-use Rattle.models.proofs.Waits.{accepted-snoc, accepted-few, accepted-nil}
+use Rattle.models.proofs.Waits.{accepted-snoc, accepted-few, accepted-nil, room-for}
 
--- ---- a turn of a check: the lines so far wait and were accepted, and the lines that are left decide
-pub record Turn (o : Outcome (List Line)) (w : Waiting) (rest : List (Outcome Line)) : Type 0 where
+-- ---- a turn of a check: the lines so far are held and were accepted, and the lines that are left decide
+pub record Turn (o : Outcome (List Line)) (order cells : List ℕ) (ds : List Float) (n : ℕ) (rest : List (Outcome Line)) : Type 0 where
   pub lines : List Line
-  pub holds : Holds w lines
+  pub holds : Holds order cells ds n lines
   pub ok : Accepted lines
   pub left : o ≡ lineByLine lines rest
 
@@ -41,50 +42,67 @@ pub record Sound (l : Line) : Type 0 where
   pub above : T (positive (l .detuning))
   pub fitting : T (fits binary64 (l .detuning))
 
-pub begins : (w : Waiting) (rest : List (Outcome Line)) → Holds w [] → Turn (lineByLine [] rest) w rest
-begins w rest h = record { lines = []; holds = h; ok = accepted-nil; left = refl }
+pub begins : (order cells : List ℕ) (ds : List Float) (rest : List (Outcome Line)) → Holds order cells ds 0 [] → Turn (lineByLine [] rest) order cells ds 0 rest
+begins order cells ds rest h = record { lines = []; holds = h; ok = accepted-nil; left = refl }
 
-module _ (o : Outcome (List Line)) (w : Waiting) (rest : List (Outcome Line)) where
-  pub turned-down : (n : ℕ) → Turn o w (refused n ∷ rest) → o ≡ refused n
+-- the line at hand was refused, and so is the list; or there is one line more
+module _ (o : Outcome (List Line)) (order cells : List ℕ) (ds : List Float) (n : ℕ) (rest : List (Outcome Line)) (r : ℕ) (order' cells' : List ℕ) (ds' : List Float) where
+  pub turn-refused : (x : Outcome Line) → Turn o order cells ds n (x ∷ rest) → Adds x r n order cells ds order' cells' ds' → (r ≡ 0 → ⊥) → (m : ℕ) → Checked o r order' cells' ds' m
   unfolding lineByLine
-  turned-down n t = t .left
+  turn-refused (refused k) t adds ne m = let c = adds (t .lines) (t .ok) (t .holds) in rw (t .left) c
+  turn-refused (value l) t adds ne m =
+      let c = adds (t .lines) (t .ok) (t .holds) in
+      elim (outcome (member (l .key) (keys (t .lines)))) [
+        | passed u ↦ let d : Checked (refused 5) r order' cells' ds' (n + 1) = rw u at c in let e : o ≡ refused 5 = t .left ∙ rw u in rw e d
+        | failed u ↦ let d : Checked (value (t .lines ++ (l ∷ []))) r order' cells' ds' (n + 1) = rw u at c in absurd (ne (d .0))
+      ]
 
-  module _ (l : Line) (t : Turn o w (value l ∷ rest)) where
-    pub twice : getD (w .seen) (l .key) false ≡ true → o ≡ refused 5
+  pub turn-next : (x : Outcome Line) → Turn o order cells ds n (x ∷ rest) → Adds x r n order cells ds order' cells' ds' → r ≡ 0 → Turn o order' cells' ds' (n + 1) rest
+  unfolding lineByLine
+  turn-next (refused k) t adds e = let c = adds (t .lines) (t .ok) (t .holds) in absurd (c .1 (sym (c .0) ∙ e))
+  turn-next (value l) t adds e =
+      let c = adds (t .lines) (t .ok) (t .holds) in
+      elim (outcome (member (l .key) (keys (t .lines)))) [
+        | passed u ↦ let d : Checked (refused 5) r order' cells' ds' (n + 1) = rw u at c in absurd (d .1 (sym (d .0) ∙ e))
+        | failed u ↦
+            let d : Checked (value (t .lines ++ (l ∷ []))) r order' cells' ds' (n + 1) = rw u at c in
+            record { lines = t .lines ++ (l ∷ []); holds = d .2; ok = d .1; left = t .left ∙ rw u }
+      ]
+
+-- a line that passed by itself, behind lines that are held
+module _ (order cells : List ℕ) (ds : List Float) (n : ℕ) (l : Line) (s : Sound l) (lines : List Line) (ok : Accepted lines) (h : Holds order cells ds n lines) where
+  pub came-before : isHeld (placeOf (getD cells (l .key) 0)) ≡ true → (order' cells' : List ℕ) (ds' : List Float) → Checked (lineByLine lines (value l ∷ [])) 5 order' cells' ds' (n + 1)
+  unfolding lineByLine
+  came-before e order' cells' ds' = rw (sym (h .marked (l .key)) ∙ e) (refl, λ z. absurd (let y : ⊥ = omega arith in y))
+
+  module _ (e : isHeld (placeOf (getD cells (l .key) 0)) ≡ false) where
+    pub new : member (l .key) (keys lines) ≡ false
+    new = sym (h .marked (l .key)) ∙ e
+
+    more-ok : Accepted (lines ++ (l ∷ []))
+    more-ok = accepted-snoc lines l ok new (s .byte) (s .note) (s .above) (s .fitting)
+
+    pub room : Room order ds n (l .key)
+    room =
+        room-for order cells ds n (l .key) lines h ok new (s .byte)
+        (omega (arith, h .counted, accepted-few (lines ++ (l ∷ [])) more-ok, length-append lines (l ∷ [])))
+
+    pub one-more : (order' cells' : List ℕ) (ds' : List Float) → Holds order' cells' ds' (n + 1) (lines ++ (l ∷ [])) → Checked (lineByLine lines (value l ∷ [])) 0 order' cells' ds' (n + 1)
     unfolding lineByLine
-    twice e = t .left ∙ rw (sym (t .holds .marked (l .key)) ∙ e)
+    one-more order' cells' ds' k = rw new (refl, more-ok, k)
 
-    abbrev more : List Line
-    more = t .lines ++ (l ∷ [])
-
-    module _ (e : getD (w .seen) (l .key) false ≡ false) (s : Sound l) where
-      new : member (l .key) (keys (t .lines)) ≡ false
-      new = sym (t .holds .marked (l .key)) ∙ e
-
-      more-ok : Accepted more
-      more-ok = accepted-snoc (t .lines) l (t .ok) new (s .byte) (s .note) (s .above) (s .fitting)
-
-      pub room : w .count < 256
-      room = omega (arith, t .holds .counted, accepted-few more more-ok, length-append (t .lines) (l ∷ []))
-
-      pub onward : (next : Waiting) → ((lines : List Line) → Holds w lines → Accepted lines → member (l .key) (keys lines) ≡ false → T (positive (l .detuning)) → Holds next (lines ++ (l ∷ [])))
-          → Turn o next rest
-      unfolding lineByLine
-      onward next h = record {
-        lines = more;
-        holds = h (t .lines) (t .holds) (t .ok) new (s .above);
-        ok = more-ok;
-        left = t .left ∙ rw new;
-      }
-
-pub ended : (o : Outcome (List Line)) (w : Waiting) → Turn o w [] → (waits w ≡ inOrder o) × (Fine o × (w .count ≤ 256))
-unfolding lineByLine waits
-ended o w t = rw (t .left, eq-eqb (w .refusal) 0 (t .holds .fine)) (ap value (t .holds .ordered), (t .ok, omega (arith, t .holds .counted, accepted-few (t .lines) (t .ok))))
+pub ended : (o : Outcome (List Line)) (order cells : List ℕ) (ds : List Float) (n : ℕ) → Turn o order cells ds n [] → Checked o 0 order cells ds n
+unfolding lineByLine
+ended o order cells ds n t = rw (t .left) (refl, t .ok, t .holds)
 
 -- a refusal
-pub ended-early : (o : Outcome (List Line)) (w : Waiting) (n : ℕ) → o ≡ refused n → w .refusal ≡ n → w .count ≡ 0 → eqb n 0 ≡ false → (waits w ≡ inOrder o) × (Fine o × (w .count ≤ 256))
-unfolding waits
-ended-early o w n e r k z = rw (e, r, z) (refl, (tt, omega arith))
+pub ended-early : (o : Outcome (List Line)) (order cells : List ℕ) (ds : List Float) (n m : ℕ) → o ≡ refused m → 0 < m → Checked o m order cells ds n
+ended-early o order cells ds n m e z = rw e (refl, λ k. absurd (let y : ⊥ = omega arith in y))
+
+-- a line that is refused by itself
+pub line-refused : (x : Outcome Line) (m : ℕ) → x ≡ refused m → 0 < m → (n : ℕ) (order cells : List ℕ) (ds : List Float) (order' cells' : List ℕ) (ds' : List Float) → Adds x m n order cells ds order' cells' ds'
+unfolding lineByLine
+line-refused x m e z n order cells ds order' cells' ds' lines ok h = rw e (refl, λ k. absurd (let y : ⊥ = omega arith in y))
 
 -- ---- the line at i
 module _ (ks : List ℕ) (ns : List ℤ) (ds : List Float) (i : ℕ) where

@@ -4,18 +4,16 @@ use mathlib.Core.Bool.{Bool, true, false, not, _&&_}
 use mathlib.Core.List.{List, [], _∷_}
 use mathlib.Core.Option.{none}
 use Prim.Native.Nat.{ℕ, zero, suc, _<_, _≤_}
-use borrow.Author.Tests.{eq-eqb, ne-eqb, le-leb, lt-leb}
+use borrow.Author.Tests.{le-leb, lt-leb}
 use lib.Dec.{T, leb}
 use lib.IntN.{ℤ}
 use lib.Ieee.Fits.{and-l, and-r}
 use lib.ListN.{length, getD}
-use Rattle.arithmetic.specs.Outcome.{value, refused}
-use Rattle.models.specs.declared.waiting.Waiting.{Waiting}
+use Rattle.arithmetic.specs.Outcome.{value}
 use Rattle.models.specs.declared.aot.GroupBy.{GroupBy}
 use Rattle.models.specs.declared.aot.KeyRecord.{KeyRecord}
 use Rattle.models.specs.Line.{Line, group, same}
 use Rattle.models.specs.Walk.{count}
-use Rattle.models.specs.PlanInside.{linesOf, waits}
 use Rattle.models.specs.AotModel.{Model, tuned, untuned, empty, holding, planned, nobody, isIn, keyIn, counts, highest}
 use Rattle.models.proofs.ListLaws.{T→false}
 
@@ -54,14 +52,6 @@ no-detunings by c g [] h = refl
 no-detunings by c g (r ∷ rs) h = rw (out-counts by c g r (T→false (isIn r) (and-l (not (isIn r)) (allOut rs) h)), no-detunings by c g rs (and-r (not (isIn r)) (allOut rs) h))
 
 -- ---- planning, by its cases
-pub waits-refused : (w : Waiting) → (w .refusal ≡ 0 → ⊥) → waits w ≡ refused (w .refusal)
-unfolding waits
-waits-refused w h = rw (ne-eqb (w .refusal) 0 h)
-
-pub waits-lines : (w : Waiting) → w .refusal ≡ 0 → waits w ≡ value (linesOf w)
-unfolding waits
-waits-lines w h = rw (eq-eqb (w .refusal) 0 h)
-
 module _ (m : Model) (lines : List Line) where
   pub planned-untuned : length (m .channels) < count (m .groupBy) lines → planned m (value lines) ≡ (empty (m .channels) (m .groupBy), untuned (count (m .groupBy) lines))
   unfolding planned

@@ -2,25 +2,26 @@
 use mathlib.Core.Path.{_≡_, refl, sym, ap, _∙_, subst}
 use mathlib.Core.Bool.{true, cond}
 use mathlib.Core.List.{List, [], _∷_}
-use Prim.Native.Nat.{ℕ, _<_}
+use Prim.Native.Nat.{ℕ, _<_, _≤_}
+use native.Mathlib.Omega.{arith}
 use lib.Dec.{T, leb}
 use lib.IntN.{ℤ}
-use lib.Ieee.{binary64, fits}
+use lib.Ieee.{Float, binary64, fits}
 use lib.Ieee.Positive.{positive}
 use lib.ListN.{length}
 use Rattle.arithmetic.specs.Outcome.{Outcome, value}
 use Rattle.arithmetic.specs.Note.{isNote}
 use Rattle.models.specs.declared.aot.GroupBy.{GroupBy}
-use Rattle.models.specs.declared.waiting.Waiting.{Waiting}
 use Rattle.models.specs.Lists.{Distinct}
 use Rattle.models.specs.Line.{Line, rising}
-use Rattle.models.specs.PlanLists.{keys}
+use Rattle.models.specs.PlanLists.{keyCount, keys}
 use Rattle.models.specs.Walk.{walk, count, seat, seatFrom, entry, channels}
-use Rattle.models.specs.PlanInside.{Accepted, Fine, Ready, inOrder, waits}
+use Rattle.models.specs.PlanInside.{Accepted, Checked, Holds, linesOf}
 use Rattle.models.specs.AotModel.{Model, Answer, tuned, untuned, empty, holding, planned, Smallest}
 use Rattle.models.proofs.ListLaws.{Pairwise, false→T}
 use Rattle.models.proofs.Rising.{Other, Each-rising, length-rising, rising-sorted, rising-of-sorted, absent}
 use Rattle.models.proofs.Plan.{different}
+use Rattle.models.proofs.Waits.{accepted-few}
 use Rattle.models.proofs.Models.{same-model}
 use Rattle.models.proofs.Demand3.{demand-3}
 
@@ -58,22 +59,40 @@ module _ (lines : List Line) (ok : Accepted lines) where
     unfolding entry
     entry-rising c g = rw walk-rising
 
-pub ready-in-order : (kind : GroupBy) (o : Outcome (List Line)) → Fine o → Ready (inOrder o)
-ready-in-order kind (value lines) ok = (rising-accepted lines ok kind, rising-twice lines ok)
-ready-in-order kind (Outcome.refused n) ok = tt
+-- What the check of the lists holds is a list that the pass takes.
+pub ready : (kind : GroupBy) (order cells : List ℕ) (ds : List Float) (n : ℕ) (lines : List Line) → Accepted lines → Holds order cells ds n lines
+    → (n ≤ keyCount) × Accepted (linesOf order cells ds n) × (rising (linesOf order cells ds n) ≡ linesOf order cells ds n)
+ready kind order cells ds n lines ok h =
+    (omega (arith, h .counted, accepted-few lines ok), rw (h .ordered) (rising-accepted lines ok kind), rw (h .ordered) (rising-twice lines ok))
 
-planned-in-order : (m : Model) (o : Outcome (List Line)) → Fine o → planned m (inOrder o) ≡ planned m o
+planned-rising : (m : Model) (lines : List Line) → Accepted lines → planned m (value (rising lines)) ≡ planned m (value lines)
 unfolding planned
-planned-in-order m (Outcome.refused n) ok = refl
-planned-in-order m (value lines) ok =
+planned-rising m lines ok =
     let k = m .groupBy in
     let n = count-rising lines ok k in
     let h = same-model (holding m (rising lines)) (holding m lines) refl refl refl n (seat-rising lines ok k) (entry-rising lines ok k) in
     λ i. cond (leb (n i) (length (m .channels))) (h i, tuned (n i)) (empty (m .channels) (m .groupBy), untuned (n i))
 
 -- What the code answers is the rule's answer, and meets demand 3.
-pub answers : (m : Model) (o : Outcome (List Line)) → Fine o → (w : Waiting) → waits w ≡ inOrder o → (r : Model × Answer) → r ≡ planned m (waits w)
-    → (r ≡ planned m o) × Smallest m o r
-answers m o ok w h r e =
-    let a = e ∙ ap (planned m) h ∙ planned-in-order m o ok in
-    (a, subst (Smallest m o) (sym a) (demand-3 m o (λ lines u. subst Fine u ok)))
+module _ (m : Model) (o : Outcome (List Line)) (answer : ℕ) (order cells : List ℕ) (ds : List Float) (n : ℕ) where
+  pub answered : Checked o answer order cells ds n → answer ≡ 0 → (lines : List Line) × (o ≡ value lines) × Accepted lines × Holds order cells ds n lines
+  answered c e = go o refl c
+    where
+      go : (p : Outcome (List Line)) → o ≡ p → Checked p answer order cells ds n → (lines : List Line) × (o ≡ value lines) × Accepted lines × Holds order cells ds n lines
+      go (value lines) q c = (lines, q, c .1, c .2)
+      go (Outcome.refused k) q c = absurd (c .1 (sym (c .0) ∙ e))
+
+  pub refused-so : Checked o answer order cells ds n → (answer ≡ 0 → ⊥) → o ≡ Outcome.refused answer
+  refused-so c ne = go o refl c
+    where
+      go : (p : Outcome (List Line)) → o ≡ p → Checked p answer order cells ds n → o ≡ Outcome.refused answer
+      go (value lines) q c = absurd (ne (c .0))
+      go (Outcome.refused k) q c = q ∙ ap (λ (j : ℕ). Outcome.refused j) (sym (c .0))
+
+  pub meets-refused : (r : Model × Answer) → o ≡ Outcome.refused answer → r ≡ planned m (Outcome.refused answer) → (r ≡ planned m o) × Smallest m o r
+  meets-refused r e a = rw e (a, tt)
+
+  pub meets-planned : (lines : List Line) → o ≡ value lines → Accepted lines → Holds order cells ds n lines → (r : Model × Answer) → r ≡ planned m (value (linesOf order cells ds n)) → (r ≡ planned m o) × Smallest m o r
+  meets-planned lines e ok h r a =
+      let b : r ≡ planned m o = a ∙ ap (λ (l : List Line). planned m (value l)) (h .ordered) ∙ planned-rising m lines ok ∙ ap (planned m) (sym e) in
+      (b, subst (Smallest m o) (sym b) (demand-3 m o (λ l u. let q : value l ≡ value lines = sym u ∙ e in let p : l ≡ lines = cc in subst Accepted (sym p) ok)))

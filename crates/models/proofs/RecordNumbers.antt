@@ -36,16 +36,21 @@ place-held n = go (isNote (noteOf n))
     go true = refl
     go false = refl
 
--- a found key has a channel and a note
-pub place-sound : (n : ℕ) (p : Place) → placeOf n ≡ some p → (p .channel < 16) × (isNote (p .note) ≡ true)
+-- where a key is found, of its record
+pub place-parts : (n : ℕ) (p : Place) → placeOf n ≡ some p → (channelOf (n / 1024) ≡ p .channel) × (noteOf n ≡ p .note) × (isNote (p .note) ≡ true)
 unfolding placeOf
-place-sound n p = go (isNote (noteOf n)) refl
+place-parts n p = go (isNote (noteOf n)) refl
   where
-    go : (b : Bool) → isNote (noteOf n) ≡ b → cond b (some (record { channel = channelOf (n / 1024); note = noteOf n })) none ≡ some p → (p .channel < 16) × (isNote (p .note) ≡ true)
+    go : (b : Bool) → isNote (noteOf n) ≡ b → cond b (some (record { channel = channelOf (n / 1024); note = noteOf n })) none ≡ some p
+        → (channelOf (n / 1024) ≡ p .channel) × (noteOf n ≡ p .note) × (isNote (p .note) ≡ true)
     go true e h =
         let same : _≡_ {A = Place} (record { channel = channelOf (n / 1024); note = noteOf n }) p = cc in
-        (omega (arith, ap (λ (q : Place). q .channel) same, mod-lt (n / 1024) {m = 16} (omega arith)), ap (λ (q : Place). isNote (q .note)) (sym same) ∙ e)
+        (ap (λ (q : Place). q .channel) same, ap (λ (q : Place). q .note) same, ap (λ (q : Place). isNote (q .note)) (sym same) ∙ e)
     go false e h = absurd (let z : _≡_ {A = ℕ} 0 1 = cc in omega arith)
+
+-- a found key has a channel and a note
+pub place-sound : (n : ℕ) (p : Place) → placeOf n ≡ some p → (p .channel < 16) × (isNote (p .note) ≡ true)
+place-sound n p e = let q = place-parts n p e in (omega (arith, q .0, mod-lt (n / 1024) {m = 16} (omega arith)), q .2)
 
 -- ---- a record from a note
 

@@ -1,23 +1,26 @@
--- The keys that wait, with one line more: they hold the list's lines in order, and a list that meets no refusal has at most 256. Assumes nothing.
+-- The keys in order, with one line more: they hold the list's lines, and a list that meets no refusal has at most one for each key. Assumes nothing.
 use mathlib.Core.Path.{_≡_, refl, sym, ap, _∙_, subst}
 use mathlib.Core.Bool.{Bool, true, false, not, _||_, or-false}
 use mathlib.Core.List.{List, [], _∷_, _++_, map}
-use Prim.Native.Nat.{ℕ, _+_, _<_, _≤_}
+use mathlib.Core.Option.{some}
+use Prim.Native.Nat.{ℕ, zero, suc, _+_, _<_, _≤_}
 use native.Mathlib.Omega.{arith}
 use lib.Dec.{T, eqb, eqb→eq, eqb-refl}
-use lib.IntN.{ℤ, pos}
 use lib.Ieee.{Float, nan, binary64, fits, le}
 use lib.Ieee.Positive.{positive}
-use lib.ListN.{length, getD, take, set, length-map}
+use lib.ListN.{length, getD, take, set, length-map, length-set, length-append}
 use lib.Seq.{getD-set-same, getD-set-other}
 use Rattle.arithmetic.specs.Note.{isNote}
 use Rattle.models.specs.Lists.{Each, member, Distinct}
 use Rattle.models.specs.Line.{Line, rising}
-use Rattle.models.specs.PlanLists.{keys}
-use Rattle.models.specs.PlanInside.{Accepted, lineAt, before, putIn}
-use Rattle.models.proofs.ListLaws.{outcome, passed, failed, true→T, T→false, false→T, not-false, or-left, Each-image, at-member, pigeonhole, below, below-length, below-member}
+use Rattle.models.specs.PlanLists.{keyCount, keys}
+use Rattle.models.specs.Pool.{isHeld}
+use Rattle.models.specs.Block.{placeOf, noteOf}
+use Rattle.models.specs.PlanInside.{Accepted, Holds, Rises, Room, lineAt, linesOf, before, putIn}
+use Rattle.models.proofs.ListLaws.{outcome, passed, failed, true→T, T→false, false→T, not-false, or-left, Each-map, Each-image, at-member, pigeonhole, below, below-length, below-member}
 use Rattle.models.proofs.Joins.{lt-not-le}
-use Rattle.models.proofs.Rising.{append, Each-rising, rising-snoc}
+use Rattle.models.proofs.RecordNumbers.{place-parts}
+use Rattle.models.proofs.Rising.{Sorted, append, Each-rising, rising-sorted, rising-snoc}
 
 abbrev pub Positive : Line → Type 0
 Positive l = T (positive (l .detuning))
@@ -72,11 +75,11 @@ accepted-few lines ok =
     omega (arith, h, below-length 256, length-map lines (λ (l : Line). l .key))
 
 -- ---- a key put in
-module _ (ns : List ℤ) (ds : List Float) where
+module _ (cells : List ℕ) (ds : List Float) where
   abbrev at : ℕ → Line
-  at k = lineAt ns ds k
+  at k = lineAt cells ds k
 
-  put-is : (k : ℕ) (xs : List ℕ) → Positive (at k) → Each Positive (map at xs) → map at (putIn ds k xs) ≡ append (at k) (map at xs)
+  put-is : (k : ℕ) (xs : List ℕ) → Positive (at k) → Each Positive (map at xs) → map at (putIn ds (getD ds k nan) k xs) ≡ append (at k) (map at xs)
   unfolding putIn before append
   put-is k [] p h = refl
   put-is k (y ∷ xs) p h =
@@ -86,13 +89,38 @@ module _ (ns : List ℤ) (ds : List Float) where
         | failed u ↦ rw (u, e ∙ ap not u)
       ]
 
+  each-keys : (P : Line → Type 0) (xs : List ℕ) → Each P (map at xs) → Each (λ (k : ℕ). P (at k)) xs
+  each-keys P [] h = tt
+  each-keys P (k ∷ xs) h = (h .0, each-keys P xs (h .1))
+
+  sorted-rises : (xs : List ℕ) → Each Positive (map at xs) → Sorted (map at xs) → Rises ds xs
+  sorted-rises [] p s = tt
+  sorted-rises (k ∷ xs) p s = (
+    p .0,
+    each-keys (λ (l : Line). T (le (at k .detuning) (l .detuning))) xs (Each-map (λ l u. u .ordered) (map at xs) (s .0)),
+    sorted-rises xs (p .1) (s .1),
+  )
+
 -- keys other than k read the same after a store at k
-module _ (ns : List ℤ) (ds : List Float) (k : ℕ) (n : ℤ) (d : Float) where
-  others-kept : (xs : List ℕ) → Each (λ (l : Line). eqb (l .key) k ≡ false) (map (lineAt ns ds) xs) → map (lineAt (set ns k n) (set ds k d)) xs ≡ map (lineAt ns ds) xs
+differs : (y k : ℕ) → eqb y k ≡ false → y ≡ k → ⊥
+differs y k h e = not-false h (subst (λ (j : ℕ). T (eqb y j)) e (eqb-refl y))
+
+module _ (cells : List ℕ) (ds : List Float) (k cell : ℕ) (d : Float) where
+  others-kept : (xs : List ℕ) → Each (λ (l : Line). eqb (l .key) k ≡ false) (map (lineAt cells ds) xs) → map (lineAt (set cells k cell) (set ds k d)) xs ≡ map (lineAt cells ds) xs
   others-kept [] h = refl
   others-kept (y ∷ xs) h =
-      let ne : (y ≡ k → ⊥) = λ e. not-false (h .0) (subst (λ (j : ℕ). T (eqb y j)) e (eqb-refl y)) in
-      rw (getD-set-other ns k y n (pos 0) ne, getD-set-other ds k y d nan ne, others-kept xs (h .1))
+      let ne = differs y k (h .0) in
+      rw (getD-set-other cells k y cell 0 ne, getD-set-other ds k y d nan ne, others-kept xs (h .1))
+
+  les-kept : (x : Float) (xs : List ℕ) → Each (λ (y : ℕ). eqb y k ≡ false) xs → Each (λ (y : ℕ). T (le x (getD ds y nan))) xs → Each (λ (y : ℕ). T (le x (getD (set ds k d) y nan))) xs
+  les-kept x [] o h = tt
+  les-kept x (y ∷ xs) o h = (rw (getD-set-other ds k y d nan (differs y k (o .0))) (h .0), les-kept x xs (o .1) (h .1))
+
+  pub rises-kept : (xs : List ℕ) → Each (λ (y : ℕ). eqb y k ≡ false) xs → Rises ds xs → Rises (set ds k d) xs
+  rises-kept [] o r = tt
+  rises-kept (y ∷ xs) o r =
+      let e = getD-set-other ds k y d nan (differs y k (o .0)) in
+      (rw e (r .0), rw e (les-kept (getD ds y nan) xs (o .1) (r .1)), rises-kept xs (o .1) (r .2))
 
 pub others-of : (k : ℕ) (lines : List Line) → member k (keys lines) ≡ false → Each (λ (l : Line). eqb (l .key) k ≡ false) lines
 others-of k [] h = tt
@@ -101,37 +129,95 @@ others-of k (x ∷ lines) h = elim (outcome (eqb (x .key) k)) [
   | failed e ↦ (e, others-of k lines (rw e at h))
 ]
 
--- the lines in order, after one more was put in
-pub ordered-with : (order order' : List ℕ) (n : ℕ) (ns : List ℤ) (ds : List Float) (k : ℕ) (note : ℤ) (d : Float) (lines : List Line)
-    → k < length ns → k < length ds
-    → map (lineAt ns ds) (take n order) ≡ rising lines
-    → take (n + 1) order' ≡ putIn (set ds k d) k (take n order)
-    → Accepted lines → member k (keys lines) ≡ false → T (positive d)
-    → map (lineAt (set ns k note) (set ds k d)) (take (n + 1) order') ≡ rising (lines ++ (record { key = k; note = note; detuning = d } ∷ []))
-ordered-with order order' n ns ds k note d lines hn hd o put ok new p =
-    let x : Line = record { key = k; note = note; detuning = d } in
-    let f = lineAt (set ns k note) (set ds k d) in
-    let others = rw (sym o) at (Each-rising (λ (l : Line). eqb (l .key) k ≡ false) lines (others-of k lines new)) in
-    let kept : map f (take n order) ≡ rising lines = others-kept ns ds k note d (take n order) others ∙ o in
-    let own : f k ≡ x = rw (getD-set-same ns k note (pos 0) hn, getD-set-same ds k d nan hd) in
-    ap (map f) put
-    ∙ put-is (set ns k note) (set ds k d) k (take n order) (rw (getD-set-same ds k d nan hd) p) (rw kept (Each-rising Positive lines (ok .detunings)))
-    ∙ rw (kept, own) (sym (rising-snoc lines x (ok .detunings) p))
+-- no line
+unfoldable pub zeros : ℕ → List ℕ
+zeros zero = []
+zeros (suc n) = 0 ∷ zeros n
 
--- the keys that were seen, after one more
-pub seen-with : (seen : List Bool) (lines : List Line) (x : Line) → x .key < length seen → ((k : ℕ) → getD seen k false ≡ member k (keys lines))
-    → (k : ℕ) → getD (set seen (x .key) true) k false ≡ member k (keys (lines ++ (x ∷ [])))
-seen-with seen lines x h m k = elim (outcome (eqb (x .key) k)) [
-  | passed e ↦
-      let same = eqb→eq (x .key) k (true→T e) in
-      subst (λ (j : ℕ). getD (set seen (x .key) true) j false ≡ true) same (getD-set-same seen (x .key) true false h)
-      ∙ sym (rw (keys-snoc lines x, member-snoc k (x .key) (keys lines), e) (or-yes (member k (keys lines))))
-  | failed e ↦
-      getD-set-other seen (x .key) k true false (λ u. not-false e (subst (λ (j : ℕ). T (eqb (x .key) j)) (sym u) (eqb-refl (x .key))))
-      ∙ m k
-      ∙ sym (rw (keys-snoc lines x, member-snoc k (x .key) (keys lines), e) (or-false (member k (keys lines))))
-]
+pub zeros-at : (n k : ℕ) → getD (zeros n) k 0 ≡ 0
+unfolding zeros
+zeros-at zero k = refl
+zeros-at (suc n) zero = refl
+zeros-at (suc n) (suc k) = zeros-at n k
+
+pub holds-none : (ds : List Float) → length ds ≡ keyCount → length (zeros keyCount) ≡ keyCount → Holds (zeros keyCount) (zeros keyCount) ds 0 []
+unfolding linesOf rising
+holds-none ds e l = record {
+  ordered = refl;
+  counted = refl;
+  marked = λ k. ap (λ (c : ℕ). isHeld (placeOf c)) (zeros-at keyCount k) ∙ none-held;
+  order-long = l;
+  cells-long = l;
+  detunings-long = e;
+}
   where
-    or-yes : (b : Bool) → b || true ≡ true
-    or-yes true = refl
-    or-yes false = refl
+    none-held : isHeld (placeOf 0) ≡ false
+    none-held = unfold isHeld placeOf noteOf in refl
+
+-- the keys in order make room for another one
+pub room-for : (order cells : List ℕ) (ds : List Float) (n key : ℕ) (lines : List Line) → Holds order cells ds n lines → Accepted lines → member key (keys lines) ≡ false → key < keyCount → n < keyCount
+    → Room order ds n key
+unfolding linesOf
+room-for order cells ds n key lines h ok new b few =
+    let over : (P : Line → Type 0) → Each P lines → Each P (map (lineAt cells ds) (take n order)) = λ P e. rw (h .ordered) (Each-rising P lines e) in
+    record {
+      few = few;
+      byte = b;
+      bytes = each-keys cells ds (λ (l : Line). l .key < keyCount) (take n order) (over (λ (l : Line). l .key < keyCount) (ok .bytes));
+      others = each-keys cells ds (λ (l : Line). eqb (l .key) key ≡ false) (take n order) (over (λ (l : Line). eqb (l .key) key ≡ false) (others-of key lines new));
+      rises = sorted-rises cells ds (take n order) (over Positive (ok .detunings)) (rw (h .ordered) (rising-sorted lines (ok .detunings)));
+    }
+
+-- one key more in the lists: `cell` is the record of the line x
+module _ (order order' cells : List ℕ) (ds : List Float) (n cell : ℕ) (x : Line) (lines : List Line) (h : Holds order cells ds n lines) (ok : Accepted lines)
+    (new : member (x .key) (keys lines) ≡ false) (byte : x .key < keyCount) (above : Positive x)
+    (found : placeOf cell ≡ some (record { channel = 0; note = x .note })) (long : length order' ≡ length order)
+    (put : take (n + 1) order' ≡ putIn (set ds (x .key) (x .detuning)) (x .detuning) (x .key) (take n order)) where
+  abbrev k : ℕ
+  k = x .key
+
+  abbrev after : ℕ → Line
+  after = lineAt (set cells k cell) (set ds k (x .detuning))
+
+  own : after k ≡ x
+  own = rw (getD-set-same cells k cell 0 (omega (arith, h .cells-long)), getD-set-same ds k (x .detuning) nan (omega (arith, h .detunings-long)), place-parts cell (record { channel = 0; note = x .note }) found .1)
+
+  ordered-with : linesOf order' (set cells k cell) (set ds k (x .detuning)) (n + 1) ≡ rising (lines ++ (x ∷ []))
+  unfolding linesOf
+  ordered-with =
+      let d = x .detuning in
+      let e = getD-set-same ds k d nan (omega (arith, h .detunings-long)) in
+      let others = rw (sym (h .ordered)) at (Each-rising (λ (l : Line). eqb (l .key) k ≡ false) lines (others-of k lines new)) in
+      let kept : map after (take n order) ≡ rising lines = others-kept cells ds k cell d (take n order) others ∙ h .ordered in
+      ap (map after) (put ∙ ap (λ (f : Float). putIn (set ds k d) f k (take n order)) (sym e))
+      ∙ put-is (set cells k cell) (set ds k d) k (take n order) (rw e above) (rw kept (Each-rising Positive lines (ok .detunings)))
+      ∙ rw (kept, own) (sym (rising-snoc lines x (ok .detunings) above))
+
+  held : isHeld (placeOf cell) ≡ true
+  unfolding isHeld
+  held = rw found
+
+  marked-with : (j : ℕ) → isHeld (placeOf (getD (set cells k cell) j 0)) ≡ member j (keys (lines ++ (x ∷ [])))
+  marked-with j = elim (outcome (eqb k j)) [
+    | passed e ↦
+        subst (λ (i : ℕ). isHeld (placeOf (getD (set cells k cell) i 0)) ≡ true) (eqb→eq k j (true→T e)) (rw (getD-set-same cells k cell 0 (omega (arith, h .cells-long))) held)
+        ∙ sym (rw (keys-snoc lines x, member-snoc j k (keys lines), e) (or-yes (member j (keys lines))))
+    | failed e ↦
+        ap (λ (c : ℕ). isHeld (placeOf c)) (getD-set-other cells k j cell 0 (λ u. not-false e (subst (λ (i : ℕ). T (eqb k i)) (sym u) (eqb-refl k))))
+        ∙ h .marked j
+        ∙ sym (rw (keys-snoc lines x, member-snoc j k (keys lines), e) (or-false (member j (keys lines))))
+  ]
+    where
+      or-yes : (b : Bool) → b || true ≡ true
+      or-yes true = refl
+      or-yes false = refl
+
+  pub holds-more : Holds order' (set cells k cell) (set ds k (x .detuning)) (n + 1) (lines ++ (x ∷ []))
+  holds-more = record {
+    ordered = ordered-with;
+    counted = omega (arith, h .counted, length-append lines (x ∷ []));
+    marked = marked-with;
+    order-long = long ∙ h .order-long;
+    cells-long = length-set cells k cell ∙ h .cells-long;
+    detunings-long = length-set ds k (x .detuning) ∙ h .detunings-long;
+  }

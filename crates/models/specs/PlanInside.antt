@@ -8,19 +8,20 @@ use lib.Dec.{T, eqb, leb}
 use lib.IntN.{ℤ, pos, negsuc}
 use lib.Signed.{leZ, ltZ}
 use lib.ListN.{length, getD, take, drop}
-use lib.Ieee.{Float, nan, binary64, fits, lt}
+use lib.Ieee.{Float, nan, binary64, fits, le, lt}
 use lib.Ieee.Positive.{positive}
 use Rattle.arithmetic.specs.Outcome.{Outcome, value, refused}
 use Rattle.arithmetic.specs.Note.{isNote}
 use Rattle.models.specs.declared.aot.GroupBy.{GroupBy}
 use Rattle.models.specs.declared.aot.KeyRecord.{KeyRecord}
 use Rattle.models.specs.declared.aot.Plan.{Plan}
-use Rattle.models.specs.declared.waiting.Waiting.{Waiting}
 use Rattle.models.specs.Lists.{Each, member, Distinct}
 use Rattle.models.specs.Line.{Line, joins, rising, group}
 use Rattle.models.specs.Walk.{count, seat}
+use Rattle.models.specs.Pool.{isHeld}
+use Rattle.models.specs.Block.{noteOf, placeOf}
 use Rattle.models.specs.AotModel.{nobody, isIn}
-use Rattle.models.specs.PlanLists.{keyCount, keys}
+use Rattle.models.specs.PlanLists.{keyCount, keys, lineByLine}
 
 -- What a list is that meets no refusal: its keys are distinct bytes, its notes are notes, its detunings are f64s, finite and above zero.
 pub record Accepted (lines : List Line) : Type 0 where
@@ -30,42 +31,64 @@ pub record Accepted (lines : List Line) : Type 0 where
   pub detunings : Each (λ (l : Line). T (positive (l .detuning))) lines
   pub fitting : Each (λ (l : Line). T (fits binary64 (l .detuning))) lines
 
--- ---- the keys that wait
+-- ---- the keys in order
 
--- a key's line, of its note and detuning by key
-abbrev pub lineAt : List ℤ → List Float → ℕ → Line
-lineAt ns ds k = record { key = k; note = getD ns k (pos 0); detuning = getD ds k nan }
+-- a key's line, of the cells and the detunings by key
+abbrev pub lineAt : List ℕ → List Float → ℕ → Line
+lineAt cells ds k = record { key = k; note = noteOf (getD cells k 0); detuning = getD ds k nan }
 
--- the lines that wait, in order
-unfoldable pub linesOf : Waiting → List Line
-linesOf w = map (lineAt (w .notes) (w .detunings)) (take (w .count) (w .order))
+-- the lines of the first n keys
+unfoldable pub linesOf : List ℕ → List ℕ → List Float → ℕ → List Line
+linesOf order cells ds n = map (lineAt cells ds) (take n order)
 
-unfoldable pub waits : Waiting → Outcome (List Line)
-waits w = cond (eqb (w .refusal) 0) (value (linesOf w)) (refused (w .refusal))
+-- the first n keys are those of these lines, in order, and no other key has a note
+pub record Holds (order cells : List ℕ) (ds : List Float) (n : ℕ) (lines : List Line) : Type 0 where
+  pub ordered : linesOf order cells ds n ≡ rising lines
+  pub counted : n ≡ length lines
+  pub marked : (k : ℕ) → isHeld (placeOf (getD cells k 0)) ≡ member k (keys lines)
+  pub order-long : length order ≡ keyCount
+  pub cells-long : length cells ≡ keyCount
+  pub detunings-long : length ds ≡ keyCount
 
-abbrev pub inOrder : Outcome (List Line) → Outcome (List Line)
-inOrder (value lines) = value (rising lines)
-inOrder (refused n) = refused n
-
+-- the lines of a list that is not refused are accepted
 abbrev pub Fine : Outcome (List Line) → Type 0
 Fine (value lines) = Accepted lines
 Fine (refused n) = Unit {0}
 
--- these lines wait, here in list order
-pub record Holds (w : Waiting) (lines : List Line) : Type 0 where
-  pub fine : w .refusal ≡ 0
-  pub ordered : linesOf w ≡ rising lines
-  pub counted : w .count ≡ length lines
-  pub marked : (k : ℕ) → getD (w .seen) k false ≡ member k (keys lines)
+-- what the check of a plan's lists leaves, and its answer: 0, or the number of the refusal
+abbrev pub Checked : Outcome (List Line) → ℕ → List ℕ → List ℕ → List Float → ℕ → Type 0
+Checked (value lines) r order cells ds n = (r ≡ 0) × Accepted lines × Holds order cells ds n lines
+Checked (refused m) r order cells ds n = (r ≡ m) × (m ≡ 0 → ⊥)
+
+-- n lines were accepted, and are held
+abbrev pub Filled : List ℕ → List ℕ → List Float → ℕ → Type 0
+Filled order cells ds n = (lines : List Line) × Accepted lines × Holds order cells ds n lines
+
+-- the check of one line more
+abbrev pub Adds : Outcome Line → ℕ → ℕ → List ℕ → List ℕ → List Float → List ℕ → List ℕ → List Float → Type 0
+Adds line r n order cells ds order' cells' ds' = (lines : List Line) → Accepted lines → Holds order cells ds n lines → Checked (lineByLine lines (line ∷ [])) r order' cells' ds' (n + 1)
+
+-- the detunings of these keys are above zero and rise
+abbrev pub Rises : List Float → List ℕ → Type 0
+Rises ds [] = Unit {0}
+Rises ds (k ∷ ks) = T (positive (getD ds k nan)) × Each (λ (j : ℕ). T (le (getD ds k nan) (getD ds j nan))) ks × Rises ds ks
+
+-- there is room for a key behind the first n, which are others and in order
+pub record Room (order : List ℕ) (ds : List Float) (n key : ℕ) : Type 0 where
+  pub few : n < keyCount
+  pub byte : key < keyCount
+  pub bytes : Each (λ (k : ℕ). k < keyCount) (take n order)
+  pub others : Each (λ (k : ℕ). eqb k key ≡ false) (take n order)
+  pub rises : Rises ds (take n order)
 
 -- how many of the keys stand before the first with a detuning above d
 unfoldable pub before : List Float → Float → List ℕ → ℕ
 before ds d [] = zero
 before ds d (k ∷ ks) = let r = before ds d ks in cond (lt d (getD ds k nan)) zero (suc r)
 
--- the keys, and one more at its place
-unfoldable pub putIn : List Float → ℕ → List ℕ → List ℕ
-putIn ds k ks = let b = before ds (getD ds k nan) ks in take b ks ++ (k ∷ drop b ks)
+-- the keys, and one more with the detuning d at its place
+unfoldable pub putIn : List Float → Float → ℕ → List ℕ → List ℕ
+putIn ds d k ks = let b = before ds d ks in take b ks ++ (k ∷ drop b ks)
 
 -- ---- the pass
 
@@ -87,11 +110,6 @@ pub record Seats (by : GroupBy) (lines : List Line) (p : Plan) : Type 0 where
   pub detuning-is : Each (λ (l : Line). getD (p .records) (l .key) nobody .detuning ≡ l .detuning) lines
   pub no-other : (k : ℕ) → Each (λ (l : Line). eqb (l .key) k ≡ false) lines → isIn (getD (p .records) k nobody) ≡ false
   pub long : length (p .records) ≡ keyCount
-
--- lines in order, as a plan needs them
-abbrev pub Ready : Outcome (List Line) → Type 0
-Ready (value lines) = Accepted lines × (rising lines ≡ lines)
-Ready (refused n) = Unit {0}
 
 -- ---- the scan
 

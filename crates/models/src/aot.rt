@@ -5,18 +5,22 @@ ghost use mathlib.Core.Bool.{true, _&&_};
 ghost use Prim.Native.Nat.{_<_, _≤_};
 ghost use lib.Dec.{leb};
 ghost use lib.IntN.{pos};
+ghost use lib.ListN.{length};
+ghost use mathlib.Core.List.{List};
+ghost use Rattle.arithmetic.specs.Outcome.{value, refused};
 ghost use Rattle.arithmetic.specs.Note.{isNote};
 ghost use Rattle.models.specs.ChannelList.{channelsAnswer, entries};
-ghost use Rattle.models.specs.Line.{group, joins, rising};
+ghost use Rattle.models.specs.Line.{Line, group, joins, rising};
 ghost use Rattle.models.specs.PlanLists.{keyCount, noteLists, pitchLists};
 ghost use Rattle.models.specs.AotModel.{Smallest, accessAnswer, detuningAnswer, empty, highest, isIn, larger, modelOf, nextAnswer, nextRule, openRule, openedOf, planned, setTuning, setTuningOfPitches, outcomeOf};
-ghost use Rattle.models.specs.PlanInside.{Accepted, Ready, Seats, channelsWith, leastFrom, linesOf, lower, slotOf, waits};
+ghost use Rattle.models.specs.PlanInside.{Accepted, Seats, channelsWith, leastFrom, linesOf, lower, slotOf};
 use crate::channels::ChannelList;
 use crate::channels::ChannelsAnswer;
 use crate::channels::present;
 use crate::keys::AccessKeyResult;
 use crate::keys::KEYS;
-use crate::waiting::Waiting;
+use crate::keys::note_of;
+use crate::waiting::ACCEPTED;
 use crate::waiting::note_lists;
 use crate::waiting::pitch_lists;
 use arithmetic::note::HIGHEST_NOTE;
@@ -128,7 +132,17 @@ impl AotTuningModel {
         ensures { λ r. ⌜ outcomeOf r ≡ setTuning (modelOf self) (now (keys .entry)) (now (notes .entry)) (now (detunings .entry)) ⌝ }
         ensures { λ r. ⌜ Smallest (modelOf self) (noteLists (now (keys .entry)) (now (notes .entry)) (now (detunings .entry))) (outcomeOf r) ⌝ }
     {
-        self.with_plan(note_lists(keys, notes, detunings))
+        let mut order = [0u16; KEYS];
+        let mut cells = [0u16; KEYS];
+        let mut by_key = [0.0; KEYS];
+        let refusal = note_lists(keys, notes, detunings, &mut order, &mut cells, &mut by_key);
+        if refusal != ACCEPTED {
+            return self.refused(refusal);
+        }
+        let n = keys.len();
+        let by = self.group_by;
+        let plan = place_keys(&order, n, &cells, &by_key, by);
+        self.with_plan(plan)
     }
 
     // Plans keys with their pitches in Hz: each has the nearest note. Refuses 12, then line by line 1, 5.
@@ -136,7 +150,17 @@ impl AotTuningModel {
         ensures { λ r. ⌜ outcomeOf r ≡ setTuningOfPitches (modelOf self) (now (keys .entry)) (now (pitches .entry)) ⌝ }
         ensures { λ r. ⌜ Smallest (modelOf self) (pitchLists (now (keys .entry)) (now (pitches .entry))) (outcomeOf r) ⌝ }
     {
-        self.with_plan(pitch_lists(keys, pitches))
+        let mut order = [0u16; KEYS];
+        let mut cells = [0u16; KEYS];
+        let mut by_key = [0.0; KEYS];
+        let refusal = pitch_lists(keys, pitches, &mut order, &mut cells, &mut by_key);
+        if refusal != ACCEPTED {
+            return self.refused(refusal);
+        }
+        let n = keys.len();
+        let by = self.group_by;
+        let plan = place_keys(&order, n, &cells, &by_key, by);
+        self.with_plan(plan)
     }
 
     // The channel and the note of a key of the plan.
@@ -208,21 +232,22 @@ impl AotTuningModel {
         }
     }
 
-    // The model with the plan of the keys that wait, if there are channels enough.
-    fn with_plan(self, waiting: Waiting) -> SetTuning
-        requires { ⌜ (waiting .count ≤ keyCount) × Ready (waits waiting) ⌝ }
-        ensures { λ r. ⌜ outcomeOf r ≡ planned (modelOf self) (waits waiting) ⌝ }
+    // The model as it was.
+    fn refused(self, number: u8) -> SetTuning
+        ensures { λ r. ⌜ outcomeOf r ≡ planned (modelOf self) (refused number) ⌝ }
     {
-        let refusal = waiting.refusal;
-        if refusal != 0 {
-            return SetTuning {
-                model: self,
-                answer: PlanAnswer::Refused(refusal),
-            };
+        SetTuning {
+            model: self,
+            answer: PlanAnswer::Refused(number),
         }
+    }
+
+    // The model with a plan, if there are channels enough.
+    fn with_plan(self, plan: Plan) -> SetTuning
+        ensures { λ r. ⌜ ((lines : List Line) → Accepted lines → Seats (self .«group_by») lines plan → outcomeOf r ≡ planned (modelOf self) (value lines)) ⌝ }
+    {
         let by = self.group_by;
         let channels = self.channels;
-        let plan = place_keys(waiting, by);
         let count = plan.count;
         let present = channels.len() as u16;
         if present < count {
@@ -323,14 +348,12 @@ struct Plan {
 }
 
 // One pass over the keys in order. Each group's last detuning and the channels that it uses so far tell a key's channel.
-fn place_keys(waiting: Waiting, by: GroupBy) -> Plan
-    requires { ⌜ (waiting .count ≤ keyCount) × Accepted (linesOf waiting) × (rising (linesOf waiting) ≡ linesOf waiting) ⌝ }
-    ensures { λ r. ⌜ Seats by (linesOf waiting) r ⌝ }
+fn place_keys(order: &[u16], n: usize, cells: &[u16], detunings: &[f64], by: GroupBy) -> Plan
+    requires { ⌜ (length (now order) ≡ keyCount) × (length (now cells) ≡ keyCount) × (length (now detunings) ≡ keyCount) × (n ≤ keyCount)
+        × Accepted (linesOf (now order) (now cells) (now detunings) n)
+        × (rising (linesOf (now order) (now cells) (now detunings) n) ≡ linesOf (now order) (now cells) (now detunings) n) ⌝ }
+    ensures { λ r. ⌜ Seats by (linesOf (now (order .entry)) (now (cells .entry)) (now (detunings .entry)) n) r ⌝ }
 {
-    let order = waiting.order;
-    let notes = waiting.notes;
-    let detunings = waiting.detunings;
-    let n = waiting.count;
     let mut records = [KeyRecord {
         note: 0,
         channel: NO_CHANNEL,
@@ -342,7 +365,7 @@ fn place_keys(waiting: Waiting, by: GroupBy) -> Plan
     let mut i: usize = 0;
     while i < n {
         let key = order[i] as usize;
-        let note = notes[key];
+        let note = note_of(cells[key]);
         let detuning = detunings[key];
         let at = slot(group_of(by, note));
         let run = with_key(used[at], latest[at], detuning);

@@ -55,7 +55,8 @@ pub(crate) fn record_of(note: i32, channel: u8) -> u16
     (note + 301) as u16 + 1024 * channel as u16
 }
 
-fn note_of(cell: u16) -> i32
+// The note of a record, a number below all notes for 0.
+pub(crate) fn note_of(cell: u16) -> i32
     ensures { λ r. ⌜ r ≡ noteOf cell ⌝ }
 {
     (cell % 1024) as i32 - 301

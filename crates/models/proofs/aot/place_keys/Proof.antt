@@ -5,7 +5,7 @@ use mathlib.Core.Bool.{true}
 use mathlib.Core.List.{List, [], _∷_, map}
 use Prim.Native.Nat.{ℕ, zero, suc, _+_, _-_, _<_, _≤_, max}
 use native.Mathlib.Omega.{arith}
-use lib.IntN.{pos}
+use lib.IntN.{ℤ, pos}
 use lib.Dec.{T}
 use lib.Ieee.{nan, ofBits, binary64}
 use lib.ListN.{length, getD, take, drop}
@@ -24,23 +24,18 @@ use Rattle.models.specs.PlanInside.{lineAt, linesOf, channelsWith, slotO
 use Rattle.models.proofs.Arrays.{rest-cons, rest-nil}
 use Rattle.models.proofs.Models.{allOut, out-at}
 use Rattle.models.proofs.OnePass.{numberOfNext}
+use Rattle.models.proofs.RecordNumbers.{note-read}
 use Rattle.models.proofs.Slots.{group-note, slot-below}
 use Rattle.models.proofs.Pass.{Pass, pass-begins, pass-next, pass-ends, next-is, next-few, used-few, each-drop}
 use Rattle.models.proofs.aot.place_keys.Statement.{statement}
 use Rattle.models.proofs.aot.place_keys.Tie as tie
 
 abbrev Inv-loop : tie.InvT-loop
-Inv-loop by order notes detunings n records₀ latest₀ used₀ count₀ i₀ records latest used count i =
-    (i ≤ n) × Pass by (map (lineAt notes detunings) (take n order)) records latest used count i (map (lineAt notes detunings) (drop i (take n order)))
+Inv-loop order n cells detunings by records₀ latest₀ used₀ count₀ i₀ records latest used count i =
+    (i ≤ n) × Pass by (map (lineAt cells detunings) (take n order)) records latest used count i (map (lineAt cells detunings) (drop i (take n order)))
 
 abbrev μ-loop : tie.MeasureT-loop
-μ-loop by order notes detunings n records₀ latest₀ used₀ count₀ i₀ records latest used count i = n - i
-
-byte : (c : tie.Start Inv-loop μ-loop) (i : ℕ) → getD (c .args .waiting .order) i 0 < 256
-byte c i = let f : Fits w8 (getD (c .args .waiting .order) i 0) = search needs in omega arith
-
-long : (c : tie.Start Inv-loop μ-loop) → length (c .args .waiting .order) ≡ 256
-long c = search needs
+μ-loop order n cells detunings by records₀ latest₀ used₀ count₀ i₀ records latest used count i = n - i
 
 -- ---- before the first turn
 unfoldable pub zeros : ℕ → List ℕ
@@ -65,7 +60,7 @@ loop-holds : tie.Need-loop-holds Inv-loop μ-loop
 unfolding zeros blanks linesOf
 loop-holds c =
     let s = c .before .before .before in
-    (omega arith, pass-begins (s .args .by) _ (s .pre .1) (s .pre .2) _ _ _ (λ k. out-at (blanks 256) all-blank k) (none-used 801) refl refl refl)
+    (omega arith, pass-begins (s .args .by) _ (s .pre .4) (s .pre .5) _ _ _ (λ k. out-at (blanks 256) all-blank k) (none-used 801) refl refl refl)
 
 -- ---- in a turn
 module _ (c : tie.In-loop Inv-loop μ-loop) where
@@ -73,7 +68,7 @@ module _ (c : tie.In-loop Inv-loop μ-loop) where
   s = c .before .before .before .before .before
 
   abbrev ord : List ℕ
-  ord = s .args .waiting .order
+  ord = s .args .order .now
 
   abbrev by : GroupBy
   by = s .args .by
@@ -82,10 +77,10 @@ module _ (c : tie.In-loop Inv-loop μ-loop) where
   i = c .before .loop .i
 
   abbrev n : ℕ
-  n = s .args .waiting .count
+  n = s .args .n
 
   abbrev line : ℕ → Line
-  line = lineAt (s .args .waiting .notes) (s .args .waiting .detunings)
+  line = lineAt (s .args .cells .now) (s .args .detunings .now)
 
   abbrev x : Line
   x = line (getD ord i 0)
@@ -97,56 +92,68 @@ module _ (c : tie.In-loop Inv-loop μ-loop) where
   rest = map line (drop (i + 1) (take n ord))
 
   here : drop i (take n ord) ≡ getD ord i 0 ∷ drop (i + 1) (take n ord)
-  here = rest-cons n ord i 0 (c .loop-test .taken) (omega (arith, long s, s .pre .0))
+  here = rest-cons n ord i 0 (c .loop-test .taken) (omega (arith, s .pre .0, s .pre .3))
 
   pass : Pass by all (c .before .loop .records) (c .before .loop .latest) (c .before .loop .used) (c .before .loop .count) i (x ∷ rest)
   pass =
       subst (λ (l : List ℕ). Pass by all (c .before .loop .records) (c .before .loop .latest) (c .before .loop .used) (c .before .loop .count) i (map line l)) here
       (c .before .loop .inv .1)
 
+  next : (P : Line → Type 0) → Each P all → P x
+  next P h = (subst (λ (l : List ℕ). Each P (map line l)) here (each-drop P line (take n ord) i h)) .0
+
   a-note : isNote (x .note) ≡ true
   unfolding linesOf
-  a-note = (subst (λ (l : List ℕ). Each (λ (y : Line). isNote (y .note) ≡ true) (map line l)) here (each-drop (λ (y : Line). isNote (y .note) ≡ true) line (take n ord) i (s .pre .1 .notes))) .0
-
-  read : toZ w32 (ofZ w32 (x .note)) ≡ x .note
-  read = toZ-ofZ (note-fits (x .note) a-note)
+  a-note = next (λ (y : Line). isNote (y .note) ≡ true) (s .pre .4 .notes)
 
   small : getD ord i 0 < 256
-  small = byte s i
+  unfolding linesOf
+  small = next (λ (y : Line). y .key < 256) (s .pre .4 .bytes)
 
-array-read-key : tie.Need-array-read-key Inv-loop μ-loop
-array-read-key c = omega arith
+mul-key : tie.Need-mul-key Inv-loop μ-loop
+mul-key c = omega arith
+
+shared-slice-read-key : tie.Need-shared-slice-read-key Inv-loop μ-loop
+shared-slice-read-key c = omega arith
 
 cast-key : tie.Need-cast-key Inv-loop μ-loop
-cast-key c = record { fits = omega (arith, small c) }
+cast-key c = record { fits = omega (arith, small (c .before)) }
 
-mul-note : tie.Need-mul-note Inv-loop μ-loop
-mul-note c = record { fits = omega (arith, small c) }
+mul-note-of : tie.Need-mul-note-of Inv-loop μ-loop
+mul-note-of c = record { fits = omega (arith, small (c .before)) }
 
-array-copy-out-note : tie.Need-array-copy-out-note Inv-loop μ-loop
-array-copy-out-note c = small c
+shared-slice-read-note-of : tie.Need-shared-slice-read-note-of Inv-loop μ-loop
+shared-slice-read-note-of c = omega (arith, small (c .before .before), s (c .before .before) .pre .1)
+
+note-of-requires : tie.Need-note-of-requires Inv-loop μ-loop
+note-of-requires c κs = search needs
 
 mul-detuning : tie.Need-mul-detuning Inv-loop μ-loop
-mul-detuning c = record { fits = omega (arith, small (c .before)) }
+mul-detuning c = record { fits = omega (arith, small (c .before .before .before)) }
 
-array-read-detuning : tie.Need-array-read-detuning Inv-loop μ-loop
-array-read-detuning c = small (c .before)
+shared-slice-read-detuning : tie.Need-shared-slice-read-detuning Inv-loop μ-loop
+shared-slice-read-detuning c = omega (arith, small (c .before .before .before .before), s (c .before .before .before .before) .pre .2)
+
+read : (c : tie.After-note-of Inv-loop μ-loop) → toZ w32 (ofZ w32 (c .note-of .result)) ≡ x (c .before .before .before) .note
+read c =
+    let t = c .before .before .before in
+    ap (λ (z : ℤ). toZ w32 (ofZ w32 z)) (c .note-of .ensures) ∙ note-read (getD (s t .args .cells .now) (getD (ord t) (i t) 0) 0)
 
 group-of-requires : tie.Need-group-of-requires Inv-loop μ-loop
-group-of-requires c κs = rw (read (c .before)) (a-note (c .before))
+group-of-requires c κs = rw (read (c .before)) (a-note (c .before .before .before .before))
 
-grouped : (c : tie.After-group-of Inv-loop μ-loop) → c .group-of .result ≡ group (by (c .before .before)) (x (c .before .before) .note)
-grouped c = c .group-of .ensures ∙ ap (group (by (c .before .before))) (read (c .before .before))
+grouped : (c : tie.After-group-of Inv-loop μ-loop) → let t = c .before .before .before .before .before in c .group-of .result ≡ group (by t) (x t .note)
+grouped c = let t = c .before .before .before .before .before in c .group-of .ensures ∙ ap (group (by t)) (read (c .before .before))
 
 group-is-note : (c : tie.After-group-of Inv-loop μ-loop) → isNote (c .group-of .result) ≡ true
-group-is-note c = rw (grouped c) (group-note (by (c .before .before)) (x (c .before .before) .note) (a-note (c .before .before)))
+group-is-note c = let t = c .before .before .before .before .before in rw (grouped c) (group-note (by t) (x t .note) (a-note t))
 
 slot-requires : tie.Need-slot-requires Inv-loop μ-loop
 slot-requires c κs = rw (toZ-ofZ (note-fits (c .group-of .result) (group-is-note c))) (group-is-note c)
 
 module _ (c : tie.After-slot Inv-loop μ-loop) where
   abbrev t : tie.In-loop Inv-loop μ-loop
-  t = c .before .before .before
+  t = c .before .before .before .before .before .before
 
   abbrev at : ℕ
   at = slotOf (group (by t) (x t .note))
@@ -172,7 +179,7 @@ array-read-with-key-2 c = in-table c
 with-key-requires : tie.Need-with-key-requires Inv-loop μ-loop
 with-key-requires c κs =
     let u = used-few (by (t c)) (all (t c)) (t c .before .loop .records) (t c .before .loop .latest) (t c .before .loop .used) (t c .before .loop .count) (i (t c)) (x (t c)) (rest (t c)) (pass (t c)) (a-note (t c)) in
-    rw (slot-at c) (omega (arith, u, t c .loop-test .taken, s (t c) .pre .0))
+    rw (slot-at c) (omega (arith, u, t c .loop-test .taken, s (t c) .pre .3))
 
 mul-used : tie.Need-mul-used Inv-loop μ-loop
 mul-used c = record { fits = omega (arith, in-table (c .before)) }
@@ -201,7 +208,7 @@ module _ (c : tie.After-with-key Inv-loop μ-loop) where
 
   number-few : number < 256
   number-few =
-      omega (arith, t e .loop-test .taken, s (t e) .pre .0, next-few (by (t e)) (all (t e)) (t e .before .loop .records) (t e .before .loop .latest) (t e .before .loop .used) (t e .before .loop .count) (i (t e)) (x (t e)) (rest (t e)) (pass (t e)) (a-note (t e)))
+      omega (arith, t e .loop-test .taken, s (t e) .pre .3, next-few (by (t e)) (all (t e)) (t e .before .loop .records) (t e .before .loop .latest) (t e .before .loop .used) (t e .before .loop .count) (i (t e)) (x (t e)) (rest (t e)) (pass (t e)) (a-note (t e)))
 
 sub-channel : tie.Need-sub-channel Inv-loop μ-loop
 sub-channel c = omega (arith, channels c)
@@ -226,22 +233,24 @@ loop-again c =
     let d = c .before in
     let u = t (e d) in
     let l = u .before .loop in
+    let noted = e d .before .before .before in
     let one : d .with-key .result .used - 1 ≡ number d = omega (arith, channels d) in
     let grown : c .if1 .count ≡ max (l .count) (suc (number d)) = ⊎-elim (λ w. omega (arith, channels d)) (λ w. omega (arith, channels d)) (c .if1 .came) in (
       omega arith,
       pass-next (by u) (all u) (l .records) (l .latest) (l .used) (l .count) (i u) (x u) (rest u) (pass u) (a-note u) (small u) (c .if1 .count) grown
-          (toZ w32 (ofZ w32 (x u .note))) (d .with-key .result .latest) (d .with-key .result .used) (d .with-key .result .used - 1) (e d .slot .result) (read u) (d .with-key .ensures .1) (channels d) one (slot-at (e d)),
+          (toZ w32 (ofZ w32 (noted .note-of .result))) (d .with-key .result .latest) (d .with-key .result .used) (d .with-key .result .used - 1) (e d .slot .result) (read noted) (d .with-key .ensures .1) (channels d) one (slot-at (e d)),
     )
 
 returns : tie.Need-returns Inv-loop μ-loop
 unfolding linesOf
 returns c =
     let s = c .before .before .before .before .before in
-    let w = s .args .waiting in
+    let a = s .args in
     let l = c .before .loop in
-    let nil = rest-nil (w .count) (w .order) (l .i) (c .loop-test .left) in
-    pass-ends (s .args .by) (map (lineAt (w .notes) (w .detunings)) (take (w .count) (w .order))) (s .pre .1) (s .pre .2) (record { records = l .records; count = l .count }) (l .latest) (l .used) (l .i)
-    (subst (λ (k : List ℕ). Pass (s .args .by) (map (lineAt (w .notes) (w .detunings)) (take (w .count) (w .order))) (l .records) (l .latest) (l .used) (l .count) (l .i) (map (lineAt (w .notes) (w .detunings)) k)) nil (l .inv .1))
+    let f = lineAt (a .cells .now) (a .detunings .now) in
+    let nil = rest-nil (a .n) (a .order .now) (l .i) (c .loop-test .left) in
+    pass-ends (a .by) (map f (take (a .n) (a .order .now))) (s .pre .4) (s .pre .5) (record { records = l .records; count = l .count }) (l .latest) (l .used) (l .i)
+    (subst (λ (k : List ℕ). Pass (a .by) (map f (take (a .n) (a .order .now))) (l .records) (l .latest) (l .used) (l .count) (l .i) (map f k)) nil (l .inv .1))
 
 pub place-keys-spec : {M : Type 1} → statement M
 place-keys-spec =
@@ -250,12 +259,14 @@ place-keys-spec =
     Inv-loop
     μ-loop
     loop-holds
-    array-read-key
+    mul-key
+    shared-slice-read-key
     cast-key
-    mul-note
-    array-copy-out-note
+    mul-note-of
+    shared-slice-read-note-of
+    note-of-requires
     mul-detuning
-    array-read-detuning
+    shared-slice-read-detuning
     group-of-requires
     slot-requires
     mul-with-key
