@@ -97,7 +97,8 @@ pub(crate) fn drop_front(cells: &mut [u16], at: usize)
 {
     let n = size(cells, at);
     if 0 < n {
-        shift(cells, at + 1, n - 1);
+        // All fifteen, so that the loop has no branch on how many there are.
+        shift(cells, at + 1, 15);
         cells[at] = (n - 1) as u16;
     }
 }

@@ -4,6 +4,7 @@ use mathlib.Core.Path.{_≡_, sym, ap, _∙_}
 use mathlib.Core.List.{[]}
 use native.Mathlib.Omega.{arith}
 use lib.ListN.{length, take, drop, set, length-set}
+use lib.Seq.{take-take}
 use Rattle.models.specs.Block.{queueAt}
 use Rattle.models.proofs.Regions.{kept-same, kept-then, kept-set, kept-wider, queue-counted, rest-of}
 use borrow.Author.Needs.{needs}
@@ -15,9 +16,6 @@ size-requires c κs = search needs
 
 add-shift : tie.Need-add-shift
 add-shift c = search needs
-
-sub-shift : tie.Need-sub-shift
-sub-shift c = search needs
 
 shift-requires : tie.Need-shift-requires
 shift-requires c κs = search needs
@@ -48,7 +46,9 @@ returns c =
     let m = shift .last .0 in (
       kept-then (kept-wider (shift .ensures .0) (a .at) 17 (omega arith) (omega arith)) (kept-set (a .at) 17 m (a .at) (n - 1) (omega arith) (omega arith)),
       queue-counted m (a .at) (omega (arith, shift .ensures .0 .long)) (n - 1) (omega arith)
-          ∙ shift .ensures .1
+          ∙ sym (take-take (n - 1) 15 (drop (a .at + 1) m) (omega arith))
+          ∙ ap (take (n - 1)) (shift .ensures .1)
+          ∙ take-take (n - 1) 15 (drop (a .at + 1 + 1) l) (omega arith)
           ∙ sym (rest-of n (a .at + 1) l (omega arith))
           ∙ ap (drop 1) (sym (size .ensures .1)),
     )
@@ -71,7 +71,6 @@ drop-front-spec =
     (tie.spec
     size-requires
     add-shift
-    sub-shift
     shift-requires
     sub-cells
     cast-cells
