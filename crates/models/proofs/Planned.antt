@@ -1,26 +1,27 @@
 -- To plan the lines in order is to plan the list, so what the code plans is what the rule says, and meets demand 3. Assumes nothing.
 use mathlib.Core.Path.{_≡_, refl, sym, ap, _∙_, subst}
-use mathlib.Core.Bool.{true, cond}
+use mathlib.Core.Bool.{true, false, cond}
 use mathlib.Core.List.{List, [], _∷_}
-use Prim.Native.Nat.{ℕ, _<_, _≤_}
+use Prim.Native.Nat.{ℕ, _<_}
 use native.Mathlib.Omega.{arith}
-use lib.Dec.{T, leb}
+use lib.Dec.{T, eqb, leb}
 use lib.IntN.{ℤ}
 use lib.Ieee.{Float, binary64, fits}
 use lib.Ieee.Positive.{positive}
-use lib.ListN.{length}
+use lib.ListN.{length, getD}
 use Rattle.arithmetic.specs.Outcome.{Outcome, value}
 use Rattle.arithmetic.specs.Note.{isNote}
 use Rattle.models.specs.declared.aot.GroupBy.{GroupBy}
-use Rattle.models.specs.Lists.{Distinct}
+use Rattle.models.specs.Lists.{Each, Distinct, member}
 use Rattle.models.specs.Line.{Line, rising}
-use Rattle.models.specs.PlanLists.{keyCount, keys}
+use Rattle.models.specs.PlanLists.{keys}
 use Rattle.models.specs.Walk.{walk, count, seat, seatFrom, entry, channels}
-use Rattle.models.specs.PlanInside.{Accepted, Checked, Holds, linesOf}
+use Rattle.models.specs.PlanInside.{Accepted, Checked, Holds, Ready, linesOf}
 use Rattle.models.specs.AotModel.{Model, Answer, tuned, untuned, empty, holding, planned, Smallest}
 use Rattle.models.proofs.ListLaws.{Pairwise, false→T}
-use Rattle.models.proofs.Rising.{Other, Each-rising, length-rising, rising-sorted, rising-of-sorted, absent}
+use Rattle.models.proofs.Rising.{Other, Each-rising, rising-Each, length-rising, rising-sorted, rising-of-sorted, absent}
 use Rattle.models.proofs.Plan.{different}
+use Rattle.models.proofs.RecordNumbers.{place-held}
 use Rattle.models.proofs.Waits.{accepted-few}
 use Rattle.models.proofs.Models.{same-model}
 use Rattle.models.proofs.Demand3.{demand-3}
@@ -59,11 +60,23 @@ module _ (lines : List Line) (ok : Accepted lines) where
     unfolding entry
     entry-rising c g = rw walk-rising
 
+absent-key : (k : ℕ) (lines : List Line) → Each (λ (l : Line). eqb (l .key) k ≡ false) lines → member k (keys lines) ≡ false
+absent-key k [] h = refl
+absent-key k (x ∷ lines) h = rw (h .0) (absent-key k lines (h .1))
+
 -- What the check of the lists holds is a list that the pass takes.
-pub ready : (kind : GroupBy) (order cells : List ℕ) (ds : List Float) (n : ℕ) (lines : List Line) → Accepted lines → Holds order cells ds n lines
-    → (n ≤ keyCount) × Accepted (linesOf order cells ds n) × (rising (linesOf order cells ds n) ≡ linesOf order cells ds n)
-ready kind order cells ds n lines ok h =
-    (omega (arith, h .counted, accepted-few lines ok), rw (h .ordered) (rising-accepted lines ok kind), rw (h .ordered) (rising-twice lines ok))
+pub ready : (kind : GroupBy) (order cells : List ℕ) (ds : List Float) (n : ℕ) (lines : List Line) → Accepted lines → Holds order cells ds n lines → Ready order cells ds n
+ready kind order cells ds n lines ok h = record {
+  ok = rw (h .ordered) (rising-accepted lines ok kind);
+  ordered = rw (h .ordered) (rising-twice lines ok);
+  no-other = λ k o.
+      place-held (getD cells k 0) ∙ h .marked k
+      ∙ absent-key k lines (rising-Each (λ (l : Line). eqb (l .key) k ≡ false) lines (subst (Each (λ (l : Line). eqb (l .key) k ≡ false)) (h .ordered) o));
+  few = omega (arith, h .counted, accepted-few lines ok);
+  order-long = h .order-long;
+  cells-long = h .cells-long;
+  detunings-long = h .detunings-long;
+}
 
 planned-rising : (m : Model) (lines : List Line) → Accepted lines → planned m (value (rising lines)) ≡ planned m (value lines)
 unfolding planned

@@ -1,5 +1,5 @@
 -- `models::aot::AotTuningModel::set_tuning_of_pitches` meets its contract, demand 3 included: what was planned of the keys in order is the rule's plan. Assumes nothing.
-use mathlib.Core.Path.{_≡_, refl, sym, ap, _∙_}
+use mathlib.Core.Path.{_≡_, refl}
 use mathlib.Core.List.{List}
 use Prim.Native.Nat.{ℕ}
 use lib.Ieee.{Float}
@@ -73,21 +73,19 @@ place-keys-requires : tie.Need-place-keys-requires
 place-keys-requires c κs =
     let k = c .before .before .before .before .before .before .before in
     let f = held k (c .before .before .before .if1 .left) in
-    let h = f .3 in
-    let r = ready (s k .args .self .«group_by») (order k) (cells k) (ds k) (n k) (f .0) (f .2) h in
-    (h .order-long, h .cells-long, h .detunings-long, r .0, r .1, r .2)
+    ready (s k .args .self .«group_by») (order k) (cells k) (ds k) (n k) (f .0) (f .2) (f .3)
 
 with-plan-requires : tie.Need-with-plan-requires
 with-plan-requires c κs = search needs
 
 returns-2 : tie.Need-returns-2
 returns-2 c =
-    let k = c .before .before .before .before .before .before .before .before .before in
+    let k = c .before .before .before .before .before .before .before .before .before .before in
     let m = modelOf (s k .args .self) in
-    let f = held k (c .before .before .before .before .before .if1 .left) in
+    let f = held k (c .before .before .before .before .before .before .if1 .left) in
     let r = ready (m .groupBy) (order k) (cells k) (ds k) (n k) (f .0) (f .2) (f .3) in
     meets-planned m (o k) (k .pitch-lists .result) (order k) (cells k) (ds k) (n k) (f .0) (f .1) (f .2) (f .3) _
-    (c .with-plan .ensures (linesOf (order k) (cells k) (ds k) (n k)) (r .1) (c .before .place-keys .ensures))
+    (c .with-plan .ensures (linesOf (order k) (cells k) (ds k) (n k)) (r .ok) (c .before .before .place-keys .ensures))
 
 pub set-tuning-of-pitches-spec : {M : Type 1} → statement M
 set-tuning-of-pitches-spec =
