@@ -18,7 +18,7 @@ use Rattle.arithmetic.specs.Note.{isNote}
 use Rattle.models.specs.declared.aot.GroupBy.{GroupBy}
 use Rattle.models.specs.Lists.{Each, keep, member}
 use Rattle.models.specs.Line.{Line, group, same, ofGroup, rising}
-use Rattle.models.specs.PlanLists.{keys}
+use Rattle.models.specs.PlanLists.{keyCount, keys}
 use Rattle.models.specs.Walk.{count, seat, entry}
 use Rattle.models.specs.AotModel.{KeyRecord, nobody, isIn, keyIn, larger, counts, highest}
 use Rattle.models.specs.PlanInside.{Accepted, Seats}
@@ -116,7 +116,7 @@ module _ (by : GroupBy) (all : List Line) (ok : Accepted all) (rs : List KeyReco
     is-in : isIn (rec (l .key)) ≡ true
     above : T (positive (l .detuning))
     fitting : T (fits binary64 (l .detuning))
-    byte : l .key < 256
+    byte : l .key < keyCount
 
   abbrev channelOf : Option (ℕ × ℤ) → ℕ
   channelOf none = 0
@@ -129,7 +129,7 @@ module _ (by : GroupBy) (all : List Line) (ok : Accepted all) (rs : List KeyReco
   Written l = (rec (l .key) .note ≡ l .note) × (rec (l .key) .detuning ≡ l .detuning) × (isNote (l .note) ≡ true)
 
   abbrev Sized : Line → Type 0
-  Sized l = T (positive (l .detuning)) × T (fits binary64 (l .detuning)) × (l .key < 256)
+  Sized l = T (positive (l .detuning)) × T (fits binary64 (l .detuning)) × (l .key < keyCount)
 
   fact : (l : Line) → Placed l → Written l → Sized l → Fact l
   unfolding isIn

@@ -14,7 +14,7 @@ use Rattle.arithmetic.specs.Note.{isNote}
 use Rattle.models.specs.declared.aot.GroupBy.{GroupBy}
 use Rattle.models.specs.Lists.{Each, Distinct, member}
 use Rattle.models.specs.Line.{Line, rising}
-use Rattle.models.specs.PlanLists.{keys}
+use Rattle.models.specs.PlanLists.{keyCount, keys}
 use Rattle.models.specs.Walk.{walk, count, seat, seatFrom, entry, channels}
 use Rattle.models.specs.PlanInside.{Accepted, Checked, Holds, Ready, linesOf}
 use Rattle.models.specs.AotModel.{Model, Answer, tuned, untuned, empty, holding, planned, Smallest}
@@ -34,7 +34,7 @@ module _ (lines : List Line) (ok : Accepted lines) where
   rising-accepted : (kind : GroupBy) → Accepted (rising lines)
   rising-accepted kind = record {
     distinct = apart-distinct (rising lines) (different kind lines ok);
-    bytes = Each-rising (λ (l : Line). l .key < 256) lines (ok .bytes);
+    bytes = Each-rising (λ (l : Line). l .key < keyCount) lines (ok .bytes);
     notes = Each-rising (λ (l : Line). isNote (l .note) ≡ true) lines (ok .notes);
     detunings = Each-rising (λ (l : Line). T (positive (l .detuning))) lines (ok .detunings);
     fitting = Each-rising (λ (l : Line). T (fits binary64 (l .detuning))) lines (ok .fitting);
@@ -86,8 +86,8 @@ planned-rising m lines ok =
     let h = same-model (holding m (rising lines)) (holding m lines) refl refl refl n (seat-rising lines ok k) (entry-rising lines ok k) in
     λ i. cond (leb (n i) (length (m .channels))) (h i, tuned (n i)) (empty (m .channels) (m .groupBy), untuned (n i))
 
--- What the code answers is the rule's answer, and meets demand 3.
-module _ (m : Model) (o : Outcome (List Line)) (answer : ℕ) (order cells : List ℕ) (ds : List Float) (n : ℕ) where
+-- what the answer of the check says
+module _ (o : Outcome (List Line)) (answer : ℕ) (order cells : List ℕ) (ds : List Float) (n : ℕ) where
   pub answered : Checked o answer order cells ds n → answer ≡ 0 → (lines : List Line) × (o ≡ value lines) × Accepted lines × Holds order cells ds n lines
   answered c e = go o refl c
     where
@@ -102,10 +102,13 @@ module _ (m : Model) (o : Outcome (List Line)) (answer : ℕ) (order cells : Lis
       go (value lines) q c = absurd (ne (c .0))
       go (Outcome.refused k) q c = q ∙ ap (λ (j : ℕ). Outcome.refused j) (sym (c .0))
 
-  pub meets-refused : (r : Model × Answer) → o ≡ Outcome.refused answer → r ≡ planned m (Outcome.refused answer) → (r ≡ planned m o) × Smallest m o r
-  meets-refused r e a = rw e (a, tt)
+-- What the code answers is the rule's answer, and meets demand 3.
+module _ (m : Model) (o : Outcome (List Line)) (r : Model × Answer) where
+  pub meets-refused : (n : ℕ) → o ≡ Outcome.refused n → r ≡ planned m (Outcome.refused n) → (r ≡ planned m o) × Smallest m o r
+  meets-refused n e a = rw e (a, tt)
 
-  pub meets-planned : (lines : List Line) → o ≡ value lines → Accepted lines → Holds order cells ds n lines → (r : Model × Answer) → r ≡ planned m (value (linesOf order cells ds n)) → (r ≡ planned m o) × Smallest m o r
-  meets-planned lines e ok h r a =
+  pub meets-planned : (order cells : List ℕ) (ds : List Float) (n : ℕ) (lines : List Line) → o ≡ value lines → Accepted lines → Holds order cells ds n lines
+      → r ≡ planned m (value (linesOf order cells ds n)) → (r ≡ planned m o) × Smallest m o r
+  meets-planned order cells ds n lines e ok h a =
       let b : r ≡ planned m o = a ∙ ap (λ (l : List Line). planned m (value l)) (h .ordered) ∙ planned-rising m lines ok ∙ ap (planned m) (sym e) in
       (b, subst (Smallest m o) (sym b) (demand-3 m o (λ l u. let q : value l ≡ value lines = sym u ∙ e in let p : l ≡ lines = cc in subst Accepted (sym p) ok)))

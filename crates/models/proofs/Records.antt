@@ -13,6 +13,7 @@ use lib.Ieee.Fits.{and-r}
 use Rattle.arithmetic.specs.Note.{isNote}
 use lib.ListN.{length, getD, drop, drop-of-length-le}
 use lib.Seq.{drop-cons}
+use Rattle.models.specs.Keys.{keyCount}
 use Rattle.models.specs.Lists.{Each}
 use Rattle.models.specs.declared.aot.GroupBy.{GroupBy}
 use Rattle.models.specs.Line.{group, same}
@@ -88,9 +89,9 @@ module _ (by : GroupBy) (c : ℕ) (g : ℤ) (rs : List KeyRecord) (i : ℕ) (d :
   unfolding highest
   highest-no e = rw (before-here, e)
 
-pub highest-none : (by : GroupBy) (c : ℕ) (g : ℤ) (rs : List KeyRecord) → length rs ≤ 256 → none ≡ highest by c g (drop 256 rs)
+pub highest-none : (by : GroupBy) (c : ℕ) (g : ℤ) (rs : List KeyRecord) → length rs ≤ keyCount → none ≡ highest by c g (drop keyCount rs)
 unfolding highest
-highest-none by c g rs h = rw (drop-of-length-le rs {i = 256} h)
+highest-none by c g rs h = rw (drop-of-length-le rs {i = keyCount} h)
 
 and-no : (a : Bool) → (a && false) ≡ false
 and-no true = refl

@@ -2,15 +2,15 @@
 
 ghost use mathlib.Core.Path.{_≡_};
 ghost use mathlib.Core.Bool.{true, _&&_};
+ghost use mathlib.Core.List.{List};
 ghost use Prim.Native.Nat.{_<_};
 ghost use lib.Dec.{leb};
 ghost use lib.IntN.{pos};
-ghost use lib.ListN.{getD, length};
 ghost use lib.Ieee.{Float};
-ghost use Rattle.models.specs.Block.{noteOf};
-ghost use mathlib.Core.List.{List};
+ghost use lib.ListN.{getD, length};
 ghost use Rattle.arithmetic.specs.Outcome.{value, refused};
 ghost use Rattle.arithmetic.specs.Note.{isNote};
+ghost use Rattle.models.specs.Block.{noteOf};
 ghost use Rattle.models.specs.ChannelList.{channelsAnswer, entries};
 ghost use Rattle.models.specs.Line.{Line, group, joins};
 ghost use Rattle.models.specs.PlanLists.{keyCount, noteLists, pitchLists};

@@ -13,7 +13,7 @@ use borrow.Author.Needs.{needs}
 use Rattle.arithmetic.specs.Outcome.{Outcome}
 use Rattle.models.specs.Line.{Line}
 use Rattle.models.specs.PlanInside.{Adds}
-use Rattle.models.specs.PlanLists.{lineByLine, noteLine, noteLines, noteLists}
+use Rattle.models.specs.PlanLists.{keyCount, lineByLine, noteLine, noteLines, noteLists}
 use Rattle.models.proofs.Lines.{Turn, begins, turn-refused, turn-next, ended, ended-early, note-line-at, note-lines-end, note-lists-equal, note-lists-unequal}
 use Rattle.models.proofs.waiting.note_lists.Statement.{statement}
 use Rattle.models.proofs.waiting.note_lists.Tie as tie
@@ -66,8 +66,8 @@ module _ (c : tie.In-loop Inv-loop μ-loop) where
   turn : Turn o (c .before .loop .order) (c .before .loop .records) (c .before .loop .by-key) i (line ∷ rest)
   turn = subst (Turn o (c .before .loop .order) (c .before .loop .records) (c .before .loop .by-key) i) (note-line-at ks ns ds i (c .loop-test .taken) (omega (arith, c .before .before .before .if1 .left)) (omega (arith, c .before .before .if2 .left))) (c .before .loop .inv .1)
 
-  byte : getD ks i 0 < 256
-  byte = c .before .before .before .before .before .before .before .before .shared-slice-known .given i .fits
+  byte : getD ks i 0 < keyCount
+  byte = let f : getD ks i 0 < 256 = c .before .before .before .before .before .before .before .before .shared-slice-known .given i .fits in omega arith
 
 shared-slice-read-key : tie.Need-shared-slice-read-key Inv-loop μ-loop
 shared-slice-read-key c = omega arith

@@ -1,6 +1,7 @@
 -- `models::aot::AotTuningModel::access_key` meets its contract: one read of the table. Assumes nothing.
 use mathlib.Core.Path.{_≡_, sym, _∙_}
 use lib.ListN.{length}
+use Rattle.models.specs.PlanLists.{keyCount}
 use Rattle.models.proofs.Records.{key-looked-up}
 use borrow.Author.Needs.{needs}
 use Rattle.models.proofs.aot.AotTuningModel.access_key.Statement.{statement}
@@ -15,10 +16,10 @@ array-read-place-of c = search needs
 place-of-requires : tie.Need-place-of-requires
 place-of-requires c κs = search needs
 
-long : (s : tie.Start) → length (s .args .self .records) ≡ 256
+long : (s : tie.Start) → length (s .args .self .records) ≡ keyCount
 long s = search needs
 
-detunings-long : (s : tie.Start) → length (s .args .self .detunings) ≡ 256
+detunings-long : (s : tie.Start) → length (s .args .self .detunings) ≡ keyCount
 detunings-long s = search needs
 
 returns : tie.Need-returns
