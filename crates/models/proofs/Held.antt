@@ -7,7 +7,7 @@ use mathlib.Core.Option.{Option, none, some}
 use Prim.Native.Nat.{ℕ, _<_, _≤_}
 use native.Mathlib.Nat.{le-of-eq}
 use native.Mathlib.Omega.{arith}
-use borrow.Author.Tests.{lt-ltb, ltb-true, ltb-false}
+use borrow.Author.Tests.{ltb-true, ltb-false}
 use lib.Dec.{T, eqb, eqb→eq, leb, ltb}
 use lib.IntN.{ℤ}
 use lib.Ieee.{Float, binary64, fits, le}
@@ -16,13 +16,11 @@ use lib.Ieee.Positive.{positive, le-trans-positive, cross→le}
 use lib.ListN.{length, getD}
 use Rattle.arithmetic.specs.Note.{isNote}
 use Rattle.models.specs.declared.aot.GroupBy.{GroupBy}
-use Rattle.models.specs.declared.aot.KeyRecord.{KeyRecord}
-use Rattle.models.specs.declared.aot.Plan.{Plan}
 use Rattle.models.specs.Lists.{Each, keep, member}
 use Rattle.models.specs.Line.{Line, group, same, ofGroup, rising}
-use Rattle.models.specs.PlanLists.{keys}
+use Rattle.models.specs.PlanLists.{keyCount, keys}
 use Rattle.models.specs.Walk.{count, seat, entry}
-use Rattle.models.specs.AotModel.{nobody, isIn, keyIn, larger, counts, highest}
+use Rattle.models.specs.AotModel.{KeyRecord, nobody, isIn, keyIn, larger, counts, highest}
 use Rattle.models.specs.PlanInside.{Accepted, Seats}
 use Rattle.models.proofs.ListLaws.{outcome, passed, failed, T→true, true→T, not-false, or-cases, Each-map, Each-keep, Pairwise, Pairwise-keep}
 use mathlib.Core.Logic.{inl, inr}
@@ -106,9 +104,9 @@ module _ (by : GroupBy) (c : ℕ) (g : ℤ) where
       ]
 
 -- ---- in a plan
-module _ (by : GroupBy) (all : List Line) (ok : Accepted all) (p : Plan) (s : Seats by all p) (few : p .count ≤ 16) where
+module _ (by : GroupBy) (all : List Line) (ok : Accepted all) (rs : List KeyRecord) (n : ℕ) (s : Seats by all rs n) (few : n ≤ 16) where
   abbrev rec : ℕ → KeyRecord
-  rec k = getD (p .records) k nobody
+  rec k = getD rs k nobody
 
   record Fact (l : Line) : Type 0 where
     seated : seat by all (l .key) ≡ some (rec (l .key) .channel, rec (l .key) .note)
@@ -118,7 +116,7 @@ module _ (by : GroupBy) (all : List Line) (ok : Accepted all) (p : Plan) (s : Se
     is-in : isIn (rec (l .key)) ≡ true
     above : T (positive (l .detuning))
     fitting : T (fits binary64 (l .detuning))
-    byte : l .key < 256
+    byte : l .key < keyCount
 
   abbrev channelOf : Option (ℕ × ℤ) → ℕ
   channelOf none = 0
@@ -131,7 +129,7 @@ module _ (by : GroupBy) (all : List Line) (ok : Accepted all) (p : Plan) (s : Se
   Written l = (rec (l .key) .note ≡ l .note) × (rec (l .key) .detuning ≡ l .detuning) × (isNote (l .note) ≡ true)
 
   abbrev Sized : Line → Type 0
-  Sized l = T (positive (l .detuning)) × T (fits binary64 (l .detuning)) × (l .key < 256)
+  Sized l = T (positive (l .detuning)) × T (fits binary64 (l .detuning)) × (l .key < keyCount)
 
   fact : (l : Line) → Placed l → Written l → Sized l → Fact l
   unfolding isIn
@@ -142,7 +140,7 @@ module _ (by : GroupBy) (all : List Line) (ok : Accepted all) (p : Plan) (s : Se
         channel-is = e;
         note-is = b .0;
         detuning-is = b .1;
-        is-in = rw (lt-ltb (rec (l .key) .channel) 16 (omega (arith, e, a .2, s .count-is)), b .0) (b .2);
+        is-in = rw (b .0) (b .2);
         above = d .0;
         fitting = d .1;
         byte = d .2;
@@ -152,12 +150,12 @@ module _ (by : GroupBy) (all : List Line) (ok : Accepted all) (p : Plan) (s : Se
   facts =
       let below = rising-Each (λ (l : Line). channel by all (l .key) < count by all) all (below-count by all ok) in
       zip3 fact all
-      (zip3 {S = Placed} (λ l a b d. (a, b, d)) all (s .channel-is) (seated-lines by all ok) below)
+      (zip3 {S = Placed} (λ l a b d. (a, b, d)) all (s .channel-is few) (seated-lines by all ok) below)
       (zip3 {S = Written} (λ l a b d. (a, b, d)) all (s .note-is) (s .detuning-is) (ok .notes))
       (zip3 {S = Sized} (λ l a b d. (a, b, d)) all (ok .detunings) (ok .fitting) (ok .bytes))
 
   -- a lookup finds the walk's seat
-  pub found : (k : ℕ) → keyIn (p .records) k ≡ seat by all k
+  pub found : (k : ℕ) → keyIn rs k ≡ seat by all k
   unfolding keyIn
   found k = elim (outcome (member k (keys all))) [
     | passed m ↦ let f = at-key Fact k all facts (true→T m) in subst (λ (j : ℕ). cond (isIn (rec j)) (some (rec j .channel, rec j .note)) none ≡ seat by all j) (f .1) (rw (f .2 .is-in) (sym (f .2 .seated)))
@@ -177,9 +175,9 @@ module _ (by : GroupBy) (all : List Line) (ok : Accepted all) (p : Plan) (s : Se
         and-true false = refl
 
     -- what holds of the heard lines' detunings holds of those of the records that count
-    over-records : (P : Float → Type 0) → Each (λ (l : Line). P (l .detuning)) (heard by all c g) → Each (λ (r : KeyRecord). counts by c g r ≡ true → P (r .detuning)) (p .records)
+    over-records : (P : Float → Type 0) → Each (λ (l : Line). P (l .detuning)) (heard by all c g) → Each (λ (r : KeyRecord). counts by c g r ≡ true → P (r .detuning)) rs
     over-records P h =
-        each-at (λ (r : KeyRecord). counts by c g r ≡ true → P (r .detuning)) (p .records) nobody at
+        each-at (λ (r : KeyRecord). counts by c g r ≡ true → P (r .detuning)) rs nobody at
       where
         inside : Each (λ (l : Line). ofGroup by g l ≡ true → upTo l ≡ true → P (l .detuning)) all
         inside =
@@ -191,7 +189,7 @@ module _ (by : GroupBy) (all : List Line) (ok : Accepted all) (p : Plan) (s : Se
             let b = true→T (sym (counts-is l f) ∙ e) in
             rw (f .detuning-is) (h (T→true (ofGroup by g l) (and-r (upTo l) (ofGroup by g l) b)) (T→true (upTo l) (and-l (upTo l) (ofGroup by g l) b)))
 
-        at : (k : ℕ) → k < length (p .records) → counts by c g (rec k) ≡ true → P (rec k .detuning)
+        at : (k : ℕ) → k < length rs → counts by c g (rec k) ≡ true → P (rec k .detuning)
         at k b e = elim (outcome (member k (keys all))) [
           | passed m ↦
               let f = at-key (λ (l : Line). counts by c g (rec (l .key)) ≡ true → P (rec (l .key) .detuning)) k all (zip (λ l a b. line l a b) all facts inside) (true→T m) in
@@ -219,8 +217,8 @@ module _ (by : GroupBy) (all : List Line) (ok : Accepted all) (p : Plan) (s : Se
     in-order : Pairwise UpTo (heard by all c g)
     in-order = Pairwise-keep UpTo upTo (keep (ofGroup by g) (rising all)) (Pairwise-keep UpTo (ofGroup by g) (rising all) (sorted by all ok))
 
-    none-counts : heard by all c g ≡ [] → highest by c g (p .records) ≡ none
-    none-counts e = none-of (highest by c g (p .records)) (highest-has by c g (λ (d : Float). ⊥) (p .records) (over-records (λ (d : Float). ⊥) (subst (Each (λ (l : Line). ⊥)) (sym e) tt)))
+    none-counts : heard by all c g ≡ [] → highest by c g rs ≡ none
+    none-counts e = none-of (highest by c g rs) (highest-has by c g (λ (d : Float). ⊥) rs (over-records (λ (d : Float). ⊥) (subst (Each (λ (l : Line). ⊥)) (sym e) tt)))
       where
         none-of : (o : Option Float) → Has (λ (d : Float). ⊥) o → o ≡ none
         none-of none h = refl
@@ -230,31 +228,31 @@ module _ (by : GroupBy) (all : List Line) (ok : Accepted all) (p : Plan) (s : Se
     abbrev Within : Float → Float → Type 0
     Within d f = T (positive f) × T (fits binary64 f) × T (le f d)
 
-    largest-counts : (z : Line) → Heard z → Each (λ (y : Line). T (le (y .detuning) (z .detuning))) (heard by all c g) → highest by c g (p .records) ≡ some (z .detuning)
+    largest-counts : (z : Line) → Heard z → Each (λ (y : Line). T (le (y .detuning) (z .detuning))) (heard by all c g) → highest by c g rs ≡ some (z .detuning)
     largest-counts z h below =
-        finish (highest by c g (p .records))
-        (highest-has by c g (Within (z .detuning)) (p .records) (over-records (Within (z .detuning)) (zip {R = λ (l : Line). Within (z .detuning) (l .detuning)} (λ l a b. (a .fact-of .above, a .fact-of .fitting, b)) (heard by all c g) all-heard below)))
-        (subst (λ (d : Float). Under d (highest by c g (p .records))) (h .fact-of .detuning-is)
-        (at-each (λ (r : KeyRecord). counts by c g r ≡ true → Under (r .detuning) (highest by c g (p .records))) (p .records) nobody
-        (highest-over by c g (p .records) (over-records (λ (d : Float). T (positive d)) all-positive)) (z .key) (omega (arith, s .long, h .fact-of .byte)) (h .counted)))
+        finish (highest by c g rs)
+        (highest-has by c g (Within (z .detuning)) rs (over-records (Within (z .detuning)) (zip {R = λ (l : Line). Within (z .detuning) (l .detuning)} (λ l a b. (a .fact-of .above, a .fact-of .fitting, b)) (heard by all c g) all-heard below)))
+        (subst (λ (d : Float). Under d (highest by c g rs)) (h .fact-of .detuning-is)
+        (at-each (λ (r : KeyRecord). counts by c g r ≡ true → Under (r .detuning) (highest by c g rs)) rs nobody
+        (highest-over by c g rs (over-records (λ (d : Float). T (positive d)) all-positive)) (z .key) (omega (arith, s .long, h .fact-of .byte)) (h .counted)))
       where
         finish : (o : Option Float) → Has (Within (z .detuning)) o → Under (z .detuning) o → o ≡ some (z .detuning)
         finish none a b = absurd b
         finish (some d) a b = ap (λ (f : Float). some f) (le-antisym binary64 d (z .detuning) (a .0) (h .fact-of .above) (a .1) (h .fact-of .fitting) (a .2) b)
 
     -- the largest detuning of the records that count is the walk's entry
-    pub highest-entry : c < count by all → highest by c g (p .records) ≡ entry by all c g
+    pub highest-entry : c < count by all → highest by c g rs ≡ entry by all c g
     highest-entry h = go (heard by all c g) refl ∙ sym (entry-is by all ok c g h)
       where
-        go : (l : List Line) → heard by all c g ≡ l → highest by c g (p .records) ≡ lastOf none l
+        go : (l : List Line) → heard by all c g ≡ l → highest by c g rs ≡ lastOf none l
         go [] e = none-counts e
         go (x ∷ l) e =
             let z = largest Heard x l (subst (Each Heard) e all-heard) (subst (Each (λ (y : Line). T (positive (y .detuning)))) e all-positive) (subst (Pairwise UpTo) e in-order) in
             largest-counts (z .0) (z .1) (subst (Each (λ (y : Line). T (le (y .detuning) (z .0 .detuning)))) (sym e) (z .4)) ∙ sym (z .3)
 
     -- the detunings of the model are the walk's entries
-    pub detuning-entry : cond (ltb c (p .count)) (highest by c g (p .records)) none ≡ entry by all c g
-    detuning-entry = elim (outcome (ltb c (p .count))) [
-      | passed e ↦ rw e (highest-entry (omega (arith, ltb-true c (p .count) e, s .count-is)))
-      | failed e ↦ rw e (sym (no-entry by all ok c g (omega (arith, ltb-false c (p .count) e, s .count-is))))
+    pub detuning-entry : cond (ltb c n) (highest by c g rs) none ≡ entry by all c g
+    detuning-entry = elim (outcome (ltb c n)) [
+      | passed e ↦ rw e (highest-entry (omega (arith, ltb-true c n e, s .count-is)))
+      | failed e ↦ rw e (sym (no-entry by all ok c g (omega (arith, ltb-false c n e, s .count-is))))
     ]

@@ -21,7 +21,7 @@ use Rattle.arithmetic.proofs.Bounds.{detuning-is, planned-is}
 use Rattle.arithmetic.proofs.Nearest.{nearest-is-note, nearest-detuning}
 use Rattle.models.specs.Lists.{member}
 use Rattle.models.specs.Line.{Line}
-use Rattle.models.specs.PlanLists.{isPlanned, noteLine, pitchLine, noteLines, pitchLines, keys, lineByLine, noteLists, pitchLists}
+use Rattle.models.specs.PlanLists.{keyCount, isPlanned, noteLine, pitchLine, noteLines, pitchLines, keys, lineByLine, noteLists, pitchLists}
 use Rattle.models.specs.Pool.{isHeld}
 use Rattle.models.specs.Block.{placeOf}
 use Rattle.models.specs.PlanInside.{Accepted, Adds, Checked, Holds, Room}
@@ -37,7 +37,7 @@ pub record Turn (o : Outcome (List Line)) (order cells : List ℕ) (ds : List Fl
 
 -- what a line is that passed by itself
 pub record Sound (l : Line) : Type 0 where
-  pub byte : l .key < 256
+  pub byte : l .key < keyCount
   pub note : isNote (l .note) ≡ true
   pub above : T (positive (l .detuning))
   pub fitting : T (fits binary64 (l .detuning))
@@ -147,7 +147,7 @@ planned-positive d e =
     detuning-is d (planned-is d (and-l a b (true→T e)) (and-r a b (true→T e)))
 
 -- the nearest note's line
-pub nearest-sound : (k : ℕ) (hz : Float) (n : ℤ) (d : Float) → k < 256 → value (n, d) ≡ nearestRule hz → Sound (record { key = k; note = n; detuning = d })
+pub nearest-sound : (k : ℕ) (hz : Float) (n : ℤ) (d : Float) → k < keyCount → value (n, d) ≡ nearestRule hz → Sound (record { key = k; note = n; detuning = d })
 unfolding nearestRule
 nearest-sound k hz n d b e = elim (outcome (isPitch hz)) [
   | passed p ↦

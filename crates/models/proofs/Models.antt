@@ -1,21 +1,22 @@
 -- When two models are the same, and which one has no keys. Assumes nothing.
 use mathlib.Core.Path.{_≡_, refl}
-use mathlib.Core.Bool.{Bool, true, false, not, _&&_}
+use mathlib.Core.Bool.{Bool, true, false, _&&_}
 use mathlib.Core.List.{List, [], _∷_}
 use mathlib.Core.Option.{none}
 use Prim.Native.Nat.{ℕ, zero, suc, _<_, _≤_}
 use borrow.Author.Tests.{le-leb, lt-leb}
-use lib.Dec.{T, leb}
+use lib.Dec.{leb}
 use lib.IntN.{ℤ}
-use lib.Ieee.Fits.{and-l, and-r}
-use lib.ListN.{length, getD}
+use lib.Ieee.{Float}
+use lib.ListN.{length}
 use Rattle.arithmetic.specs.Outcome.{value}
 use Rattle.models.specs.declared.aot.GroupBy.{GroupBy}
-use Rattle.models.specs.declared.aot.KeyRecord.{KeyRecord}
 use Rattle.models.specs.Line.{Line, group, same}
 use Rattle.models.specs.Walk.{count}
-use Rattle.models.specs.AotModel.{Model, tuned, untuned, empty, holding, planned, nobody, isIn, keyIn, counts, highest}
-use Rattle.models.proofs.ListLaws.{T→false}
+use Rattle.models.specs.AotModel.{KeyRecord, Model, tuned, untuned, empty, holding, planned, isIn, recordsOf, keyIn, counts, highest}
+use Rattle.models.specs.Lists.{Each}
+use Rattle.models.specs.Block.{noteOf}
+use Rattle.models.proofs.Waits.{zeros}
 
 pub same-model : (m n : Model) → m .channels ≡ n .channels → m .groupBy ≡ n .groupBy → m .tuned ≡ n .tuned → m .numChannels ≡ n .numChannels
     → ((k : ℕ) → m .keys k ≡ n .keys k) → ((c : ℕ) (g : ℤ) → m .detunings c g ≡ n .detunings c g) → m ≡ n
@@ -23,19 +24,20 @@ same-model m n a b t d e f =
     λ i. record { channels = a i; groupBy = b i; tuned = t i; numChannels = d i; keys = λ k. e k i; detunings = λ c g. f c g i }
 
 -- no record is of a key in the plan
-abbrev pub allOut : List KeyRecord → Bool
-allOut [] = true
-allOut (r ∷ rs) = not (isIn r) && allOut rs
+abbrev pub AllOut : List KeyRecord → Type 0
+AllOut rs = Each (λ (r : KeyRecord). isIn r ≡ false) rs
 
-pub out-at : (rs : List KeyRecord) → T (allOut rs) → (k : ℕ) → isIn (getD rs k nobody) ≡ false
-unfolding isIn
-out-at [] h k = refl
-out-at (r ∷ rs) h zero = T→false (isIn r) (and-l (not (isIn r)) (allOut rs) h)
-out-at (r ∷ rs) h (suc k) = out-at rs (and-r (not (isIn r)) (allOut rs) h) k
+pub none-in : (n : ℕ) (ds : List Float) → AllOut (recordsOf (zeros n) ds)
+unfolding recordsOf zeros isIn noteOf
+none-in zero ds = tt
+none-in (suc n) [] = tt
+none-in (suc n) (d ∷ ds) = (refl, none-in n ds)
 
-pub no-keys : (rs : List KeyRecord) → T (allOut rs) → (k : ℕ) → keyIn rs k ≡ none
-unfolding keyIn
-no-keys rs h k = rw (out-at rs h k)
+pub no-keys : (rs : List KeyRecord) → AllOut rs → (k : ℕ) → keyIn rs k ≡ none
+unfolding keyIn isIn noteOf
+no-keys [] h k = refl
+no-keys (r ∷ rs) h zero = rw (h .0)
+no-keys (r ∷ rs) h (suc k) = no-keys rs (h .1) k
 
 -- what is not in the plan counts for no group
 pub out-counts : (by : GroupBy) (c : ℕ) (g : ℤ) (r : KeyRecord) → isIn r ≡ false → counts by c g r ≡ false
@@ -46,10 +48,10 @@ out-counts by c g r e = rw e (and-no (leb (r .channel) c) (same (group by (r .no
     and-no true b = refl
     and-no false b = refl
 
-pub no-detunings : (by : GroupBy) (c : ℕ) (g : ℤ) (rs : List KeyRecord) → T (allOut rs) → highest by c g rs ≡ none
+pub no-detunings : (by : GroupBy) (c : ℕ) (g : ℤ) (rs : List KeyRecord) → AllOut rs → highest by c g rs ≡ none
 unfolding highest
 no-detunings by c g [] h = refl
-no-detunings by c g (r ∷ rs) h = rw (out-counts by c g r (T→false (isIn r) (and-l (not (isIn r)) (allOut rs) h)), no-detunings by c g rs (and-r (not (isIn r)) (allOut rs) h))
+no-detunings by c g (r ∷ rs) h = rw (out-counts by c g r (h .0), no-detunings by c g rs (h .1))
 
 -- ---- planning, by its cases
 module _ (m : Model) (lines : List Line) where

@@ -18,10 +18,9 @@ use Rattle.models.proofs.Slots.{group-note}
 use Rattle.arithmetic.proofs.Notes.{bounds, letter-below}
 use Rattle.models.specs.declared.aot.GroupBy.{GroupBy}
 use Rattle.models.specs.declared.aot.GroupBy.the-variants.{Note, NoteLetter, Channel}
-use Rattle.models.specs.declared.aot.KeyRecord.{KeyRecord}
 use Rattle.models.specs.Lists.{Each}
 use Rattle.models.specs.Line.{group, same}
-use Rattle.models.specs.AotModel.{isIn, counts, highest, larger, numbersFrom, groups, firstEntry}
+use Rattle.models.specs.AotModel.{KeyRecord, isIn, counts, highest, larger, numbersFrom, groups, firstEntry}
 use Rattle.models.specs.PlanInside.{lower, leastFrom}
 use Rattle.models.proofs.ListLaws.{outcome, passed, failed, T→true, true→T, not-false}
 use Rattle.models.proofs.Sweep.{same-eq}

@@ -4,6 +4,7 @@ use mathlib.Core.Bool.{true, false}
 use mathlib.Core.List.{List, [], _∷_, map}
 use mathlib.Core.Option.{Option, none, some}
 use Prim.Native.Nat.{ℕ, zero, suc, _+_, _-_, _<_, _≤_, max}
+use native.Mathlib.Nat.{mod-eq-of-lt}
 use native.Mathlib.Omega.{arith}
 use lib.Dec.{T, eqb, eqb-refl}
 use lib.IntN.{ℤ}
@@ -12,18 +13,20 @@ use lib.ListN.{length, getD, drop, set, length-set}
 use lib.Seq.{getD-set-same, getD-set-other}
 use Rattle.arithmetic.specs.Note.{isNote}
 use Rattle.models.specs.declared.aot.GroupBy.{GroupBy}
-use Rattle.models.specs.declared.aot.KeyRecord.{KeyRecord}
-use Rattle.models.specs.declared.aot.Plan.{Plan}
 use Rattle.models.specs.Lists.{Each, member}
 use Rattle.models.specs.Line.{Line, group, ofGroup, joins, rising}
-use Rattle.models.specs.PlanLists.{keys}
+use Rattle.models.specs.PlanLists.{keyCount, keys}
+use Rattle.models.specs.Pool.{Place}
+use Rattle.models.specs.Block.{noteOf, channelOf, placeOf}
 use Rattle.models.specs.Walk.{count, seat}
-use Rattle.models.specs.AotModel.{nobody, isIn}
-use Rattle.models.specs.PlanInside.{Accepted, Seats, channelsWith, slotOf}
+use Rattle.models.specs.AotModel.{KeyRecord, nobody, isIn, recordsOf}
+use Rattle.models.specs.PlanInside.{Accepted, Placed, Seats, channelsWith, lineAt, slotOf}
 use Rattle.models.proofs.ListLaws.{outcome, passed, failed, T→true, true→T, not-false, Each-map, Each-all, Pairwise, own-image}
-use Rattle.models.proofs.Rising.{Other, other-sym, distinct-apart}
+use Rattle.models.proofs.Rising.{Other, other-sym, distinct-apart, rising-Each}
+use Rattle.models.proofs.RecordNumbers.{place-parts}
+use Rattle.models.proofs.Records.{records-at, records-long}
 use Rattle.models.proofs.Sweep.{own-group, group-of}
-use Rattle.models.proofs.Plan.{channel}
+use Rattle.models.proofs.Plan.{channel, below-count}
 use Rattle.models.proofs.OnePass.{Mark, mark, numberAfter, numberOfNext, numbers, top, find, find-channel, one-pass-count}
 use Rattle.models.proofs.Seats.{seated-lines}
 use Rattle.models.proofs.Slots.{group-note, slot-below, slot-one}
@@ -54,10 +57,10 @@ unfolding channelsWith
 channels-are none u f d h = rw h
 channels-are (some m) u f d h = rw (h .0, h .1) (elim (outcome (joins (m .last) d)) [ passed e ↦ rw e | failed e ↦ rw e ])
 
-grows : (u : ℕ) (f d : Float) → channelsWith u f d ≤ suc u
+pub some-channel : (u : ℕ) (f d : Float) → 1 ≤ channelsWith u f d
 unfolding channelsWith
-grows zero f d = omega arith
-grows (suc u) f d = elim (outcome (joins f d)) [ passed e ↦ rw e (omega arith) | failed e ↦ rw e (omega arith) ]
+some-channel zero f d = omega arith
+some-channel (suc u) f d = elim (outcome (joins f d)) [ passed e ↦ rw e (omega arith) | failed e ↦ rw e (omega arith) ]
 
 -- a group uses at most as many channels as it has lines
 mark-below : (by : GroupBy) (g : ℤ) (done : List Line) (u : ℕ) (f : Float) → Agrees (mark by g done) u f → u ≤ length done
@@ -75,38 +78,37 @@ mark-below by g (x ∷ done) u f h = elim (outcome (ofGroup by g x)) [
         let b = i (suc (m .number)) (m .last) (refl, refl) in
         elim (outcome (joins (m .last) d)) [ passed j ↦ rw j (omega arith) | failed j ↦ rw j (omega arith) ]
 
-abbrev pub recordOf : Line → ℕ → KeyRecord
-recordOf l c = record { note = l .note; channel = c; detuning = l .detuning }
+-- the place of a line's key, on the channel that the pass gives it
+abbrev pub placeIn : GroupBy → List Line → Line → Place
+placeIn by all l = record { channel = channelOf (find by (l .key) [] all); note = l .note }
 
-pub record Pass (by : GroupBy) (all : List Line) (records : List KeyRecord) (latest : List Float) (used : List ℕ) (n i : ℕ) (rest : List Line) : Type 0 where
+pub record Pass (by : GroupBy) (all : List Line) (cells : List ℕ) (latest : List Float) (used : List ℕ) (n i : ℕ) (rest : List Line) : Type 0 where
   pub done : List Line
   pub reached : length done ≡ i
   pub whole : all ≡ onto done rest
   pub tables : (g : ℤ) → isNote g ≡ true → Agrees (mark by g done) (getD used (slotOf g) 0) (getD latest (slotOf g) nan)
   pub ahead : Each (λ (l : Line). find by (l .key) [] all ≡ find by (l .key) done rest) rest
-  pub placed : Each (λ (l : Line). getD records (l .key) nobody ≡ recordOf l (find by (l .key) [] all)) done
-  pub out : (k : ℕ) → Each (λ (l : Line). eqb (l .key) k ≡ false) done → isIn (getD records k nobody) ≡ false
+  pub placed : Each (λ (l : Line). placeOf (getD cells (l .key) 0) ≡ some (placeIn by all l)) done
+  pub noted : Each (λ (l : Line). noteOf (getD cells (l .key) 0) ≡ l .note) rest
+  pub out : (k : ℕ) → Each (λ (l : Line). eqb (l .key) k ≡ false) done → Each (λ (l : Line). eqb (l .key) k ≡ false) rest → isNote (noteOf (getD cells k 0)) ≡ false
   pub counted : top (numbers by [] all) ≡ max n (top (numbers by done rest))
   pub fresh : Each (λ (l : Line). Each (Other l) rest) done
   pub apart : Pairwise Other rest
-  pub records-long : length records ≡ 256
+  pub cells-long : length cells ≡ keyCount
   pub latest-long : length latest ≡ 801
   pub used-long : length used ≡ 801
 
-module _ (by : GroupBy) (all : List Line) (records : List KeyRecord) (latest : List Float) (used : List ℕ) (n i : ℕ) (x : Line) (rest : List Line) where
+module _ (by : GroupBy) (all : List Line) (cells : List ℕ) (latest : List Float) (used : List ℕ) (n i : ℕ) (x : Line) (rest : List Line) where
   abbrev at : ℕ
   at = slotOf (group by (x .note))
 
-  module _ (p : Pass by all records latest used n i (x ∷ rest)) (note : isNote (x .note) ≡ true) where
+  module _ (p : Pass by all cells latest used n i (x ∷ rest)) (note : isNote (x .note) ≡ true) where
     -- the channels that the group uses with x
     pub next-is : channelsWith (getD used at 0) (getD latest at nan) (x .detuning) ≡ suc (numberOfNext by (p .done) x)
     next-is = channels-are (mark by (group by (x .note)) (p .done)) (getD used at 0) (getD latest at nan) (x .detuning) (p .tables (group by (x .note)) (group-note by (x .note) note))
 
     pub used-few : getD used at 0 ≤ i
     used-few = subst (λ (j : ℕ). getD used at 0 ≤ j) (p .reached) (mark-below by (group by (x .note)) (p .done) (getD used at 0) (getD latest at nan) (p .tables (group by (x .note)) (group-note by (x .note) note)))
-
-    pub next-few : numberOfNext by (p .done) x ≤ i
-    next-few = omega (arith, next-is, used-few, grows (getD used at 0) (getD latest at nan) (x .detuning))
 
     abbrev c : ℕ
     c = numberOfNext by (p .done) x
@@ -139,37 +141,50 @@ module _ (by : GroupBy) (all : List Line) (records : List KeyRecord) (latest : L
     differs : (k : ℕ) → eqb (x .key) k ≡ false → k ≡ x .key → ⊥
     differs k h e = not-false h (subst (λ (j : ℕ). T (eqb (x .key) j)) (sym e) (eqb-refl (x .key)))
 
-    placed-next : (d : List Line) → Each (λ (l : Line). Each (Other l) (x ∷ rest)) d → Each (λ (l : Line). getD records (l .key) nobody ≡ recordOf l (find by (l .key) [] all)) d
-        → Each (λ (l : Line). getD (set records (x .key) (recordOf x c)) (l .key) nobody ≡ recordOf l (find by (l .key) [] all)) d
-    placed-next [] f h = tt
-    placed-next (l ∷ d) f h = (
-      getD-set-other records (x .key) (l .key) (recordOf x c) nobody (differs (l .key) (other-sym l x (f .0 .0))) ∙ h .0,
-      placed-next d (f .1) (h .1),
-    )
+    kept-at : (cell k : ℕ) → eqb (x .key) k ≡ false → getD (set cells (x .key) cell) k 0 ≡ getD cells k 0
+    kept-at cell k h = getD-set-other cells (x .key) k cell 0 (differs k h)
+
+    placed-next : (cell : ℕ) (d : List Line) → Each (λ (l : Line). Each (Other l) (x ∷ rest)) d → Each (λ (l : Line). placeOf (getD cells (l .key) 0) ≡ some (placeIn by all l)) d
+        → Each (λ (l : Line). placeOf (getD (set cells (x .key) cell) (l .key) 0) ≡ some (placeIn by all l)) d
+    placed-next cell [] f h = tt
+    placed-next cell (l ∷ d) f h = (ap placeOf (kept-at cell (l .key) (other-sym l x (f .0 .0))) ∙ h .0, placed-next cell d (f .1) (h .1))
+
+    noted-next : (cell : ℕ) (d : List Line) → Each (Other x) d → Each (λ (l : Line). noteOf (getD cells (l .key) 0) ≡ l .note) d → Each (λ (l : Line). noteOf (getD (set cells (x .key) cell) (l .key) 0) ≡ l .note) d
+    noted-next cell [] f h = tt
+    noted-next cell (l ∷ d) f h = (ap noteOf (kept-at cell (l .key) (f .0)) ∙ h .0, noted-next cell d (f .1) (h .1))
 
     -- one key more
-    pass-one : x .key < 256 → (m : ℕ) → m ≡ max n (suc c)
-        → Pass by all (set records (x .key) (recordOf x c)) (set latest at (x .detuning)) (set used at (suc c)) m (i + 1) rest
-    pass-one byte m counts = record {
+    pass-one : x .key < keyCount → (m : ℕ) → m ≡ max n (suc c) → (cell : ℕ) → placeOf cell ≡ some (record { channel = channelOf c; note = x .note })
+        → Pass by all (set cells (x .key) cell) (set latest at (x .detuning)) (set used at (suc c)) m (i + 1) rest
+    pass-one byte m counts cell found = record {
       done = x ∷ p .done;
       reached = omega (arith, p .reached);
       whole = p .whole;
       tables = tables-next;
       ahead = ahead-next rest (p .apart .0) (p .ahead .1);
-      placed = (getD-set-same records (x .key) (recordOf x c) nobody (omega (arith, p .records-long)) ∙ ap (recordOf x) (sym own-find), placed-next (p .done) (p .fresh) (p .placed));
-      out = λ k h. rw (getD-set-other records (x .key) k (recordOf x c) nobody (differs k (h .0))) (p .out k (h .1));
+      placed = (
+        ap placeOf (getD-set-same cells (x .key) cell 0 (omega (arith, p .cells-long))) ∙ found ∙ ap (λ (j : ℕ). some (record { channel = channelOf j; note = x .note })) (sym own-find),
+        placed-next cell (p .done) (p .fresh) (p .placed),
+      );
+      noted = noted-next cell rest (p .apart .0) (p .noted .1);
+      out = λ k h o. ap (λ (z : ℕ). isNote (noteOf z)) (kept-at cell k (h .0)) ∙ p .out k (h .1) (h .0, o);
       counted = p .counted ∙ rw counts (omega arith);
       fresh = (p .apart .0, Each-map (λ l h. h .1) (p .done) (p .fresh));
       apart = p .apart .1;
-      records-long = simp length-set (p .records-long);
+      cells-long = simp length-set (p .cells-long);
       latest-long = simp length-set (p .latest-long);
       used-long = simp length-set (p .used-long);
     }
 
-    -- the same of the code's numbers
-    pub pass-next : x .key < 256 → (m : ℕ) → m ≡ max n (suc c) → (z : ℤ) (v : Float) (r ch slot : ℕ) → z ≡ x .note → v ≡ x .detuning → r ≡ suc c → ch ≡ c → slot ≡ at
-        → Pass by all (set records (x .key) (record { note = z; channel = ch; detuning = x .detuning })) (set latest slot v) (set used slot r) m (i + 1) rest
-    pass-next byte m counts z v r ch slot a f b d e = rw (a, f, b, d, e) (pass-one byte m counts)
+    -- the same of what the code leaves
+    pub pass-next : x .key < keyCount → (r : ℕ) (cells' : List ℕ) (latest' : List Float) (used' : List ℕ) → Placed by (x .key) (x .detuning) r cells latest used cells' latest' used' → (m : ℕ) → m ≡ max n r
+        → Pass by all cells' latest' used' m (i + 1) rest
+    pass-next byte r cells' latest' used' q m counts =
+        let e : noteOf (getD cells (x .key) 0) ≡ x .note = p .noted .0 in
+        let r-is : r ≡ suc c = q .channels-are ∙ ap (λ (z : ℤ). channelsWith (getD used (slotOf (group by z)) 0) (getD latest (slotOf (group by z)) nan) (x .detuning)) e ∙ next-is in
+        let lower : r - 1 ≡ c = omega arith in
+        rw (q .cells-are, q .latest-is, q .used-is, e, r-is)
+        (pass-one byte m (counts ∙ ap (max n) r-is) (q .cell) (q .cell-is ∙ λ j. some (record { channel = channelOf (lower j); note = e j })))
 
 -- ---- the end
 
@@ -179,48 +194,73 @@ module _ (by : GroupBy) (all : List Line) (ok : Accepted all) (ordered : rising 
       subst (λ (w : List Line). find by (l .key) [] w ≡ channel by all (l .key)) ordered
       (find-channel by all ok (l .key) (subst (λ (w : List Line). T (member (l .key) (keys w))) (sym ordered) m))
 
-  channels-seated : (records : List KeyRecord) (l : List Line) → Each (λ (x : Line). T (member (x .key) (keys all))) l
-      → Each (λ (x : Line). seat by all (x .key) ≡ some (channel by all (x .key), x .note)) l
-      → Each (λ (x : Line). getD records (x .key) nobody ≡ recordOf x (find by (x .key) [] all)) l
-      → Each (λ (x : Line). seat by all (x .key) ≡ some (getD records (x .key) nobody .channel, x .note)) l
-  channels-seated records [] m h k = tt
-  channels-seated records (x ∷ l) m h k = (
-    h .0 ∙ ap (λ (c : ℕ). some (c, x .note)) (sym (ap (λ (r : KeyRecord). r .channel) (k .0) ∙ own-channel x (m .0))),
-    channels-seated records l (m .1) (h .1) (k .1),
-  )
+  -- where a key is, of its record
+  module _ (cells : List ℕ) (ds : List Float) (same : length cells ≡ length ds) where
+    abbrev rec : ℕ → KeyRecord
+    rec k = getD (recordsOf cells ds) k nobody
 
-  pub pass-ends : (plan : Plan) (latest : List Float) (used : List ℕ) (i : ℕ) → Pass by all (plan .records) latest used (plan .count) i [] → Seats by all plan
-  pass-ends plan latest used i p =
-      let placed = rw (← p .whole) at (Each-onto (λ (l : Line). getD (plan .records) (l .key) nobody ≡ recordOf l (find by (l .key) [] all)) (p .done) [] (p .placed) tt) in
-      let counted = subst (λ (w : List Line). top (numbers by [] w) ≡ count by all) ordered (one-pass-count by all ok) in
-      record {
-        count-is = omega (arith, p .counted, counted);
-        channel-is = channels-seated (plan .records) all (own-image (λ (l : Line). l .key) all) (seated-lines by all ok) placed;
-        note-is = Each-map (λ l e. ap (λ (r : KeyRecord). r .note) e) all placed;
-        detuning-is = Each-map (λ l e. ap (λ (r : KeyRecord). r .detuning) e) all placed;
-        no-other = λ k h. p .out k (onto-Each (λ (l : Line). eqb (l .key) k ≡ false) (p .done) [] (subst (Each (λ (l : Line). eqb (l .key) k ≡ false)) (p .whole) h));
-        long = p .records-long;
-      }
+    parts : (l : Line) → placeOf (getD cells (l .key) 0) ≡ some (placeIn by all l) → (rec (l .key) .channel ≡ channelOf (find by (l .key) [] all)) × (rec (l .key) .note ≡ l .note)
+    parts l h =
+        let q = place-parts (getD cells (l .key) 0) (placeIn by all l) h in
+        let e = records-at cells ds (l .key) same in
+        (ap (λ (r : KeyRecord). r .channel) e ∙ q .0, ap (λ (r : KeyRecord). r .note) e ∙ q .1)
+
+    channels-seated : count by all ≤ 16 → (l : List Line) → Each (λ (x : Line). T (member (x .key) (keys all))) l
+        → Each (λ (x : Line). channel by all (x .key) < count by all) l
+        → Each (λ (x : Line). seat by all (x .key) ≡ some (channel by all (x .key), x .note)) l
+        → Each (λ (x : Line). placeOf (getD cells (x .key) 0) ≡ some (placeIn by all x)) l
+        → Each (λ (x : Line). seat by all (x .key) ≡ some (rec (x .key) .channel, x .note)) l
+    channels-seated few [] m b h k = tt
+    channels-seated few (x ∷ l) m b h k = (
+      h .0 ∙ ap (λ (c : ℕ). some (c, x .note)) (sym (parts x (k .0) .0 ∙ ap channelOf (own-channel x (m .0)) ∙ mod-eq-of-lt (omega (arith, b .0)))),
+      channels-seated few l (m .1) (b .1) (h .1) (k .1),
+    )
+
+    pub pass-ends : length cells ≡ keyCount → Each (λ (l : Line). getD ds (l .key) nan ≡ l .detuning) all → (latest : List Float) (used : List ℕ) (n i : ℕ) → Pass by all cells latest used n i [] → Seats by all (recordsOf cells ds) n
+    pass-ends long detuned latest used n i p =
+        let placed = rw (← p .whole) at (Each-onto (λ (l : Line). placeOf (getD cells (l .key) 0) ≡ some (placeIn by all l)) (p .done) [] (p .placed) tt) in
+        let counted = subst (λ (w : List Line). top (numbers by [] w) ≡ count by all) ordered (one-pass-count by all ok) in
+        let below = rising-Each (λ (l : Line). channel by all (l .key) < count by all) all (below-count by all ok) in
+        let n-is : n ≡ count by all = omega (arith, p .counted, counted) in
+        record {
+          count-is = n-is;
+          channel-is = λ few. channels-seated (omega (arith, n-is)) all (own-image (λ (l : Line). l .key) all) below (seated-lines by all ok) placed;
+          note-is = Each-map (λ l e. parts l e .1) all placed;
+          detuning-is = Each-map (λ l e. ap (λ (r : KeyRecord). r .detuning) (records-at cells ds (l .key) same) ∙ e) all detuned;
+          no-other = λ k h. is-out k (p .out k (onto-Each (λ (l : Line). eqb (l .key) k ≡ false) (p .done) [] (subst (Each (λ (l : Line). eqb (l .key) k ≡ false)) (p .whole) h)) tt);
+          long = records-long cells ds same ∙ long;
+        }
+      where
+        is-out : (k : ℕ) → isNote (noteOf (getD cells k 0)) ≡ false → isIn (rec k) ≡ false
+        is-out k e = unfold isIn in rw (records-at cells ds k same) e
 
   -- ---- the beginning
 
-  pub pass-begins : (records : List KeyRecord) (latest : List Float) (used : List ℕ) → ((k : ℕ) → isIn (getD records k nobody) ≡ false) → ((k : ℕ) → getD used k 0 ≡ 0)
-      → length records ≡ 256 → length latest ≡ 801 → length used ≡ 801 → Pass by all records latest used 0 0 all
-  pass-begins records latest used out none-used a b c = record {
+  pub pass-begins : (cells : List ℕ) (latest : List Float) (used : List ℕ) → Each (λ (l : Line). noteOf (getD cells (l .key) 0) ≡ l .note) all
+      → ((k : ℕ) → Each (λ (l : Line). eqb (l .key) k ≡ false) all → isNote (noteOf (getD cells k 0)) ≡ false) → ((k : ℕ) → getD used k 0 ≡ 0)
+      → length cells ≡ keyCount → length latest ≡ 801 → length used ≡ 801 → Pass by all cells latest used 0 0 all
+  pass-begins cells latest used noted out none-used a b c = record {
     done = [];
     reached = refl;
     whole = refl;
     tables = λ g h. none-used (slotOf g);
     ahead = Each-all (λ (l : Line). find by (l .key) [] all ≡ find by (l .key) [] all) (λ l. refl) all;
     placed = tt;
-    out = λ k h. out k;
+    noted = noted;
+    out = λ k d h. out k h;
     counted = omega arith;
     fresh = tt;
     apart = distinct-apart all (ok .distinct);
-    records-long = a;
+    cells-long = a;
     latest-long = b;
     used-long = c;
   }
+
+-- what the lines of keys say of their own cells and detunings
+pub own-lines : (cells : List ℕ) (ds : List Float) (ks : List ℕ) → let all = map (lineAt cells ds) ks in
+    Each (λ (l : Line). noteOf (getD cells (l .key) 0) ≡ l .note) all × Each (λ (l : Line). getD ds (l .key) nan ≡ l .detuning) all
+own-lines cells ds [] = (tt, tt)
+own-lines cells ds (k ∷ ks) = let r = own-lines cells ds ks in ((refl, r .0), (refl, r .1))
 
 -- ---- the lines from an index on
 pub each-drop : (P : Line → Type 0) (f : ℕ → Line) (l : List ℕ) (i : ℕ) → Each P (map f l) → Each P (map f (drop i l))

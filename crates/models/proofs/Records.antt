@@ -1,40 +1,31 @@
 -- Records by key: what the scans over them find. Assumes nothing.
-use mathlib.Core.Path.{_≡_, refl, sym, ap, _∙_}
-use mathlib.Core.Bool.{Bool, true, false, _&&_}
-use mathlib.Core.List.{List, [], _∷_, map}
-use mathlib.Core.Option.{none, some}
+use mathlib.Core.Path.{_≡_, refl, ap, _∙_}
+use mathlib.Core.Bool.{Bool, true, false, _&&_, cond}
+use mathlib.Core.List.{List, [], _∷_}
+use mathlib.Core.Option.{Option, none, some}
 use native.Mathlib.Numerals.{add-one}
-use Prim.Native.Nat.{ℕ, zero, suc, _+_, _-_, _<_, _≤_}
+use Prim.Native.Nat.{ℕ, zero, suc, _+_, _-_, _/_, _<_, _≤_}
 use native.Mathlib.Omega.{arith}
 use lib.IntN.{ℤ}
-use lib.Dec.{leb, ltb}
+use lib.Dec.{leb}
+use lib.Ieee.{Float, nan}
 use lib.Ieee.Fits.{and-r}
 use Rattle.arithmetic.specs.Note.{isNote}
-use lib.ListN.{length, getD, drop, length-map, drop-of-length-le}
+use lib.ListN.{length, getD, drop, drop-of-length-le}
 use lib.Seq.{drop-cons}
-use Rattle.models.specs.declared.aot.KeyRecord.{KeyRecord}
+use Rattle.models.specs.Keys.{keyCount}
 use Rattle.models.specs.Lists.{Each}
 use Rattle.models.specs.declared.aot.GroupBy.{GroupBy}
 use Rattle.models.specs.Line.{group, same}
-use Rattle.models.specs.AotModel.{nobody, isIn, keyIn, counts, highest, larger}
+use Rattle.models.specs.AotModel.{KeyRecord, nobody, isIn, recordOf, recordsOf, keyIn, counts, highest, larger, accessAnswer}
+use Rattle.models.specs.Pool.{Place}
+use Rattle.models.specs.JitModel.{place}
+use Rattle.models.specs.Block.{noteOf, channelOf, placeOf}
+use Rattle.models.specs.declared.keys.AccessKeyResult as AccessKeyResult
+use Rattle.models.specs.declared.keys.AccessKeyResult.{AccessKeyResult}
 use Rattle.models.specs.PlanInside.{lower, leastFrom}
 use Rattle.models.proofs.ListLaws.{outcome, passed, failed, T→true, true→T}
 use Rattle.models.proofs.Sweep.{same-eq, same-refl}
-
--- The list of an array of structs stands in what a need is handed at `map` of the struct's parts. `search long-field` finds its length there.
-pub long-field : {X Y : Type 0} (f : X → Y) (l : List X) (n : ℕ) → length (map f l) ≡ n → length l ≡ n
-long-field f l n e = sym (length-map l f) ∙ e
-
--- what stands at a place within a list does not hang on what stands for those beyond
-pub at-any : {A : Type 0} (l : List A) (i : ℕ) (d e : A) → i < length l → getD l i d ≡ getD l i e
-at-any [] i d e h = absurd (let z : ⊥ = omega arith in z)
-at-any (x ∷ l) zero d e h = refl
-at-any (x ∷ l) (suc i) d e h = at-any l i d e (omega arith)
-
-pub at-beyond : {A : Type 0} (l : List A) (i : ℕ) (d : A) → length l ≤ i → getD l i d ≡ d
-at-beyond [] i d h = refl
-at-beyond (x ∷ l) zero d h = absurd (let z : ⊥ = omega arith in z)
-at-beyond (x ∷ l) (suc i) d h = at-beyond l i d (omega arith)
 
 pub each-at : {A : Type 0} (P : A → Type 0) (l : List A) (d : A) → ((i : ℕ) → i < length l → P (getD l i d)) → Each P l
 each-at P [] d h = tt
@@ -45,15 +36,43 @@ at-each P [] d h i p = absurd (let z : ⊥ = omega arith in z)
 at-each P (x ∷ l) d h zero p = h .0
 at-each P (x ∷ l) d h (suc i) p = at-each P l d (h .1) i (omega arith)
 
--- ---- a lookup
-module _ (rs : List KeyRecord) (k : ℕ) (d : KeyRecord) (h : k < length rs) where
-  pub key-found : isIn (getD rs k d) ≡ true → some (getD rs k d .channel, getD rs k d .note) ≡ keyIn rs k
-  unfolding keyIn
-  key-found e = rw (at-any rs k nobody d h, e)
+-- ---- records of cells and detunings
 
-  pub key-lost : isIn (getD rs k d) ≡ false → none ≡ keyIn rs k
-  unfolding keyIn
-  key-lost e = rw (at-any rs k nobody d h, e)
+pub records-at : (cells : List ℕ) (ds : List Float) (k : ℕ) → length cells ≡ length ds → getD (recordsOf cells ds) k nobody ≡ recordOf (getD cells k 0) (getD ds k nan)
+unfolding recordsOf
+records-at [] [] k e = refl
+records-at [] (d ∷ ds) k e = absurd (let z : ⊥ = omega arith in z)
+records-at (c ∷ cells) [] k e = absurd (let z : ⊥ = omega arith in z)
+records-at (c ∷ cells) (d ∷ ds) zero e = refl
+records-at (c ∷ cells) (d ∷ ds) (suc k) e = records-at cells ds k (omega arith)
+
+pub records-long : (cells : List ℕ) (ds : List Float) → length cells ≡ length ds → length (recordsOf cells ds) ≡ length cells
+unfolding recordsOf
+records-long [] ds e = refl
+records-long (c ∷ cells) [] e = absurd (let z : ⊥ = omega arith in z)
+records-long (c ∷ cells) (d ∷ ds) e = ap suc (records-long cells ds (omega arith))
+
+-- ---- a lookup
+
+abbrev pairOf : Option Place → Option (ℕ × ℤ)
+pairOf (some p) = some (p .channel, p .note)
+pairOf none = none
+
+pair-of-place : (cell : ℕ) (d : Float) → pairOf (placeOf cell) ≡ cond (isIn (recordOf cell d)) (some (channelOf (cell / 1024), noteOf cell)) none
+unfolding placeOf isIn
+pair-of-place cell d = go (isNote (noteOf cell))
+  where
+    go : (b : Bool) → pairOf (cond b (some (record { channel = channelOf (cell / 1024); note = noteOf cell })) none) ≡ cond b (some (channelOf (cell / 1024), noteOf cell)) none
+    go true = refl
+    go false = refl
+
+pub key-looked-up : (cells : List ℕ) (ds : List Float) (k : ℕ) → length cells ≡ length ds → (r : AccessKeyResult) → place r ≡ placeOf (getD cells k 0) → accessAnswer r ≡ keyIn (recordsOf cells ds) k
+unfolding keyIn place
+key-looked-up cells ds k l r e = answer r ∙ ap pairOf e ∙ pair-of-place (getD cells k 0) (getD ds k nan) ∙ rw (records-at cells ds k l)
+  where
+    answer : (r : AccessKeyResult) → accessAnswer r ≡ pairOf (place r)
+    answer (AccessKeyResult.the-variants.Found c n) = unfold place in refl
+    answer AccessKeyResult.the-variants.NotFound = unfold place in refl
 
 -- ---- the largest detuning, from an index on
 module _ (by : GroupBy) (c : ℕ) (g : ℤ) (rs : List KeyRecord) (i : ℕ) (d : KeyRecord) (h : 0 < i) (l : i ≤ length rs) where
@@ -70,9 +89,9 @@ module _ (by : GroupBy) (c : ℕ) (g : ℤ) (rs : List KeyRecord) (i : ℕ) (d :
   unfolding highest
   highest-no e = rw (before-here, e)
 
-pub highest-none : (by : GroupBy) (c : ℕ) (g : ℤ) (rs : List KeyRecord) → length rs ≤ 256 → none ≡ highest by c g (drop 256 rs)
+pub highest-none : (by : GroupBy) (c : ℕ) (g : ℤ) (rs : List KeyRecord) → length rs ≤ keyCount → none ≡ highest by c g (drop keyCount rs)
 unfolding highest
-highest-none by c g rs h = rw (drop-of-length-le rs {i = 256} h)
+highest-none by c g rs h = rw (drop-of-length-le rs {i = keyCount} h)
 
 and-no : (a : Bool) → (a && false) ≡ false
 and-no true = refl
@@ -98,7 +117,7 @@ module _ (by : GroupBy) (c : ℕ) (g : ℤ) (r : KeyRecord) where
 -- a record in the plan has a note
 pub in-note : (t : Bool) (r : KeyRecord) → (t && isIn r) ≡ true → isNote (r .note) ≡ true
 unfolding isIn
-in-note t r e = T→true (isNote (r .note)) (and-r (ltb (r .channel) 16) (isNote (r .note)) (and-r t (ltb (r .channel) 16 && isNote (r .note)) (true→T e)))
+in-note t r e = T→true (isNote (r .note)) (and-r t (isNote (r .note)) (true→T e))
 
 -- ---- the least group, from an index on
 module _ (by : GroupBy) (c : ℕ) (from least : ℤ) (rs : List KeyRecord) (i : ℕ) where

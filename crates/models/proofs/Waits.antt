@@ -55,11 +55,11 @@ keys-snoc [] x = refl
 keys-snoc (y ∷ lines) x = ap (λ (l : List ℕ). y .key ∷ l) (keys-snoc lines x)
 
 -- ---- accepted lists
-pub accepted-snoc : (lines : List Line) (x : Line) → Accepted lines → member (x .key) (keys lines) ≡ false → x .key < 256 → isNote (x .note) ≡ true → Positive x → T (fits binary64 (x .detuning))
+pub accepted-snoc : (lines : List Line) (x : Line) → Accepted lines → member (x .key) (keys lines) ≡ false → x .key < keyCount → isNote (x .note) ≡ true → Positive x → T (fits binary64 (x .detuning))
     → Accepted (lines ++ (x ∷ []))
 accepted-snoc lines x ok new b n p f = record {
   distinct = rw (keys-snoc lines x) (distinct-snoc (keys lines) (x .key) (ok .distinct) new);
-  bytes = Each-snoc (λ (l : Line). l .key < 256) lines x (ok .bytes) b;
+  bytes = Each-snoc (λ (l : Line). l .key < keyCount) lines x (ok .bytes) b;
   notes = Each-snoc (λ (l : Line). isNote (l .note) ≡ true) lines x (ok .notes) n;
   detunings = Each-snoc Positive lines x (ok .detunings) p;
   fitting = Each-snoc (λ (l : Line). T (fits binary64 (l .detuning))) lines x (ok .fitting) f;
@@ -69,10 +69,10 @@ pub accepted-nil : Accepted []
 accepted-nil = record { distinct = tt; bytes = tt; notes = tt; detunings = tt; fitting = tt }
 
 -- "Lists longer than the keys there are": among 257 lines some key comes twice
-pub accepted-few : (lines : List Line) → Accepted lines → length lines ≤ 256
+pub accepted-few : (lines : List Line) → Accepted lines → length lines ≤ keyCount
 accepted-few lines ok =
-    let h : length (keys lines) ≤ length (below 256) = pigeonhole (keys lines) (below 256) (ok .distinct) (λ k m. below-member 256 k (at-member (λ (j : ℕ). j < 256) (keys lines) (Each-image (λ (j : ℕ). j < 256) (λ (l : Line). l .key) lines (ok .bytes)) k m)) in
-    omega (arith, h, below-length 256, length-map lines (λ (l : Line). l .key))
+    let h : length (keys lines) ≤ length (below keyCount) = pigeonhole (keys lines) (below keyCount) (ok .distinct) (λ k m. below-member keyCount k (at-member (λ (j : ℕ). j < keyCount) (keys lines) (Each-image (λ (j : ℕ). j < keyCount) (λ (l : Line). l .key) lines (ok .bytes)) k m)) in
+    omega (arith, h, below-length keyCount, length-map lines (λ (l : Line). l .key))
 
 -- ---- a key put in
 module _ (cells : List ℕ) (ds : List Float) where

@@ -2,7 +2,7 @@
 use mathlib.Core.Bool.{Bool, true, false, cond, _&&_}
 use mathlib.Core.List.{List, [], _∷_}
 use mathlib.Core.Option.{Option, none, some}
-use Prim.Native.Nat.{ℕ, zero, suc}
+use Prim.Native.Nat.{ℕ, zero, suc, _/_}
 use lib.Dec.{leb, ltb}
 use lib.IntN.{ℤ, pos, _+ℤ_}
 use lib.Signed.{leZ}
@@ -12,7 +12,6 @@ use Rattle.arithmetic.specs.Outcome.{Outcome, value}
 use Rattle.arithmetic.specs.Note.{isNote, lowestNote}
 use Rattle.models.specs.declared.aot.GroupBy.{GroupBy}
 use Rattle.models.specs.declared.aot.GroupBy.the-variants.{Note, NoteLetter, Channel}
-use Rattle.models.specs.declared.aot.KeyRecord.{KeyRecord}
 use Rattle.models.specs.declared.aot.AotTuningModel.{AotTuningModel}
 use Rattle.models.specs.declared.keys.AccessKeyResult as A
 use Rattle.models.specs.declared.aot.PlanAnswer as T
@@ -21,6 +20,7 @@ use Rattle.models.specs.declared.aot.NextAnswer as N
 use Rattle.models.specs.declared.aot.SetTuning.{SetTuning}
 use Rattle.models.specs.declared.aot.Opened.{Opened}
 use Rattle.models.specs.ChannelList.{entries, listRule, present, channelsAnswer}
+use Rattle.models.specs.Block.{noteOf, channelOf}
 use Rattle.models.specs.Line.{Line, group, same}
 use Rattle.models.specs.Walk.{count, seat, entry}
 use Rattle.models.specs.Placing.{Demand3}
@@ -113,13 +113,27 @@ nextRule m c from = firstEntry from (m .detunings c) (groups (m .groupBy))
 
 -- ---- how a model's fields are read
 
--- a record is of a key in the plan where its channel is one of the sixteen and its note is a note
+-- What a model has of a key. A key that is not in the plan has no note.
+pub record KeyRecord : Type 0 where
+  pub note : ℤ
+  pub channel : ℕ
+  pub detuning : Float
+
 unfoldable pub isIn : KeyRecord → Bool
-isIn r = ltb (r .channel) 16 && isNote (r .note)
+isIn r = isNote (r .note)
+
+-- of the key's cell, which is 0 or note + 301 + 1024 * channel, and its detuning
+abbrev pub recordOf : ℕ → Float → KeyRecord
+recordOf cell d = record { note = noteOf cell; channel = channelOf (cell / 1024); detuning = d }
+
+unfoldable pub recordsOf : List ℕ → List Float → List KeyRecord
+recordsOf [] ds = []
+recordsOf (cell ∷ cells) [] = []
+recordsOf (cell ∷ cells) (d ∷ ds) = recordOf cell d ∷ recordsOf cells ds
 
 -- what stands for a key beyond the records
 abbrev pub nobody : KeyRecord
-nobody = record { note = pos 0; channel = 255; detuning = nan }
+nobody = recordOf 0 nan
 
 unfoldable pub keyIn : List KeyRecord → ℕ → Option (ℕ × ℤ)
 keyIn rs k = let r = getD rs k nobody in cond (isIn r) (some (r .channel, r .note)) none
@@ -138,7 +152,7 @@ highest by c g [] = none
 highest by c g (r ∷ rs) = let h = highest by c g rs in cond (counts by c g r) (larger (r .detuning) h) h
 
 unfoldable pub detuningIn : AotTuningModel → ℕ → ℤ → Option Float
-detuningIn s c g = cond (ltb c (s .«num_channels»)) (highest (s .«group_by») c g (s .records)) none
+detuningIn s c g = cond (ltb c (s .«num_channels»)) (highest (s .«group_by») c g (recordsOf (s .records) (s .detunings))) none
 
 abbrev pub modelOf : AotTuningModel → Model
 modelOf s = record {
@@ -146,7 +160,7 @@ modelOf s = record {
   groupBy = s .«group_by»;
   tuned = s .tuned;
   numChannels = s .«num_channels»;
-  keys = keyIn (s .records);
+  keys = keyIn (recordsOf (s .records) (s .detunings));
   detunings = detuningIn s;
 }
 

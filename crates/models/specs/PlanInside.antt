@@ -3,24 +3,22 @@ use mathlib.Core.Path.{_≡_}
 use mathlib.Core.Bool.{true, false, cond, _&&_}
 use mathlib.Core.List.{List, [], _∷_, _++_, map}
 use mathlib.Core.Option.{some}
-use Prim.Native.Nat.{ℕ, zero, suc, _+_, _-_, _<_}
+use Prim.Native.Nat.{ℕ, zero, suc, _+_, _-_, _<_, _≤_}
 use lib.Dec.{T, eqb, leb}
 use lib.IntN.{ℤ, pos, negsuc}
 use lib.Signed.{leZ, ltZ}
-use lib.ListN.{length, getD, take, drop}
+use lib.ListN.{length, getD, take, drop, set}
 use lib.Ieee.{Float, nan, binary64, fits, le, lt}
 use lib.Ieee.Positive.{positive}
 use Rattle.arithmetic.specs.Outcome.{Outcome, value, refused}
 use Rattle.arithmetic.specs.Note.{isNote}
 use Rattle.models.specs.declared.aot.GroupBy.{GroupBy}
-use Rattle.models.specs.declared.aot.KeyRecord.{KeyRecord}
-use Rattle.models.specs.declared.aot.Plan.{Plan}
 use Rattle.models.specs.Lists.{Each, member, Distinct}
 use Rattle.models.specs.Line.{Line, joins, rising, group}
 use Rattle.models.specs.Walk.{count, seat}
 use Rattle.models.specs.Pool.{isHeld}
-use Rattle.models.specs.Block.{noteOf, placeOf}
-use Rattle.models.specs.AotModel.{nobody, isIn}
+use Rattle.models.specs.Block.{noteOf, channelOf, placeOf}
+use Rattle.models.specs.AotModel.{KeyRecord, nobody, isIn}
 use Rattle.models.specs.PlanLists.{keyCount, keys, lineByLine}
 
 -- What a list is that meets no refusal: its keys are distinct bytes, its notes are notes, its detunings are f64s, finite and above zero.
@@ -102,14 +100,34 @@ unfoldable pub channelsWith : ℕ → Float → Float → ℕ
 channelsWith zero before d = 1
 channelsWith (suc n) before d = cond (joins before d) (suc n) (suc (suc n))
 
--- the records have each key of the list where the walk seats it, and no other key; the count is the walk's
-pub record Seats (by : GroupBy) (lines : List Line) (p : Plan) : Type 0 where
-  pub count-is : p .count ≡ count by lines
-  pub channel-is : Each (λ (l : Line). seat by lines (l .key) ≡ some (getD (p .records) (l .key) nobody .channel, l .note)) lines
-  pub note-is : Each (λ (l : Line). getD (p .records) (l .key) nobody .note ≡ l .note) lines
-  pub detuning-is : Each (λ (l : Line). getD (p .records) (l .key) nobody .detuning ≡ l .detuning) lines
-  pub no-other : (k : ℕ) → Each (λ (l : Line). eqb (l .key) k ≡ false) lines → isIn (getD (p .records) k nobody) ≡ false
-  pub long : length (p .records) ≡ keyCount
+-- the first n keys are lines that a pass takes: accepted and in order; no other key has a note
+pub record Ready (order cells : List ℕ) (ds : List Float) (n : ℕ) : Type 0 where
+  pub ok : Accepted (linesOf order cells ds n)
+  pub ordered : rising (linesOf order cells ds n) ≡ linesOf order cells ds n
+  pub no-other : (k : ℕ) → Each (λ (l : Line). eqb (l .key) k ≡ false) (linesOf order cells ds n) → isNote (noteOf (getD cells k 0)) ≡ false
+  pub few : n ≤ keyCount
+  pub order-long : length order ≡ keyCount
+  pub cells-long : length cells ≡ keyCount
+  pub detunings-long : length ds ≡ keyCount
+
+-- What a key's own pass leaves of the tables and the cells: the group's channels and last detuning, and the key's cell with its channel, which is
+-- read by its remainder by 16, as every channel of a cell is.
+pub record Placed (by : GroupBy) (key : ℕ) (d : Float) (r : ℕ) (cells : List ℕ) (latest : List Float) (used : List ℕ) (cells' : List ℕ) (latest' : List Float) (used' : List ℕ) : Type 0 where
+  pub channels-are : r ≡ channelsWith (getD used (slotOf (group by (noteOf (getD cells key 0)))) 0) (getD latest (slotOf (group by (noteOf (getD cells key 0)))) nan) d
+  pub used-is : used' ≡ set used (slotOf (group by (noteOf (getD cells key 0)))) r
+  pub latest-is : latest' ≡ set latest (slotOf (group by (noteOf (getD cells key 0)))) d
+  pub cell : ℕ
+  pub cells-are : cells' ≡ set cells key cell
+  pub cell-is : placeOf cell ≡ some (record { channel = channelOf (r - 1); note = noteOf (getD cells key 0) })
+
+-- the records have each key of the list where the walk seats it, if the channels are no more than sixteen, and no other key; the count is the walk's
+pub record Seats (by : GroupBy) (lines : List Line) (rs : List KeyRecord) (n : ℕ) : Type 0 where
+  pub count-is : n ≡ count by lines
+  pub channel-is : n ≤ 16 → Each (λ (l : Line). seat by lines (l .key) ≡ some (getD rs (l .key) nobody .channel, l .note)) lines
+  pub note-is : Each (λ (l : Line). getD rs (l .key) nobody .note ≡ l .note) lines
+  pub detuning-is : Each (λ (l : Line). getD rs (l .key) nobody .detuning ≡ l .detuning) lines
+  pub no-other : (k : ℕ) → Each (λ (l : Line). eqb (l .key) k ≡ false) lines → isIn (getD rs k nobody) ≡ false
+  pub long : length rs ≡ keyCount
 
 -- ---- the scan
 

@@ -2,24 +2,28 @@
 
 ghost use mathlib.Core.Path.{_≡_};
 ghost use mathlib.Core.Bool.{true, _&&_};
-ghost use Prim.Native.Nat.{_<_, _≤_};
+ghost use mathlib.Core.List.{List};
+ghost use Prim.Native.Nat.{_<_};
 ghost use lib.Dec.{leb};
 ghost use lib.IntN.{pos};
-ghost use lib.ListN.{length};
-ghost use mathlib.Core.List.{List};
+ghost use lib.Ieee.{Float};
+ghost use lib.ListN.{getD, length};
 ghost use Rattle.arithmetic.specs.Outcome.{value, refused};
 ghost use Rattle.arithmetic.specs.Note.{isNote};
+ghost use Rattle.models.specs.Block.{noteOf};
 ghost use Rattle.models.specs.ChannelList.{channelsAnswer, entries};
-ghost use Rattle.models.specs.Line.{Line, group, joins, rising};
+ghost use Rattle.models.specs.Line.{Line, group, joins};
 ghost use Rattle.models.specs.PlanLists.{keyCount, noteLists, pitchLists};
-ghost use Rattle.models.specs.AotModel.{Smallest, accessAnswer, detuningAnswer, empty, highest, isIn, larger, modelOf, nextAnswer, nextRule, openRule, openedOf, planned, setTuning, setTuningOfPitches, outcomeOf};
-ghost use Rattle.models.specs.PlanInside.{Accepted, Seats, channelsWith, leastFrom, linesOf, lower, slotOf};
+ghost use Rattle.models.specs.AotModel.{Smallest, accessAnswer, detuningAnswer, empty, highest, isIn, larger, modelOf, nextAnswer, nextRule, openRule, openedOf, planned, recordOf, recordsOf, setTuning, setTuningOfPitches, outcomeOf};
+ghost use Rattle.models.specs.PlanInside.{Accepted, Placed, Ready, Seats, channelsWith, leastFrom, linesOf, lower, slotOf};
 use crate::channels::ChannelList;
 use crate::channels::ChannelsAnswer;
 use crate::channels::present;
 use crate::keys::AccessKeyResult;
 use crate::keys::KEYS;
 use crate::keys::note_of;
+use crate::keys::place_of;
+use crate::keys::record_of;
 use crate::waiting::ACCEPTED;
 use crate::waiting::note_lists;
 use crate::waiting::pitch_lists;
@@ -59,25 +63,17 @@ pub enum NextAnswer {
 }
 
 // MIDI has so many channels.
-const MOST_CHANNELS: u8 = 16;
-
-// The channel of a key that is not in the plan.
-const NO_CHANNEL: u8 = 255;
+const MOST_CHANNELS: u16 = 16;
 
 // There are so many notes, and no more groups of any kind.
 const GROUPS: usize = 801;
 
-// A key of a plan.
-pub struct KeyRecord {
-    note: i32,
-    channel: u8,
-    detuning: f64,
-}
-
 // A model of tunings that are planned.
 pub struct AotTuningModel {
+    // By key: its channel and its note in one number, 0 for a key that is not in the plan.
+    records: [u16; KEYS],
     // By key.
-    records: [KeyRecord; KEYS],
+    detunings: [f64; KEYS],
     channels: ChannelList,
     group_by: GroupBy,
     num_channels: u8,
@@ -115,11 +111,8 @@ impl AotTuningModel {
     {
         let num_channels = channels.len();
         AotTuningModel {
-            records: [KeyRecord {
-                note: 0,
-                channel: NO_CHANNEL,
-                detuning: 1.0,
-            }; KEYS],
+            records: [0; KEYS],
+            detunings: [0.0; KEYS],
             channels: channels,
             group_by: group_by,
             num_channels: num_channels,
@@ -133,16 +126,23 @@ impl AotTuningModel {
         ensures { λ r. ⌜ Smallest (modelOf self) (noteLists (now (keys .entry)) (now (notes .entry)) (now (detunings .entry))) (outcomeOf r) ⌝ }
     {
         let mut order = [0u16; KEYS];
-        let mut cells = [0u16; KEYS];
+        let mut records = [0u16; KEYS];
         let mut by_key = [0.0; KEYS];
-        let refusal = note_lists(keys, notes, detunings, &mut order, &mut cells, &mut by_key);
+        let refusal = note_lists(
+            keys,
+            notes,
+            detunings,
+            &mut order,
+            &mut records,
+            &mut by_key,
+        );
         if refusal != ACCEPTED {
             return self.refused(refusal);
         }
         let n = keys.len();
         let by = self.group_by;
-        let plan = place_keys(&order, n, &cells, &by_key, by);
-        self.with_plan(plan)
+        let count = place_keys(&mut records, &order, n, &by_key, by);
+        self.with_plan(count, records, by_key)
     }
 
     // Plans keys with their pitches in Hz: each has the nearest note. Refuses 12, then line by line 1, 5.
@@ -151,31 +151,25 @@ impl AotTuningModel {
         ensures { λ r. ⌜ Smallest (modelOf self) (pitchLists (now (keys .entry)) (now (pitches .entry))) (outcomeOf r) ⌝ }
     {
         let mut order = [0u16; KEYS];
-        let mut cells = [0u16; KEYS];
+        let mut records = [0u16; KEYS];
         let mut by_key = [0.0; KEYS];
-        let refusal = pitch_lists(keys, pitches, &mut order, &mut cells, &mut by_key);
+        let refusal = pitch_lists(keys, pitches, &mut order, &mut records, &mut by_key);
         if refusal != ACCEPTED {
             return self.refused(refusal);
         }
         let n = keys.len();
         let by = self.group_by;
-        let plan = place_keys(&order, n, &cells, &by_key, by);
-        self.with_plan(plan)
+        let count = place_keys(&mut records, &order, n, &by_key, by);
+        self.with_plan(count, records, by_key)
     }
 
     // The channel and the note of a key of the plan.
     pub fn access_key(self, key: u8) -> AccessKeyResult
         ensures { λ r. ⌜ accessAnswer r ≡ modelOf self .keys key ⌝ }
     {
+        let records = self.records;
         let at = key as usize;
-        let record = self.records[at];
-        if record.is_planned() {
-            return AccessKeyResult::Found {
-                channel: record.channel,
-                found_note: record.note,
-            };
-        }
-        AccessKeyResult::NotFound
+        place_of(records[at])
     }
 
     // How many channels the plan uses, and without a plan how many there are.
@@ -215,8 +209,9 @@ impl AotTuningModel {
             return DetuningAnswer::NoEntry;
         }
         let records = self.records;
+        let detunings = self.detunings;
         let by = self.group_by;
-        highest(records, by, channel, group)
+        highest(&records, &detunings, by, channel, group)
     }
 
     // The first of a channel's detunings whose group is `from` or higher: they are listed by rising group.
@@ -225,7 +220,7 @@ impl AotTuningModel {
     {
         let records = self.records;
         let by = self.group_by;
-        let group = least_group(records, by, channel, from);
+        let group = least_group(&records, by, channel, from);
         match self.detuning(channel, group) {
             DetuningAnswer::Detuning(detuning) => NextAnswer::Entry(group, detuning),
             DetuningAnswer::NoEntry => NextAnswer::NoEntry,
@@ -243,12 +238,11 @@ impl AotTuningModel {
     }
 
     // The model with a plan, if there are channels enough.
-    fn with_plan(self, plan: Plan) -> SetTuning
-        ensures { λ r. ⌜ ((lines : List Line) → Accepted lines → Seats (self .«group_by») lines plan → outcomeOf r ≡ planned (modelOf self) (value lines)) ⌝ }
+    fn with_plan(self, count: u16, records: [u16; KEYS], detunings: [f64; KEYS]) -> SetTuning
+        ensures { λ r. ⌜ ((lines : List Line) → Accepted lines → Seats (self .«group_by») lines (recordsOf records detunings) count → outcomeOf r ≡ planned (modelOf self) (value lines)) ⌝ }
     {
         let by = self.group_by;
         let channels = self.channels;
-        let count = plan.count;
         let present = channels.len() as u16;
         if present < count {
             return SetTuning {
@@ -256,11 +250,11 @@ impl AotTuningModel {
                 answer: PlanAnswer::Untuned(count),
             };
         }
-        let records = plan.records;
         let num_channels = count as u8;
         SetTuning {
             model: AotTuningModel {
                 records: records,
+                detunings: detunings,
                 channels: channels,
                 group_by: by,
                 num_channels: num_channels,
@@ -271,20 +265,11 @@ impl AotTuningModel {
     }
 }
 
-impl KeyRecord {
-    // Whether the key is in the plan.
-    fn is_planned(self) -> bool
-        ensures { λ r. ⌜ r ≡ isIn self ⌝ }
-    {
-        self.channel < MOST_CHANNELS && is_note(self.note)
-    }
-
-    // Whether the key is in the plan on a channel or one before it.
-    fn is_up_to(self, channel: u8) -> bool
-        ensures { λ r. ⌜ r ≡ (leb (self .channel) channel && isIn self) ⌝ }
-    {
-        self.channel <= channel && self.is_planned()
-    }
+// Whether a key is in the plan on a channel or one before it, by its record.
+fn is_up_to(cell: u16, channel: u8) -> bool
+    ensures { λ r. ⌜ ((d : Float) → r ≡ (leb (recordOf cell d .channel) channel && isIn (recordOf cell d))) ⌝ }
+{
+    (cell / 1024 % 16) as u8 <= channel && is_note(note_of(cell))
 }
 
 // The number of a note's group.
@@ -341,52 +326,52 @@ fn with_key(used: u16, before: f64, detuning: f64) -> Run
     }
 }
 
-// The keys on their channels, by key, and how many channels that takes.
-struct Plan {
-    records: [KeyRecord; KEYS],
-    count: u16,
-}
-
-// One pass over the keys in order. Each group's last detuning and the channels that it uses so far tell a key's channel.
-fn place_keys(order: &[u16], n: usize, cells: &[u16], detunings: &[f64], by: GroupBy) -> Plan
-    requires { ⌜ (length (now order) ≡ keyCount) × (length (now cells) ≡ keyCount) × (length (now detunings) ≡ keyCount) × (n ≤ keyCount)
-        × Accepted (linesOf (now order) (now cells) (now detunings) n)
-        × (rising (linesOf (now order) (now cells) (now detunings) n) ≡ linesOf (now order) (now cells) (now detunings) n) ⌝ }
-    ensures { λ r. ⌜ Seats by (linesOf (now (order .entry)) (now (cells .entry)) (now (detunings .entry)) n) r ⌝ }
+// One pass over the keys in order, each to its channel. Answers how many channels that takes.
+fn place_keys(records: &mut [u16], order: &[u16], n: usize, detunings: &[f64], by: GroupBy) -> u16
+    requires { ⌜ Ready (now order) (now records) (now detunings) n ⌝ }
+    ensures { λ r. ⌜ Seats by (linesOf (now (order .entry)) (now (records .entry)) (now (detunings .entry)) n)
+        (recordsOf (now (records .exit)) (now (detunings .entry))) r ⌝ }
 {
-    let mut records = [KeyRecord {
-        note: 0,
-        channel: NO_CHANNEL,
-        detuning: 1.0,
-    }; KEYS];
-    let mut latest = [1.0; GROUPS];
+    let mut latest = [0.0; GROUPS];
     let mut used = [0u16; GROUPS];
     let mut count: u16 = 0;
     let mut i: usize = 0;
     while i < n {
         let key = order[i] as usize;
-        let note = note_of(cells[key]);
         let detuning = detunings[key];
-        let at = slot(group_of(by, note));
-        let run = with_key(used[at], latest[at], detuning);
-        let channels = run.used;
-        used[at] = channels;
-        latest[at] = run.latest;
-        let channel = (channels - 1) as u8;
-        records[key] = KeyRecord {
-            note: note,
-            channel: channel,
-            detuning: detuning,
-        };
+        let channels = place_key(records, &mut latest, &mut used, key, detuning, by);
         if count < channels {
             count = channels;
         }
         i += 1;
     }
-    Plan {
-        records: records,
-        count: count,
-    }
+    count
+}
+
+// A key goes to its channel. Its group's last detuning and the channels that the group uses so far tell which; how many it then uses is the answer.
+fn place_key(
+    records: &mut [u16],
+    latest: &mut [f64],
+    used: &mut [u16],
+    key: usize,
+    detuning: f64,
+    by: GroupBy,
+) -> u16
+    requires { ⌜ (length (now records) ≡ keyCount) × (length (now latest) ≡ 801) × (length (now used) ≡ 801) × (key < keyCount)
+        × (isNote (noteOf (getD (now records) key 0)) ≡ true) × (getD (now used) (slotOf (group by (noteOf (getD (now records) key 0)))) 0 < 65535) ⌝ }
+    ensures { λ r. ⌜ Placed by key detuning r
+        (now (records .entry)) (now (latest .entry)) (now (used .entry)) (now (records .exit)) (now (latest .exit)) (now (used .exit)) ⌝ }
+{
+    let note = note_of(records[key]);
+    let at = slot(group_of(by, note));
+    let run = with_key(used[at], latest[at], detuning);
+    let channels = run.used;
+    used[at] = channels;
+    latest[at] = run.latest;
+    // A plan of more than sixteen channels is untuned.
+    let channel = ((channels - 1) % MOST_CHANNELS) as u8;
+    records[key] = record_of(note, channel);
+    channels
 }
 
 // A group's place in a table of all groups.
@@ -414,17 +399,24 @@ fn larger(detuning: f64, other: DetuningAnswer) -> DetuningAnswer
 }
 
 // The largest detuning of a group's keys up to a channel. The keys of a group come to their channels by rising detuning, so it is the one that came last.
-fn highest(records: [KeyRecord; KEYS], by: GroupBy, channel: u8, group: i32) -> DetuningAnswer
-    ensures { λ r. ⌜ detuningAnswer r ≡ highest by channel group records ⌝ }
+fn highest(
+    records: &[u16],
+    detunings: &[f64],
+    by: GroupBy,
+    channel: u8,
+    group: i32,
+) -> DetuningAnswer
+    requires { ⌜ (length (now records) ≡ keyCount) × (length (now detunings) ≡ keyCount) ⌝ }
+    ensures { λ r. ⌜ detuningAnswer r ≡ highest by channel group (recordsOf (now (records .entry)) (now (detunings .entry))) ⌝ }
 {
     let mut best = DetuningAnswer::NoEntry;
     let mut i: usize = KEYS;
     while 0 < i {
         i -= 1;
-        let record = records[i];
-        if record.is_up_to(channel) {
-            if group_of(by, record.note) == group {
-                best = larger(record.detuning, best);
+        let cell = records[i];
+        if is_up_to(cell, channel) {
+            if group_of(by, note_of(cell)) == group {
+                best = larger(detunings[i], best);
             }
         }
     }
@@ -432,27 +424,28 @@ fn highest(records: [KeyRecord; KEYS], by: GroupBy, channel: u8, group: i32) -> 
 }
 
 // The least group, not below `from`, of a key up to a channel; the number above all groups if there is none.
-fn least_group(records: [KeyRecord; KEYS], by: GroupBy, channel: u8, from: i32) -> i32
-    ensures { λ r. ⌜ r ≡ leastFrom by channel from (pos 501) records ⌝ }
+fn least_group(records: &[u16], by: GroupBy, channel: u8, from: i32) -> i32
+    requires { ⌜ length (now records) ≡ keyCount ⌝ }
+    ensures { λ r. ⌜ ((ds : List Float) → length ds ≡ keyCount → r ≡ leastFrom by channel from (pos 501) (recordsOf (now (records .entry)) ds)) ⌝ }
 {
     let mut least = HIGHEST_NOTE + 1;
     let mut i: usize = 0;
     while i < KEYS {
-        let record = records[i];
-        least = lower(record, by, channel, from, least);
+        let cell = records[i];
+        least = lower(cell, by, channel, from, least);
         i += 1;
     }
     least
 }
 
 // The record's group where it is up to a channel, not below `from` and lower than the least so far.
-fn lower(record: KeyRecord, by: GroupBy, channel: u8, from: i32, least: i32) -> i32
-    ensures { λ r. ⌜ r ≡ lower by channel from least «record» ⌝ }
+fn lower(cell: u16, by: GroupBy, channel: u8, from: i32, least: i32) -> i32
+    ensures { λ r. ⌜ ((d : Float) → r ≡ lower by channel from least (recordOf cell d)) ⌝ }
 {
-    if !record.is_up_to(channel) {
+    if !is_up_to(cell, channel) {
         return least;
     }
-    let group = group_of(by, record.note);
+    let group = group_of(by, note_of(cell));
     if group < from {
         return least;
     }

@@ -1,89 +1,123 @@
 -- `models::aot::highest` meets its contract. The loop's invariant: what was found is the largest of the records from `i` on. Assumes nothing.
 use mathlib.Core.Path.{_≡_, sym, ap, _∙_}
-use mathlib.Core.Bool.{Bool, true, false, _&&_}
+use mathlib.Core.Bool.{true, false, _&&_}
 use mathlib.Core.List.{List}
 use Prim.Native.Nat.{ℕ, _≤_, _-_}
 use native.Mathlib.Omega.{arith}
-use borrow.Author.Needs.{needs}
 use lib.Dec.{leb}
-use lib.IntN.{ℤ, pos}
-use lib.Ieee.{nan}
+use lib.IntN.{ℤ}
+use lib.Ieee.{Float, nan}
 use lib.ListN.{length, getD, drop}
 use mir.Syntax.{w32}
 use mir.Val.{SFits, toZ, ofZ}
 use mir.Facts.{toZ-ofZ}
-use Rattle.models.specs.declared.aot.KeyRecord.{KeyRecord}
+use Rattle.arithmetic.specs.Note.{isNote}
 use Rattle.arithmetic.proofs.Notes.{note-fits}
 use Rattle.models.specs.declared.aot.GroupBy.{GroupBy}
 use Rattle.models.specs.Line.{group}
-use Rattle.models.specs.AotModel.{counts, detuningAnswer, highest, isIn, larger}
-use Rattle.arithmetic.specs.Note.{isNote}
+use Rattle.models.specs.Block.{noteOf}
+use Rattle.models.specs.PlanLists.{keyCount}
+use Rattle.models.specs.AotModel.{KeyRecord, counts, detuningAnswer, highest, isIn, larger, nobody, recordOf, recordsOf}
 use Rattle.models.proofs.Slots.{group-note}
-use Rattle.models.proofs.Records.{highest-none, highest-yes, highest-no, counts-not, counts-own, counts-other, in-note}
+use Rattle.models.proofs.RecordNumbers.{note-read}
+use Rattle.models.proofs.Records.{records-at, records-long, highest-none, highest-yes, highest-no, counts-not, counts-own, counts-other, in-note}
+use borrow.Author.Needs.{needs}
 use Rattle.models.proofs.aot.highest.Statement.{statement}
 use Rattle.models.proofs.aot.highest.Tie as tie
 
 abbrev Inv-loop : tie.InvT-loop
-Inv-loop by channel group records best₀ i₀ best i = (i ≤ 256) × (detuningAnswer best ≡ highest by channel (toZ w32 group) (drop i records))
+Inv-loop records detunings by channel group best₀ i₀ best i = (i ≤ keyCount) × (detuningAnswer best ≡ highest by channel (toZ w32 group) (drop i (recordsOf records detunings)))
 
 abbrev μ-loop : tie.MeasureT-loop
-μ-loop by channel group records best₀ i₀ best i = i
+μ-loop records detunings by channel group best₀ i₀ best i = i
 
-long : (c : tie.Start Inv-loop μ-loop) → length (c .args .t1) ≡ 256
-long c = search needs
+-- the records, one for each key
+module _ (s : tie.Start Inv-loop μ-loop) where
+  abbrev rs : List KeyRecord
+  rs = recordsOf (s .args .records .now) (s .args .detunings .now)
+
+  equal : length (s .args .records .now) ≡ length (s .args .detunings .now)
+  equal = s .pre .0 ∙ sym (s .pre .1)
+
+  long : length rs ≡ keyCount
+  long = records-long (s .args .records .now) (s .args .detunings .now) equal ∙ s .pre .0
 
 loop-holds : tie.Need-loop-holds Inv-loop μ-loop
-loop-holds c = (omega arith, highest-none (c .args .by) (c .args .channel) (toZ w32 (ofZ w32 (c .args .group))) (c .args .t1) (omega (arith, long c)))
+loop-holds c = let s = c .before .before in (omega arith, highest-none (s .args .by) (s .args .channel) (toZ w32 (ofZ w32 (s .args .group))) (rs s) (omega (arith, long s)))
 
 sub-i : tie.Need-sub-i Inv-loop μ-loop
 sub-i c = omega arith
 
-mul-record : tie.Need-mul-record Inv-loop μ-loop
-mul-record c = omega arith
+mul-cell : tie.Need-mul-cell Inv-loop μ-loop
+mul-cell c = omega arith
 
-array-copy-out-record : tie.Need-array-copy-out-record Inv-loop μ-loop
-array-copy-out-record c = omega arith
+shared-slice-read-cell : tie.Need-shared-slice-read-cell Inv-loop μ-loop
+shared-slice-read-cell c = omega (arith, c .before .before .before .before .before .pre .0)
 
 is-up-to-requires : tie.Need-is-up-to-requires Inv-loop μ-loop
 is-up-to-requires c κs = search needs
 
+note-of-requires : tie.Need-note-of-requires Inv-loop μ-loop
+note-of-requires c κs = search needs
+
 -- ---- in a turn
 module _ (c : tie.In-loop Inv-loop μ-loop) where
+  abbrev s : tie.Start Inv-loop μ-loop
+  s = c .before .before .before .before
+
   abbrev i : ℕ
   i = c .before .loop .i
 
-  abbrev rs : List KeyRecord
-  rs = c .before .before .args .t1
-
-  abbrev r : KeyRecord
-  r = getD rs (i - 1) (record { note = pos 0; channel = 0; detuning = nan })
-
   abbrev by : GroupBy
-  by = c .before .before .args .by
+  by = s .args .by
+
+  abbrev ch : ℕ
+  ch = s .args .channel
 
   abbrev g : ℤ
-  g = toZ w32 (ofZ w32 (c .before .before .args .group))
+  g = toZ w32 (ofZ w32 (s .args .group))
 
-  abbrev upTo : Bool
-  upTo = leb (r .channel) (c .before .before .args .channel) && isIn r
+  abbrev cell : ℕ
+  cell = getD (s .args .records .now) (i - 1) 0
 
-  passed-by : counts by (c .before .before .args .channel) g r ≡ false → detuningAnswer (c .before .loop .best) ≡ highest by (c .before .before .args .channel) g (drop (i - 1) rs)
-  passed-by e = c .before .loop .inv .1 ∙ highest-no by (c .before .before .args .channel) g rs i (record { note = pos 0; channel = 0; detuning = nan }) (c .loop-test .taken) (omega (arith, long (c .before .before))) e
+  abbrev d : Float
+  d = getD (s .args .detunings .now) (i - 1) nan
 
-a-note : (c : tie.Then1 Inv-loop μ-loop) → isNote (r (c .before .before .before) .note) ≡ true
-a-note c = in-note (leb (r (c .before .before .before) .channel) (c .before .before .before .before .before .args .channel)) (r (c .before .before .before)) (sym (c .before .is-up-to .ensures) ∙ c .if1 .taken)
+  at-here : getD (rs s) (i - 1) nobody ≡ recordOf cell d
+  at-here = records-at (s .args .records .now) (s .args .detunings .now) (i - 1) (equal s)
 
-up-to : (c : tie.Then1 Inv-loop μ-loop) → upTo (c .before .before .before) ≡ true
-up-to c = sym (c .before .is-up-to .ensures) ∙ c .if1 .taken
+  passed-by : counts by ch g (recordOf cell d) ≡ false → detuningAnswer (c .before .loop .best) ≡ highest by ch g (drop (i - 1) (rs s))
+  passed-by e = c .before .loop .inv .1 ∙ highest-no by ch g (rs s) i nobody (c .loop-test .taken) (omega (arith, long s)) (ap (counts by ch g) at-here ∙ e)
+
+  counted : counts by ch g (recordOf cell d) ≡ true → larger d (detuningAnswer (c .before .loop .best)) ≡ highest by ch g (drop (i - 1) (rs s))
+  counted e =
+      ap (larger d) (c .before .loop .inv .1)
+      ∙ ap (λ (r : KeyRecord). larger (r .detuning) (highest by ch g (drop i (rs s)))) (sym at-here)
+      ∙ highest-yes by ch g (rs s) i nobody (c .loop-test .taken) (omega (arith, long s)) (ap (counts by ch g) at-here ∙ e)
+
+up-to : (c : tie.Then1 Inv-loop μ-loop) → let t = c .before .before .before in (leb (recordOf (cell t) (d t) .channel) (ch t) && isIn (recordOf (cell t) (d t))) ≡ true
+up-to c = sym (c .before .is-up-to .ensures (d (c .before .before .before))) ∙ c .if1 .taken
+
+a-note : (c : tie.Then1 Inv-loop μ-loop) → isNote (noteOf (cell (c .before .before .before))) ≡ true
+a-note c = let t = c .before .before .before in in-note (leb (recordOf (cell t) (d t) .channel) (ch t)) (recordOf (cell t) (d t)) (up-to c)
+
+read : (c : tie.After-note-of Inv-loop μ-loop) → toZ w32 (ofZ w32 (c .note-of .result)) ≡ noteOf (cell (c .before .before .before .before))
+read c = ap (λ (z : ℤ). toZ w32 (ofZ w32 z)) (c .note-of .ensures) ∙ note-read (cell (c .before .before .before .before))
 
 group-of-requires : tie.Need-group-of-requires Inv-loop μ-loop
-group-of-requires c κs = rw (toZ-ofZ (note-fits _ (a-note (c .before)))) (a-note (c .before))
+group-of-requires c κs = rw (read c) (a-note (c .before))
 
-grouped : (c : tie.After-group-of Inv-loop μ-loop) → c .group-of .result ≡ group (by (c .before .before .before .before .before)) (r (c .before .before .before .before .before) .note)
-grouped c = c .group-of .ensures ∙ ap (group (by (c .before .before .before .before .before))) (toZ-ofZ (note-fits _ (a-note (c .before .before))))
+grouped : (c : tie.After-group-of Inv-loop μ-loop) → let t = c .before .before .before .before .before in c .group-of .result ≡ group (by t) (noteOf (cell t))
+grouped c = c .group-of .ensures ∙ ap (group (by (c .before .before .before .before .before))) (read (c .before))
 
 group-fits : (c : tie.After-group-of Inv-loop μ-loop) → SFits w32 (c .group-of .result)
-group-fits c = note-fits _ (rw (grouped c) (group-note (by (c .before .before .before .before .before)) (r (c .before .before .before .before .before) .note) (a-note (c .before .before))))
+group-fits c = let t = c .before .before .before .before .before in note-fits _ (rw (grouped c) (group-note (by t) (noteOf (cell t)) (a-note (c .before .before))))
+
+mul-larger : tie.Need-mul-larger Inv-loop μ-loop
+mul-larger c = omega arith
+
+shared-slice-read-larger : tie.Need-shared-slice-read-larger Inv-loop μ-loop
+shared-slice-read-larger c = omega (arith, c .before .before .before .before .before .before .before .before .before .before .before .pre .1)
 
 larger-requires : tie.Need-larger-requires Inv-loop μ-loop
 larger-requires c κs = search needs
@@ -93,38 +127,35 @@ loop-less c = omega arith
 
 loop-again : tie.Need-loop-again Inv-loop μ-loop
 loop-again c =
-    let u = c .before .before .before .before .before .before .before in
-    let same : group (by u) (r u .note) ≡ g u = sym (grouped (c .before .before)) ∙ sym (toZ-ofZ (group-fits (c .before .before))) ∙ ap (toZ w32) (c .before .if2 .taken) in (
-      omega arith,
-      c .larger .ensures ∙ ap (larger (r u .detuning)) (u .before .loop .inv .1)
-          ∙ highest-yes (by u) (u .before .before .args .channel) (g u) (rs u) (i u) (record { note = pos 0; channel = 0; detuning = nan }) (u .loop-test .taken) (omega (arith, long (u .before .before)))
-          (counts-own (by u) (u .before .before .args .channel) (g u) (r u) (up-to (c .before .before .before .before)) same),
-    )
+    let u = c .before .before .before .before .before .before .before .before in
+    let e = c .before .before .before in
+    let same : group (by u) (noteOf (cell u)) ≡ g u = sym (grouped e) ∙ sym (toZ-ofZ (group-fits e)) ∙ ap (toZ w32) (c .before .before .if2 .taken) in
+    (omega arith, c .larger .ensures ∙ counted u (counts-own (by u) (ch u) (g u) (recordOf (cell u) (d u)) (up-to (c .before .before .before .before .before)) same))
 
 loop-less-2 : tie.Need-loop-less-2 Inv-loop μ-loop
 loop-less-2 c = omega arith
 
 loop-again-2 : tie.Need-loop-again-2 Inv-loop μ-loop
 loop-again-2 c =
-    let u = c .before .before .before .before .before .before in (
-      omega arith,
-      passed-by u
-          (counts-other (by u) (u .before .before .args .channel) (g u) (r u) (λ e. c .if2 .left (ap (ofZ w32) (grouped (c .before) ∙ e ∙ toZ-ofZ (u .before .before .fits .group))))),
-    )
+    let u = c .before .before .before .before .before .before in
+    (omega arith, passed-by u (counts-other (by u) (ch u) (g u) (recordOf (cell u) (d u)) (λ e. c .if2 .left (ap (ofZ w32) (grouped (c .before) ∙ e ∙ toZ-ofZ (s u .fits .group))))))
 
 loop-less-3 : tie.Need-loop-less-3 Inv-loop μ-loop
 loop-less-3 c = omega arith
 
 loop-again-3 : tie.Need-loop-again-3 Inv-loop μ-loop
-loop-again-3 c = (omega arith, passed-by (c .before .before .before) (counts-not _ _ _ _ (sym (c .before .is-up-to .ensures) ∙ c .if1 .left)))
+loop-again-3 c =
+    let u = c .before .before .before in
+    (omega arith, passed-by u (counts-not (by u) (ch u) (g u) (recordOf (cell u) (d u)) (sym (c .before .is-up-to .ensures (d u)) ∙ c .if1 .left)))
 
 returns : tie.Need-returns Inv-loop μ-loop
 returns c =
-    let a = c .before .before .args in
+    let s = c .before .before .before .before in
+    let a = s .args in
     let z : c .before .loop .i ≡ 0 = omega arith in
     c .before .loop .inv .1
-    ∙ ap (λ (j : ℕ). highest (a .by) (a .channel) (toZ w32 (ofZ w32 (a .group))) (drop j (a .t1))) z
-    ∙ ap (λ (h : ℤ). highest (a .by) (a .channel) h (a .t1)) (toZ-ofZ (c .before .before .fits .group))
+    ∙ ap (λ (j : ℕ). highest (a .by) (a .channel) (toZ w32 (ofZ w32 (a .group))) (drop j (rs s))) z
+    ∙ ap (λ (h : ℤ). highest (a .by) (a .channel) h (rs s)) (toZ-ofZ (s .fits .group))
 
 pub highest-spec : {M : Type 1} → statement M
 highest-spec =
@@ -134,10 +165,13 @@ highest-spec =
     μ-loop
     loop-holds
     sub-i
-    mul-record
-    array-copy-out-record
+    mul-cell
+    shared-slice-read-cell
     is-up-to-requires
+    note-of-requires
     group-of-requires
+    mul-larger
+    shared-slice-read-larger
     larger-requires
     loop-less
     loop-again

@@ -1,16 +1,13 @@
 -- `models::waiting::add_note` meets its contract, by its two tests. Assumes nothing.
 use mathlib.Core.Path.{_≡_, sym, ap, _∙_}
-use mathlib.Core.List.{[], _∷_}
-use mathlib.Core.Bool.{true, false, not}
+use mathlib.Core.Bool.{true}
 use native.Mathlib.Omega.{arith}
 use mir.Facts.{toZ-ofZ}
 use borrow.Author.Tests.{not-true, not-false}
-use Rattle.arithmetic.specs.Outcome.{Outcome, value}
 use Rattle.arithmetic.specs.Note.{isNote}
 use Rattle.arithmetic.proofs.Notes.{no-note, a-note}
 use Rattle.models.specs.Line.{Line}
-use Rattle.models.specs.PlanInside.{Adds}
-use Rattle.models.specs.PlanLists.{isPlanned, noteLine, lineByLine}
+use Rattle.models.specs.PlanLists.{isPlanned, noteLine}
 use Rattle.models.proofs.Lines.{line-refused, no-note-line, no-detuning-line, a-note-line, planned-positive}
 use borrow.Author.Needs.{needs}
 use Rattle.models.proofs.waiting.add_note.Statement.{statement}

@@ -1,10 +1,10 @@
 -- `models::waiting::insert` meets its contract. The loop's invariant: the keys from `i` on have moved up by one. Assumes nothing.
 use mathlib.Core.Path.{_≡_, sym, ap, _∙_}
-use mathlib.Core.List.{List, _∷_, _++_}
+use mathlib.Core.List.{_∷_, _++_}
 use Prim.Native.Nat.{ℕ, _+_, _≤_}
 use native.Mathlib.Omega.{arith}
 use borrow.Author.Needs.{needs}
-use lib.ListN.{length, take, drop, set, length-take, length-set}
+use lib.ListN.{take, drop, set, length-take, length-set}
 use Rattle.models.specs.PlanInside.{before}
 use Rattle.models.proofs.Insertion.{before-fits, put-at, Shifted, shift-begins, shift-turn, shift-ends}
 use Rattle.models.proofs.waiting.insert.Statement.{statement}

@@ -1,5 +1,5 @@
 -- `models::waiting::note_lists` meets its contract. The loop's invariant: the lines so far are held, and the lines that are left decide. Assumes nothing.
-use mathlib.Core.Path.{_≡_, sym, ap, _∙_, subst}
+use mathlib.Core.Path.{_≡_, sym, _∙_, subst}
 use mathlib.Core.List.{List, [], _∷_}
 use Prim.Native.Nat.{ℕ, _≤_, _<_, _+_, _-_}
 use native.Mathlib.Omega.{arith}
@@ -9,10 +9,10 @@ use lib.ListN.{length, getD, drop}
 use mir.Syntax.{w32}
 use mir.Val.{SFits}
 use mir.Facts.{toZ-ofZ}
-use borrow.Author.Needs.{sfits-of, needs}
+use borrow.Author.Needs.{needs}
 use Rattle.arithmetic.specs.Outcome.{Outcome}
 use Rattle.models.specs.Line.{Line}
-use Rattle.models.specs.PlanInside.{Adds, Checked}
+use Rattle.models.specs.PlanInside.{Adds}
 use Rattle.models.specs.PlanLists.{keyCount, lineByLine, noteLine, noteLines, noteLists}
 use Rattle.models.proofs.Lines.{Turn, begins, turn-refused, turn-next, ended, ended-early, note-line-at, note-lines-end, note-lists-equal, note-lists-unequal}
 use Rattle.models.proofs.waiting.note_lists.Statement.{statement}
@@ -66,8 +66,8 @@ module _ (c : tie.In-loop Inv-loop μ-loop) where
   turn : Turn o (c .before .loop .order) (c .before .loop .records) (c .before .loop .by-key) i (line ∷ rest)
   turn = subst (Turn o (c .before .loop .order) (c .before .loop .records) (c .before .loop .by-key) i) (note-line-at ks ns ds i (c .loop-test .taken) (omega (arith, c .before .before .before .if1 .left)) (omega (arith, c .before .before .if2 .left))) (c .before .loop .inv .1)
 
-  byte : getD ks i 0 < 256
-  byte = c .before .before .before .before .before .before .before .before .shared-slice-known .given i .fits
+  byte : getD ks i 0 < keyCount
+  byte = let f : getD ks i 0 < 256 = c .before .before .before .before .before .before .before .before .shared-slice-known .given i .fits in omega arith
 
 shared-slice-read-key : tie.Need-shared-slice-read-key Inv-loop μ-loop
 shared-slice-read-key c = omega arith

@@ -1,9 +1,9 @@
 -- `models::waiting::place` meets its contract. The loop's invariant: the place is between `low` and `high`. Assumes nothing.
-use mathlib.Core.Path.{_≡_, sym, ap, _∙_}
+use mathlib.Core.Path.{sym, _∙_}
 use Prim.Native.Nat.{ℕ, _<_, _≤_, _+_, _-_, _/_}
 use native.Mathlib.Omega.{arith}
 use borrow.Author.Needs.{needs}
-use lib.ListN.{length, getD, take, length-take}
+use lib.ListN.{getD, take, length-take}
 use lib.Seq.{getD-take}
 use Rattle.models.specs.PlanLists.{keyCount}
 use Rattle.models.specs.PlanInside.{before}

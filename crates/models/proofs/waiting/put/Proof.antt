@@ -1,12 +1,10 @@
 -- `models::waiting::put` meets its contract: the key goes to its place, its note and detuning to theirs. Assumes nothing.
 use mathlib.Core.Path.{_≡_, ap, _∙_}
 use mathlib.Core.Option.{some}
-use native.Mathlib.Omega.{arith}
-use lib.ListN.{length, take, length-set}
+use lib.ListN.{take, length-set}
 use mir.Facts.{toZ-ofZ}
 use mir.Syntax.{w32}
 use mir.Val.{toZ, ofZ}
-use Rattle.models.specs.Block.{placeOf}
 use Rattle.models.proofs.Waits.{rises-kept, holds-more}
 use borrow.Author.Needs.{needs}
 use Rattle.models.proofs.waiting.put.Statement.{statement}

@@ -3,9 +3,11 @@ use mathlib.Core.Path.{_≡_, refl}
 use mathlib.Core.Bool.{Bool, true, false, cond}
 use mathlib.Core.Option.{Option, none}
 use lib.Dec.{ltb}
-use lib.Ieee.{Float, ofBits}
-use Rattle.models.specs.AotModel.{isIn, detuningIn}
-use Rattle.models.proofs.Models.{same-model, no-keys, no-detunings}
+use lib.Ieee.{Float}
+use Rattle.models.specs.AotModel.{detuningIn}
+use Rattle.models.specs.PlanLists.{keyCount}
+use Rattle.models.proofs.Waits.{zeros}
+use Rattle.models.proofs.Models.{same-model, none-in, no-keys, no-detunings}
 use borrow.Author.Needs.{needs}
 use Rattle.models.proofs.aot.AotTuningModel.empty.Statement.{statement}
 use Rattle.models.proofs.aot.AotTuningModel.empty.Tie as tie
@@ -18,10 +20,10 @@ no-detuning true e = e
 no-detuning false e = refl
 
 returns : tie.Need-returns
-unfolding isIn ofBits detuningIn
+unfolding zeros detuningIn
 returns c =
-    same-model _ _ refl refl refl (c .len .ensures) (no-keys _ tt)
-    (λ d g. no-detuning (ltb d (c .len .result)) (no-detunings (c .before .args .group-by) d g _ tt))
+    same-model _ _ refl refl refl (c .len .ensures) (no-keys _ (none-in keyCount _))
+    (λ d g. no-detuning (ltb d (c .len .result)) (no-detunings (c .before .args .group-by) d g _ (none-in keyCount _)))
 
 pub empty-spec : {M : Type 1} → statement M
 empty-spec = tie.close (tie.spec len-requires returns)

@@ -1,5 +1,5 @@
 -- `models::aot::AotTuningModel::set_tuning_of_pitches` meets its contract, demand 3 included: what was planned of the keys in order is the rule's plan. Assumes nothing.
-use mathlib.Core.Path.{_≡_, refl, sym, ap, _∙_}
+use mathlib.Core.Path.{_≡_, refl}
 use mathlib.Core.List.{List}
 use Prim.Native.Nat.{ℕ}
 use lib.Ieee.{Float}
@@ -49,7 +49,7 @@ module _ (c : tie.After-pitch-lists) where
   n = length (s .args .keys .now)
 
   held : c .pitch-lists .result ≡ 0 → (lines : List Line) × (o ≡ Outcome.value lines) × Accepted lines × Holds order cells ds n lines
-  held e = answered (modelOf (s .args .self)) o (c .pitch-lists .result) order cells ds n (c .pitch-lists .ensures) e
+  held e = answered o (c .pitch-lists .result) order cells ds n (c .pitch-lists .ensures) e
 
 refused-requires : tie.Need-refused-requires
 refused-requires c κs = search needs
@@ -58,7 +58,7 @@ returns : tie.Need-returns
 returns c =
     let k = c .before .before .before .before .before in
     let m = modelOf (s k .args .self) in
-    meets-refused m (o k) (k .pitch-lists .result) (order k) (cells k) (ds k) (n k) _ (refused-so m (o k) (k .pitch-lists .result) (order k) (cells k) (ds k) (n k) (k .pitch-lists .ensures) (c .before .if1 .taken)) (c .refused .ensures)
+    meets-refused m (o k) _ (k .pitch-lists .result) (refused-so (o k) (k .pitch-lists .result) (order k) (cells k) (ds k) (n k) (k .pitch-lists .ensures) (c .before .if1 .taken)) (c .refused .ensures)
 
 slice-aggregate-place-keys : tie.Need-slice-aggregate-place-keys
 slice-aggregate-place-keys c = search needs
@@ -73,21 +73,19 @@ place-keys-requires : tie.Need-place-keys-requires
 place-keys-requires c κs =
     let k = c .before .before .before .before .before .before .before in
     let f = held k (c .before .before .before .if1 .left) in
-    let h = f .3 in
-    let r = ready (s k .args .self .«group_by») (order k) (cells k) (ds k) (n k) (f .0) (f .2) h in
-    (h .order-long, h .cells-long, h .detunings-long, r .0, r .1, r .2)
+    ready (s k .args .self .«group_by») (order k) (cells k) (ds k) (n k) (f .0) (f .2) (f .3)
 
 with-plan-requires : tie.Need-with-plan-requires
 with-plan-requires c κs = search needs
 
 returns-2 : tie.Need-returns-2
 returns-2 c =
-    let k = c .before .before .before .before .before .before .before .before .before in
+    let k = c .before .before .before .before .before .before .before .before .before .before in
     let m = modelOf (s k .args .self) in
-    let f = held k (c .before .before .before .before .before .if1 .left) in
+    let f = held k (c .before .before .before .before .before .before .if1 .left) in
     let r = ready (m .groupBy) (order k) (cells k) (ds k) (n k) (f .0) (f .2) (f .3) in
-    meets-planned m (o k) (k .pitch-lists .result) (order k) (cells k) (ds k) (n k) (f .0) (f .1) (f .2) (f .3) _
-    (c .with-plan .ensures (linesOf (order k) (cells k) (ds k) (n k)) (r .1) (c .before .place-keys .ensures))
+    meets-planned m (o k) _ (order k) (cells k) (ds k) (n k) (f .0) (f .1) (f .2) (f .3)
+    (c .with-plan .ensures (linesOf (order k) (cells k) (ds k) (n k)) (r .ok) (c .before .before .place-keys .ensures))
 
 pub set-tuning-of-pitches-spec : {M : Type 1} → statement M
 set-tuning-of-pitches-spec =

@@ -1,10 +1,10 @@
 -- `models::aot::AotTuningModel::with_plan` meets its contract, by the count and the channels present. Assumes nothing.
-use mathlib.Core.Path.{_≡_, refl, sym, _∙_}
+use mathlib.Core.Path.{refl, sym, _∙_}
 use Prim.Native.Nat.{_≤_, _<_}
 use mathlib.Core.Bool.{true}
 use native.Mathlib.Omega.{arith}
 use lib.ListN.{length}
-use Rattle.models.specs.AotModel.{modelOf, planned, detuningIn, tuned, untuned, holding, empty}
+use Rattle.models.specs.AotModel.{modelOf, recordsOf, detuningIn, tuned, untuned, holding, empty}
 use Rattle.models.specs.Walk.{count}
 use Rattle.models.proofs.ChannelLists.{entries-few}
 use Rattle.models.proofs.Models.{same-model, planned-tuned, planned-untuned}
@@ -37,14 +37,14 @@ cast-num-channels c = search needs
 returns-2 : tie.Need-returns-2
 unfolding detuningIn
 returns-2 c lines ok s =
-    let a = c .before .before .before .before .args in
+    let a = c .before .before .before .args in
     let m = modelOf (a .self) in
-    let p = a .plan in
-    let fit : count (m .groupBy) lines ≤ length (m .channels) = omega (arith, c .before .if1 .left, c .before .before .len .ensures, s .count-is) in
-    let few : p .count ≤ 16 = omega (arith, fit, s .count-is, entries-few (a .self .channels)) in
+    let rs = recordsOf (a .records) (a .detunings) in
+    let fit : count (m .groupBy) lines ≤ length (m .channels) = omega (arith, c .if1 .left, c .before .len .ensures, s .count-is) in
+    let few : a .count ≤ 16 = omega (arith, fit, s .count-is, entries-few (a .self .channels)) in
     (λ i. (
-      same-model (modelOf (record { records = p .records; channels = a .self .channels; «group_by» = a .self .«group_by»; «num_channels» = p .count; tuned = true })) (holding m lines)
-          refl refl refl (s .count-is) (found (m .groupBy) lines ok p s few) (detuning-entry (m .groupBy) lines ok p s few) i,
+      same-model (modelOf (record { records = a .records; detunings = a .detunings; channels = a .self .channels; «group_by» = a .self .«group_by»; «num_channels» = a .count; tuned = true })) (holding m lines)
+          refl refl refl (s .count-is) (found (m .groupBy) lines ok rs (a .count) s few) (detuning-entry (m .groupBy) lines ok rs (a .count) s few) i,
       tuned (s .count-is i),
     ))
     ∙ sym (planned-tuned m lines fit)
