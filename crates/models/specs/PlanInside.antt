@@ -64,7 +64,8 @@ Filled order cells ds n = (lines : List Line) × Accepted lines × Holds order c
 
 -- the check of one line more
 abbrev pub Adds : Outcome Line → ℕ → ℕ → List ℕ → List ℕ → List Float → List ℕ → List ℕ → List Float → Type 0
-Adds line r n order cells ds order' cells' ds' = (lines : List Line) → Accepted lines → Holds order cells ds n lines → Checked (lineByLine lines (line ∷ [])) r order' cells' ds' (n + 1)
+Adds line r n order cells ds order' cells' ds' =
+    (lines : List Line) → Accepted lines → Holds order cells ds n lines → Checked (lineByLine lines (line ∷ [])) r order' cells' ds' (n + 1)
 
 -- the detunings of these keys are above zero and rise
 abbrev pub Rises : List Float → List ℕ → Type 0
@@ -110,12 +111,16 @@ pub record Ready (order cells : List ℕ) (ds : List Float) (n : ℕ) : Type 0 w
   pub cells-long : length cells ≡ keyCount
   pub detunings-long : length ds ≡ keyCount
 
--- What a key's own pass leaves of the tables and the cells: the group's channels and last detuning, and the key's cell with its channel, which is
--- read by its remainder by 16, as every channel of a cell is.
-pub record Placed (by : GroupBy) (key : ℕ) (d : Float) (r : ℕ) (cells : List ℕ) (latest : List Float) (used : List ℕ) (cells' : List ℕ) (latest' : List Float) (used' : List ℕ) : Type 0 where
-  pub channels-are : r ≡ channelsWith (getD used (slotOf (group by (noteOf (getD cells key 0)))) 0) (getD latest (slotOf (group by (noteOf (getD cells key 0)))) nan) d
-  pub used-is : used' ≡ set used (slotOf (group by (noteOf (getD cells key 0)))) r
-  pub latest-is : latest' ≡ set latest (slotOf (group by (noteOf (getD cells key 0)))) d
+-- the place of a key's group
+abbrev pub slotAt : GroupBy → List ℕ → ℕ → ℕ
+slotAt by cells key = slotOf (group by (noteOf (getD cells key 0)))
+
+-- What placing a key leaves: its group's channels and last detuning, and the key's cell with its channel. A cell has the channel's remainder by 16.
+pub record Placed (by : GroupBy) (key : ℕ) (d : Float) (r : ℕ)
+    (cells : List ℕ) (latest : List Float) (used : List ℕ) (cells' : List ℕ) (latest' : List Float) (used' : List ℕ) : Type 0 where
+  pub channels-are : r ≡ channelsWith (getD used (slotAt by cells key) 0) (getD latest (slotAt by cells key) nan) d
+  pub used-is : used' ≡ set used (slotAt by cells key) r
+  pub latest-is : latest' ≡ set latest (slotAt by cells key) d
   pub cell : ℕ
   pub cells-are : cells' ≡ set cells key cell
   pub cell-is : placeOf cell ≡ some (record { channel = channelOf (r - 1); note = noteOf (getD cells key 0) })

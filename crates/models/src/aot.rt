@@ -15,7 +15,7 @@ ghost use Rattle.models.specs.ChannelList.{channelsAnswer, entries};
 ghost use Rattle.models.specs.Line.{Line, group, joins};
 ghost use Rattle.models.specs.PlanLists.{keyCount, noteLists, pitchLists};
 ghost use Rattle.models.specs.AotModel.{Smallest, accessAnswer, detuningAnswer, empty, highest, isIn, larger, modelOf, nextAnswer, nextRule, openRule, openedOf, planned, recordOf, recordsOf, setTuning, setTuningOfPitches, outcomeOf};
-ghost use Rattle.models.specs.PlanInside.{Accepted, Placed, Ready, Seats, channelsWith, leastFrom, linesOf, lower, slotOf};
+ghost use Rattle.models.specs.PlanInside.{Accepted, Placed, Ready, Seats, channelsWith, leastFrom, linesOf, lower, slotAt, slotOf};
 use crate::channels::ChannelList;
 use crate::channels::ChannelsAnswer;
 use crate::channels::present;
@@ -239,7 +239,8 @@ impl AotTuningModel {
 
     // The model with a plan, if there are channels enough.
     fn with_plan(self, count: u16, records: [u16; KEYS], detunings: [f64; KEYS]) -> SetTuning
-        ensures { λ r. ⌜ ((lines : List Line) → Accepted lines → Seats (self .«group_by») lines (recordsOf records detunings) count → outcomeOf r ≡ planned (modelOf self) (value lines)) ⌝ }
+        ensures { λ r. ⌜ ((lines : List Line) → Accepted lines → Seats (self .«group_by») lines (recordsOf records detunings) count
+            → outcomeOf r ≡ planned (modelOf self) (value lines)) ⌝ }
     {
         let by = self.group_by;
         let channels = self.channels;
@@ -358,7 +359,7 @@ fn place_key(
     by: GroupBy,
 ) -> u16
     requires { ⌜ (length (now records) ≡ keyCount) × (length (now latest) ≡ 801) × (length (now used) ≡ 801) × (key < keyCount)
-        × (isNote (noteOf (getD (now records) key 0)) ≡ true) × (getD (now used) (slotOf (group by (noteOf (getD (now records) key 0)))) 0 < 65535) ⌝ }
+        × (isNote (noteOf (getD (now records) key 0)) ≡ true) × (getD (now used) (slotAt by (now records) key) 0 < 65535) ⌝ }
     ensures { λ r. ⌜ Placed by key detuning r
         (now (records .entry)) (now (latest .entry)) (now (used .entry)) (now (records .exit)) (now (latest .exit)) (now (used .exit)) ⌝ }
 {

@@ -179,8 +179,9 @@ fn put(
     requires { ⌜ (length (now order) ≡ keyCount) × (length (now records) ≡ keyCount) × (length (now «by_key») ≡ keyCount)
         × Room (now order) (now «by_key») n key × (isNote note ≡ true) × T (positive detuning) ⌝ }
     ensures { λ r.
-        ⌜ ((lines : List Line) → Holds (now (order .entry)) (now (records .entry)) (now («by_key» .entry)) n lines → Accepted lines → member key (keys lines) ≡ false
-        → Holds (now (order .exit)) (now (records .exit)) (now («by_key» .exit)) (n + 1) (lines ++ (record { key = key; note = note; detuning = detuning } ∷ []))) ⌝ }
+        ⌜ ((lines : List Line) → Holds (now (order .entry)) (now (records .entry)) (now («by_key» .entry)) n lines → Accepted lines
+        → member key (keys lines) ≡ false → Holds (now (order .exit)) (now (records .exit)) (now («by_key» .exit)) (n + 1)
+        (lines ++ (record { key = key; note = note; detuning = detuning } ∷ []))) ⌝ }
 {
     let at = key as usize;
     records[at] = record_of(note, 0);
