@@ -8,7 +8,8 @@ use lib.IntN.{ℤ, pos}
 use lib.Ieee.{Float}
 use lib.ListN.{length}
 use Rattle.arithmetic.specs.Outcome.{Outcome, value, refused}
-use Rattle.models.specs.Pool.{Place, State, Press, accepted, rejected, found, released, registerRule, repitchRule, replied}
+use Rattle.models.specs.Places.{Place}
+use Rattle.models.specs.Pool.{State, Press, accepted, rejected, found, released, registerRule, repitchRule, replied}
 use Rattle.models.specs.declared.jit.PoolGroupBy.{PoolGroupBy}
 use Rattle.models.specs.declared.jit.PoolGroupBy.the-variants.{NoteLetter, Channel}
 use Rattle.models.specs.declared.jit.PoolingMode.{PoolingMode}

@@ -12,11 +12,12 @@ use lib.Seq.{take-set-lt, getD-take}
 use Rattle.arithmetic.specs.Note.{isNote}
 use Rattle.arithmetic.specs.Outcome.{Outcome, value, refused}
 use Rattle.models.specs.Lists.{member, without}
-use Rattle.models.specs.Pool.{keyCount, Place, Pool, State, poolCount, poolOf, pool, emptyPool, found, withPool, withKey, behind, takenIn, freedIn, freed, taken, forgotten, replied}
+use Rattle.models.specs.Places.{Place, noteOf, channelOf, placeOf}
+use Rattle.models.specs.Pool.{keyCount, Pool, State, poolCount, poolOf, pool, emptyPool, found, withPool, withKey, behind, takenIn, freedIn, freed, taken, forgotten, replied}
 use Rattle.models.specs.declared.jit.PoolGroupBy.{PoolGroupBy}
 use Rattle.models.specs.declared.jit.PoolingMode.{PoolingMode}
 use Rattle.models.proofs.Pools.{pool-small, pools-few}
-use Rattle.models.specs.Block.{settings, cellCount, queueAt, channelOf, noteOf, placeOf, poolAt, poolsFrom, channelsAt, groupOf, modeOf, kindOf, kindAt, stateWith, stateOf, Moves}
+use Rattle.models.specs.Block.{settings, cellCount, queueAt, poolAt, poolsFrom, channelsAt, groupOf, modeOf, kindOf, kindAt, stateWith, stateOf, Moves}
 use Rattle.models.specs.PoolInternal.{Kept, SettingsKept}
 use Rattle.models.proofs.Regions.{before, kept-set, kept-wider, read-past, queue-past, queue-front}
 use Rattle.models.proofs.RecordNumbers.{place-sound}

@@ -15,7 +15,8 @@ use Rattle.models.specs.declared.jit.PoolGroupBy.the-variants.{NoteLette
 use Rattle.models.specs.declared.jit.PoolingMode.{PoolingMode}
 use Rattle.models.proofs.Queues.{take-range}
 use Rattle.models.specs.PoolInternal.{Kept}
-use Rattle.models.specs.Block.{settings, queueAt, channelOf, noteOf, placeOf, poolAt, poolsFrom, channelsAt, groupOf, modeOf, stateWith, stateOf}
+use Rattle.models.specs.Places.{noteOf, channelOf, placeOf}
+use Rattle.models.specs.Block.{settings, queueAt, poolAt, poolsFrom, channelsAt, groupOf, modeOf, stateWith, stateOf}
 use Rattle.models.proofs.Regions.{kept-set, queue-front, queue-counted}
 use Rattle.models.proofs.Blocks.{pool-front}
 

@@ -11,7 +11,8 @@ use lib.Dec.{ltb}
 use lib.ListN.{length, getD, drop, drop-of-length-le}
 use lib.Seq.{drop-cons}
 use Rattle.models.specs.Lists.{first}
-use Rattle.models.specs.Pool.{Place, State, Held, found, heldFrom, heldKeys}
+use Rattle.models.specs.Places.{Place}
+use Rattle.models.specs.Pool.{State, Held, found, heldFrom, heldKeys}
 
 module _ (l : List (Option Place)) (key : ℕ) where
   pub held-here : (p : Place) → key < length l → getD l key none ≡ some p

@@ -22,8 +22,7 @@ use Rattle.arithmetic.proofs.Nearest.{nearest-is-note, nearest-detuning}
 use Rattle.models.specs.Lists.{member}
 use Rattle.models.specs.Line.{Line}
 use Rattle.models.specs.PlanLists.{keyCount, isPlanned, noteLine, pitchLine, noteLines, pitchLines, keys, lineByLine, noteLists, pitchLists}
-use Rattle.models.specs.Pool.{isHeld}
-use Rattle.models.specs.Block.{placeOf}
+use Rattle.models.specs.Places.{isHeld, placeOf}
 use Rattle.models.specs.PlanInside.{Accepted, Adds, Checked, Holds, Room}
 use Rattle.models.proofs.ListLaws.{true→T, outcome, passed, failed}
 use Rattle.models.proofs.Waits.{accepted-snoc, accepted-few, accepted-nil, room-for}

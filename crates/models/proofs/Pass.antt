@@ -16,8 +16,7 @@ use Rattle.models.specs.declared.aot.GroupBy.{GroupBy}
 use Rattle.models.specs.Lists.{Each, member}
 use Rattle.models.specs.Line.{Line, group, ofGroup, joins, rising}
 use Rattle.models.specs.PlanLists.{keyCount, keys}
-use Rattle.models.specs.Pool.{Place}
-use Rattle.models.specs.Block.{noteOf, channelOf, placeOf}
+use Rattle.models.specs.Places.{Place, noteOf, channelOf, placeOf}
 use Rattle.models.specs.Walk.{count, seat}
 use Rattle.models.specs.AotModel.{KeyRecord, nobody, isIn, recordsOf}
 use Rattle.models.specs.PlanInside.{Accepted, Placed, Seats, channelsWith, lineAt, slotOf}

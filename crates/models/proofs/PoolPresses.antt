@@ -16,7 +16,8 @@ use Rattle.arithmetic.specs.Nearest.{nearestNote}
 use Rattle.arithmetic.proofs.Bounds.{detuning-positive}
 use Rattle.arithmetic.proofs.Nearest.{nearest-is-note}
 use Rattle.models.specs.Lists.{first}
-use Rattle.models.specs.Pool.{State, Place, Press, accepted, rejected, pool, found, roomFor, pressedOn, pressed, unlessHeld, registerRule, tuning, repitchRule, isHeld}
+use Rattle.models.specs.Places.{Place, isHeld}
+use Rattle.models.specs.Pool.{State, Press, accepted, rejected, pool, found, roomFor, pressedOn, pressed, unlessHeld, registerRule, tuning, repitchRule}
 use Rattle.models.specs.Block.{stateOf, registerNoteRule}
 use Rattle.models.proofs.Pools.{value-by}
 use Rattle.models.proofs.Blocks.{found-note}

@@ -18,7 +18,8 @@ use Rattle.arithmetic.proofs.Outcomes.{no-value}
 use Rattle.arithmetic.proofs.Notes.{letter-below}
 use Rattle.arithmetic.proofs.Refusals.{letter-refuses, detuning-refuses}
 use Rattle.models.specs.Lists.{first}
-use Rattle.models.specs.Pool.{Place, State, Held, poolCount, poolOf, pool, found, withPool, withKey, freed, forgotten, released, releasedFrom, releasedAll, heldAt, oldestOf, oldest, Room, room, madeRoom, roomFor, accepted, rejected, taken, pressed, pressedOn, heldFrom, unlessHeld, registerRule}
+use Rattle.models.specs.Places.{Place}
+use Rattle.models.specs.Pool.{State, Held, poolCount, poolOf, pool, found, withPool, withKey, freed, forgotten, released, releasedFrom, releasedAll, heldAt, oldestOf, oldest, Room, room, madeRoom, roomFor, accepted, rejected, taken, pressed, pressedOn, heldFrom, unlessHeld, registerRule}
 use Rattle.models.specs.declared.jit.PoolGroupBy.{PoolGroupBy}
 use Rattle.models.specs.declared.jit.PoolGroupBy.the-variants.{NoteLetter, Channel}
 use Rattle.models.specs.declared.jit.PoolingMode.{PoolingMode}

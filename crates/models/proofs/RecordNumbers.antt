@@ -12,8 +12,7 @@ use mir.Facts.{toZ-ofZ}
 use Rattle.arithmetic.specs.Note.{isNote}
 use Rattle.arithmetic.proofs.Integers.{plus, less, same, add-parts, sub-parts-ℤ, fits-by}
 use Rattle.arithmetic.proofs.Notes.{bounds}
-use Rattle.models.specs.Pool.{Place, isHeld}
-use Rattle.models.specs.Block.{noteOf, channelOf, placeOf}
+use Rattle.models.specs.Places.{Place, isHeld, noteOf, channelOf, placeOf, cellOf}
 
 -- ---- a note from a record
 
@@ -70,6 +69,10 @@ module _ (z : ℤ) (h : isNote z ≡ true) where
   lowered : pos (raised z) -ℤ pos 301 ≡ z
   lowered = same (pos (raised z) -ℤ pos 301) z (omega (arith, sub-parts-ℤ (pos (raised z)) (pos 301), raised-parts))
 
+  pub cell-is : (c : ℕ) → cellOf z c ≡ raised z + 1024 * channelOf c
+  unfolding cellOf
+  cell-is c = rw (h, raised-is)
+
   module _ (c : ℕ) (few : c < 16) where
     note-back : noteOf (raised z + 1024 * c) ≡ z
     unfolding noteOf
@@ -78,9 +81,17 @@ module _ (z : ℤ) (h : isNote z ≡ true) where
     channel-back : channelOf ((raised z + 1024 * c) / 1024) ≡ c
     channel-back = let q : (raised z + 1024 * c) / 1024 ≡ c = omega (arith, raised-parts) in ap channelOf q ∙ mod-eq-of-lt few
 
-    pub place-back : placeOf (raised z + 1024 * c) ≡ some (record { channel = c; note = z })
+    place-back : placeOf (raised z + 1024 * c) ≡ some (record { channel = c; note = z })
     unfolding placeOf
     place-back = rw (note-back, h, channel-back)
+
+    -- the place is read back from the record
+    pub place-cell : placeOf (cellOf z c) ≡ some (record { channel = c; note = z })
+    place-cell = ap placeOf (cell-is c ∙ ap (λ (k : ℕ). raised z + 1024 * k) (mod-eq-of-lt few)) ∙ place-back
+
+pub cell-none : (z : ℤ) (c : ℕ) → isNote z ≡ false → cellOf z c ≡ 0
+unfolding cellOf
+cell-none z c e = rw e
 
 pub note-read : (n : ℕ) → toZ w32 (ofZ w32 (noteOf n)) ≡ noteOf n
 unfolding noteOf

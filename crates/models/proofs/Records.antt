@@ -18,9 +18,7 @@ use Rattle.models.specs.Lists.{Each}
 use Rattle.models.specs.declared.aot.GroupBy.{GroupBy}
 use Rattle.models.specs.Line.{group, same}
 use Rattle.models.specs.AotModel.{KeyRecord, nobody, isIn, recordOf, recordsOf, keyIn, counts, highest, larger, accessAnswer}
-use Rattle.models.specs.Pool.{Place}
-use Rattle.models.specs.JitModel.{place}
-use Rattle.models.specs.Block.{noteOf, channelOf, placeOf}
+use Rattle.models.specs.Places.{Place, noteOf, channelOf, placeOf, place}
 use Rattle.models.specs.declared.keys.AccessKeyResult as AccessKeyResult
 use Rattle.models.specs.declared.keys.AccessKeyResult.{AccessKeyResult}
 use Rattle.models.specs.PlanInside.{lower, leastFrom}

@@ -14,8 +14,7 @@ use Rattle.arithmetic.specs.Note.{isNote}
 use Rattle.models.specs.Lists.{Each, member, Distinct}
 use Rattle.models.specs.Line.{Line, rising}
 use Rattle.models.specs.PlanLists.{keyCount, keys}
-use Rattle.models.specs.Pool.{isHeld}
-use Rattle.models.specs.Block.{placeOf, noteOf}
+use Rattle.models.specs.Places.{isHeld, noteOf, placeOf}
 use Rattle.models.specs.PlanInside.{Accepted, Holds, Rises, Room, lineAt, linesOf, before, putIn}
 use Rattle.models.proofs.ListLaws.{outcome, passed, failed, true→T, T→false, false→T, not-false, or-left, Each-map, Each-image, at-member, pigeonhole, below, below-length, below-member}
 use Rattle.models.proofs.Joins.{lt-not-le}

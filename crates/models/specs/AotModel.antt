@@ -20,7 +20,7 @@ use Rattle.models.specs.declared.aot.NextAnswer as N
 use Rattle.models.specs.declared.aot.SetTuning.{SetTuning}
 use Rattle.models.specs.declared.aot.Opened.{Opened}
 use Rattle.models.specs.ChannelList.{entries, listRule, present, channelsAnswer}
-use Rattle.models.specs.Block.{noteOf, channelOf}
+use Rattle.models.specs.Places.{noteOf, channelOf}
 use Rattle.models.specs.Line.{Line, group, same}
 use Rattle.models.specs.Walk.{count, seat, entry}
 use Rattle.models.specs.Placing.{Demand3}

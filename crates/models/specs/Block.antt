@@ -13,7 +13,8 @@ use lib.ListN.{take, drop, getD}
 use Rattle.arithmetic.specs.Note.{isNote}
 use Rattle.arithmetic.specs.Outcome.{Outcome, value, refused, refuse_unless_then_}
 use Rattle.arithmetic.specs.Refusal.{noteOutOfRange}
-use Rattle.models.specs.Pool.{keyCount, Place, Pool, State, poolCount, Press, unlessHeld}
+use Rattle.models.specs.Places.{channelOf, placeOf}
+use Rattle.models.specs.Pool.{keyCount, Pool, State, poolCount, Press, unlessHeld}
 use Rattle.models.specs.declared.jit.PoolGroupBy.{PoolGroupBy}
 use Rattle.models.specs.declared.jit.PoolGroupBy.the-variants.{NoteLetter, Channel}
 use Rattle.models.specs.declared.jit.PoolingMode.{PoolingMode}
@@ -43,18 +44,6 @@ queueOf (n ∷ xs) = take n xs
 -- the queue at a place: a count and sixteen items
 unfoldable pub queueAt : List ℕ → ℕ → List ℕ
 queueAt l at = queueOf (take 17 (drop at l))
-
--- ---- the records of keys
-
--- A record is 0, or note + 301 + 1024 * channel.
-unfoldable pub noteOf : ℕ → ℤ
-noteOf cell = pos (cell % 1024) -ℤ pos 301
-
-abbrev pub channelOf : ℕ → ℕ
-channelOf n = n % 16
-
-unfoldable pub placeOf : ℕ → Option Place
-placeOf cell = cond (isNote (noteOf cell)) (some (record { channel = channelOf (cell / 1024); note = noteOf cell })) none
 
 -- ---- the pools
 

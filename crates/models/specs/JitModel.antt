@@ -6,9 +6,9 @@ use lib.IntN.{ℤ}
 use lib.Ieee.{Float}
 use Rattle.arithmetic.specs.Outcome.{Outcome, value, refused}
 use Rattle.models.specs.ChannelList.{channelsAnswer}
-use Rattle.models.specs.Pool.{Place, Held, State, Press, accepted, rejected}
+use Rattle.models.specs.Places.{Place}
+use Rattle.models.specs.Pool.{Held, State, Press, accepted, rejected}
 use Rattle.models.specs.Block.{stateOf}
-use Rattle.models.specs.declared.keys.AccessKeyResult as A
 use Rattle.models.specs.declared.keys.NextKey as N
 use Rattle.models.specs.declared.jit.StoppedNote as S
 use Rattle.models.specs.declared.jit.RegisterKeyResult as R
@@ -23,10 +23,6 @@ unfoldable pub view : JitTuningModel → State
 view m = stateOf (m .cells)
 
 -- ---- the answers
-
-unfoldable pub place : A.AccessKeyResult → Option Place
-place (A.the-variants.Found channel note) = some (record { channel = channel; note = note })
-place A.the-variants.NotFound = none
 
 unfoldable pub nextHeld : N.NextKey → Option Held
 nextHeld (N.the-variants.Held key channel note) = some (record { key = key; place = record { channel = channel; note = note } })

@@ -3,6 +3,7 @@ pub mod Outcome
 pub mod Refusal
 pub mod Lists
 pub mod Keys
+pub mod Places
 pub mod ChannelList
 pub mod Steps
 pub mod Answers

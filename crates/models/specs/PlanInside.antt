@@ -16,8 +16,7 @@ use Rattle.models.specs.declared.aot.GroupBy.{GroupBy}
 use Rattle.models.specs.Lists.{Each, member, Distinct}
 use Rattle.models.specs.Line.{Line, joins, rising, group}
 use Rattle.models.specs.Walk.{count, seat}
-use Rattle.models.specs.Pool.{isHeld}
-use Rattle.models.specs.Block.{noteOf, channelOf, placeOf}
+use Rattle.models.specs.Places.{isHeld, noteOf, channelOf, placeOf}
 use Rattle.models.specs.AotModel.{KeyRecord, nobody, isIn}
 use Rattle.models.specs.PlanLists.{keyCount, keys, lineByLine}
 

@@ -13,6 +13,7 @@ use Rattle.arithmetic.specs.Note.{letterOf}
 use Rattle.arithmetic.specs.Pitch.{isPitch, detuningOf}
 use Rattle.arithmetic.specs.Nearest.{nearestNote}
 pub use Rattle.models.specs.Keys.{keyCount}
+use Rattle.models.specs.Places.{Place, isHeld}
 use Rattle.models.specs.Lists.{member, without, upward, first}
 use Rattle.models.specs.ChannelList.{listRule, present}
 use Rattle.models.specs.declared.jit.PoolGroupBy.{PoolGroupBy}
@@ -21,11 +22,6 @@ use Rattle.models.specs.declared.jit.PoolingMode.{PoolingMode}
 use Rattle.models.specs.declared.jit.PoolingMode.the-variants.{Block, Stop, Ignore}
 
 -- ---- the state
-
--- Where a found key sounds.
-pub record Place : Type 0 where
-  pub channel : ℕ
-  pub note : ℤ
 
 -- The free channels, the next one first, and the keys that still have their channels, the longest held first.
 pub record Pool : Type 0 where
@@ -185,10 +181,6 @@ unfoldable pub pressed : State → ℕ → ℤ → Float → Press × State
 pressed s key note detuning = let r = roomFor s note in pressedOn (first (pool (r .state) note .free)) r s key note detuning
 
 -- ---- the rules of the calls
-
-unfoldable pub isHeld : Option Place → Bool
-isHeld (some p) = true
-isHeld none = false
 
 -- "press of a held key"
 unfoldable pub unlessHeld : State → ℕ → ℤ → Float → Outcome (Press × State)

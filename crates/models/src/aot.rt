@@ -10,7 +10,7 @@ ghost use lib.Ieee.{Float};
 ghost use lib.ListN.{getD, length};
 ghost use Rattle.arithmetic.specs.Outcome.{value, refused};
 ghost use Rattle.arithmetic.specs.Note.{isNote};
-ghost use Rattle.models.specs.Block.{noteOf};
+ghost use Rattle.models.specs.Places.{noteOf};
 ghost use Rattle.models.specs.ChannelList.{channelsAnswer, entries};
 ghost use Rattle.models.specs.Line.{Line, group, joins};
 ghost use Rattle.models.specs.PlanLists.{keyCount, noteLists, pitchLists};

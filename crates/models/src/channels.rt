@@ -1,14 +1,11 @@
 // The list of MIDI channels that a tuner or a model is opened with. Channel i of a plan or a pool is entry i.
 
 ghost use mathlib.Core.Path.{_≡_};
-ghost use mathlib.Core.List.{[], map};
+ghost use mathlib.Core.List.{[]};
 ghost use Prim.Native.Nat.{ℕ, _+_, _≤_, _<_};
-ghost use lib.ListN.{length, take, drop, getD, getElem?};
-ghost use Rattle.models.specs.ChannelList.{entries, listRule, present, channelsAnswer, entryAnswer, digits};
-ghost use Rattle.models.specs.Block.{channelOf, queueAt};
-ghost use Rattle.models.specs.PoolInternal.{Kept};
+ghost use lib.ListN.{length, getD, getElem?};
+ghost use Rattle.models.specs.ChannelList.{entries, listRule, present, channelsAnswer, entryAnswer};
 use crate::lists::listed;
-use crate::queue::size;
 use arithmetic::refusal::CHANNEL_OVER_15;
 use arithmetic::refusal::CHANNEL_TWICE;
 
@@ -20,9 +17,9 @@ const MOST_ENTRIES: u8 = 16;
 
 pub struct ChannelList {
     // Entry 0 is the lowest of sixteen digits to base 16.
-    digits: u64,
+    pub digits: u64,
     // How many of them are entries; a number over sixteen, which no call gives, counts as sixteen.
-    count: u8,
+    pub count: u8,
 }
 
 pub enum ChannelsAnswer {
@@ -99,48 +96,6 @@ impl ChannelList {
             return EntryAnswer::Channel(channel as u8);
         }
         EntryAnswer::NoEntry
-    }
-
-    // Puts the entries into the queue at a place of a block.
-    pub(crate) fn put(self, cells: &mut [u16], at: usize)
-        requires { ⌜ at + 17 ≤ length (now cells) ⌝ }
-        ensures { λ r. ⌜ Kept at 17 (now (cells .entry)) (now (cells .exit)) × (queueAt (now (cells .exit)) at ≡ entries self) ⌝ }
-    {
-        let n = self.len();
-        put_digits(cells, at + 1, n as usize, self.digits);
-        cells[at] = n as u16;
-    }
-}
-
-// The list in the queue at a place of a block.
-pub(crate) fn list_at(cells: &[u16], at: usize) -> ChannelList
-    requires { ⌜ at + 17 ≤ length (now cells) ⌝ }
-    ensures { λ r. ⌜ entries r ≡ map channelOf (queueAt (now (cells .entry)) at) ⌝ }
-{
-    let n = size(cells, at);
-    let mut digits: u64 = 0;
-    let mut i = n;
-    while 0 < i {
-        let channel = (cells[at + i] % 16) as u64;
-        digits = digits * 16 + channel;
-        i -= 1;
-    }
-    let count = n as u8;
-    ChannelList { digits, count }
-}
-
-// The n lowest digits of a number, the lowest first, in a region.
-fn put_digits(cells: &mut [u16], from: usize, n: usize, number: u64)
-    requires { ⌜ from + n ≤ length (now cells) ⌝ }
-    ensures { λ r. ⌜ Kept from n (now (cells .entry)) (now (cells .exit)) × (take n (drop from (now (cells .exit))) ≡ digits n number) ⌝ }
-{
-    let mut rest = number;
-    let mut i: usize = 0;
-    while i < n {
-        let digit = (rest % 16) as u16;
-        cells[from + i] = digit;
-        rest = rest / 16;
-        i += 1;
     }
 }
 

@@ -1,13 +1,7 @@
 // Keys: how many there are, what a lookup finds, and a key's record in one number, 0 or note + 301 + 1024 * channel.
 
 ghost use mathlib.Core.Path.{_≡_};
-ghost use mathlib.Core.Bool.{true};
-ghost use mathlib.Core.Option.{some};
-ghost use Prim.Native.Nat.{_<_};
-ghost use Rattle.arithmetic.specs.Note.{isNote};
-ghost use Rattle.models.specs.Pool.{isHeld};
-ghost use Rattle.models.specs.JitModel.{place};
-ghost use Rattle.models.specs.Block.{noteOf, placeOf};
+ghost use Rattle.models.specs.Places.{isHeld, noteOf, placeOf, cellOf, place};
 use arithmetic::note::is_note;
 
 // The number of keys, as `keyCount` of specs/.
@@ -26,7 +20,7 @@ pub enum NextKey {
 }
 
 // Where the key of a record is found.
-pub(crate) fn place_of(cell: u16) -> AccessKeyResult
+pub fn place_of(cell: u16) -> AccessKeyResult
     ensures { λ r. ⌜ place r ≡ placeOf cell ⌝ }
 {
     let found_note = note_of(cell);
@@ -41,22 +35,24 @@ pub(crate) fn place_of(cell: u16) -> AccessKeyResult
 }
 
 // Whether the key of a record is found.
-pub(crate) fn is_found(cell: u16) -> bool
+pub fn is_found(cell: u16) -> bool
     ensures { λ r. ⌜ r ≡ isHeld (placeOf cell) ⌝ }
 {
     is_note(note_of(cell))
 }
 
-// The record of a key that sounds on a channel.
-pub(crate) fn record_of(note: i32, channel: u8) -> u16
-    requires { ⌜ (isNote note ≡ true) × (channel < 16) ⌝ }
-    ensures { λ r. ⌜ placeOf r ≡ some (record { channel = channel; note = note }) ⌝ }
+// The record of a key that sounds a note on a channel, which is read by its remainder by 16; 0 for a number that is no note.
+pub fn record_of(note: i32, channel: u8) -> u16
+    ensures { λ r. ⌜ r ≡ cellOf note channel ⌝ }
 {
-    (note + 301) as u16 + 1024 * channel as u16
+    if is_note(note) {
+        return (note + 301) as u16 + 1024 * (channel % 16) as u16;
+    }
+    0
 }
 
 // The note of a record, a number below all notes for 0.
-pub(crate) fn note_of(cell: u16) -> i32
+pub fn note_of(cell: u16) -> i32
     ensures { λ r. ⌜ r ≡ noteOf cell ⌝ }
 {
     (cell % 1024) as i32 - 301

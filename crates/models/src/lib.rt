@@ -3,6 +3,7 @@
 pub mod aot;
 pub mod block;
 pub mod cells;
+mod channel_cells;
 pub mod channels;
 pub mod jit;
 pub mod keys;

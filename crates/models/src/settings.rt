@@ -10,8 +10,9 @@ use crate::cells::CHANNELS;
 use crate::cells::GROUP_BY;
 use crate::cells::POOLING_MODE;
 use crate::cells::TUNING_KIND;
+use crate::channel_cells::list_at;
+use crate::channel_cells::put_list;
 use crate::channels::ChannelList;
-use crate::channels::list_at;
 use crate::jit::PoolGroupBy;
 use crate::jit::PoolingMode;
 use crate::steps::TuningKind;
@@ -69,7 +70,7 @@ pub(crate) fn put_settings(
     ensures { λ r. ⌜ Kept settings 20 (now (cells .entry)) (now (cells .exit)) × (channelsAt (now (cells .exit)) ≡ entries channels)
         × (groupOf (getD (now (cells .exit)) (settings + 17) 0) ≡ group) × (modeOf (getD (now (cells .exit)) (settings + 18) 0) ≡ mode) × (kindAt (now (cells .exit)) ≡ kind) ⌝ }
 {
-    channels.put(cells, CHANNELS);
+    put_list(cells, CHANNELS, channels);
     cells[GROUP_BY] = group_number(group);
     cells[POOLING_MODE] = mode_number(mode);
     cells[TUNING_KIND] = kind_number(kind);

@@ -11,7 +11,8 @@ use lib.IntN.{ℤ}
 use lib.ListN.{length, getElem?}
 use Rattle.models.specs.Outcome.{Outcome, value, refused}
 use Rattle.models.specs.Refusal.{dataByteOver127}
-use Rattle.models.specs.Pool.{State, Place, Press, accepted, rejected, found, released, registerRule, repitchRule}
+use Rattle.models.specs.Places.{Place}
+use Rattle.models.specs.Pool.{State, Press, accepted, rejected, found, released, registerRule, repitchRule}
 use Rattle.models.specs.Steps.{sentAs}
 use Rattle.models.specs.declared.steps.Tuning.{Tuning}
 use Rattle.models.specs.declared.steps.Tuning.the-variants.{Fine, Bend}

@@ -14,7 +14,7 @@ use Rattle.models.specs.Refusal.{bufferTooShort}
 use Rattle.models.specs.ChannelList.{channelsAnswer}
 use Rattle.models.specs.Lists.{upward}
 use Rattle.models.specs.Line.{Line}
-use Rattle.models.specs.Pool.{Place}
+use Rattle.models.specs.Places.{Place}
 use Rattle.models.specs.Placing.{Placing, InOrder, Fits, Demand3}
 use Rattle.models.specs.AotModel.{Model, modelOf, openRule, setTuning, setTuningOfPitches}
 use Rattle.models.specs.AotModel as M

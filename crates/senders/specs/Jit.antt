@@ -9,7 +9,8 @@ use lib.ListN.{length}
 use Rattle.models.specs.Outcome.{Outcome, value, refused, refuse_unless_then_}
 use Rattle.models.specs.Refusal.{dataByteOver127}
 use Rattle.models.specs.ChannelList.{channelsAnswer}
-use Rattle.models.specs.Pool.{State, Place, Held, Press, accepted, rejected, found, released, registerRule, repitchRule, openRule, heldKeys, stopped}
+use Rattle.models.specs.Places.{Place}
+use Rattle.models.specs.Pool.{State, Held, Press, accepted, rejected, found, released, registerRule, repitchRule, openRule, heldKeys, stopped}
 use Rattle.models.specs.Block.{stateOf, kindAt}
 use Rattle.models.specs.Steps.{sentAs}
 use Rattle.models.specs.declared.steps.TuningKind.{TuningKind}

@@ -7,7 +7,7 @@ use lib.IntN.{ℤ, pos, negsuc}
 use lib.ListN.{getElem?}
 use Rattle.models.specs.Outcome.{refuse_unless_then_}
 use Rattle.models.specs.Refusal.{dataByteOver127}
-use Rattle.models.specs.Pool.{Place}
+use Rattle.models.specs.Places.{Place}
 use Rattle.senders.specs.Lent.{Answer, sent}
 use Rattle.senders.specs.Message.{Message, isData}
 use Rattle.senders.specs.Midi.{bytesOf, checked, meant}

@@ -2,7 +2,7 @@
 
 ghost use mathlib.Core.Path.{_≡_};
 ghost use Rattle.models.specs.Pool.{found};
-ghost use Rattle.models.specs.JitModel.{place};
+ghost use Rattle.models.specs.Places.{place};
 ghost use Rattle.senders.specs.Lent.{Answers, Steps};
 ghost use Rattle.senders.specs.Answers.{sentAnswer, pressAnswer};
 ghost use Rattle.senders.specs.Jit.{tuner, opened, startRule, noteOnRule, noteOffRule, notePitchRule, noteAttrRule, globalAttrRule, stopRule};

@@ -9,7 +9,7 @@ use lib.Ieee.{Float}
 use lib.ListN.{getElem?}
 use Rattle.models.specs.AotModel.{Model}
 use Rattle.models.specs.Lists.{upward}
-use Rattle.models.specs.Pool.{Place}
+use Rattle.models.specs.Places.{Place}
 use Rattle.models.specs.Steps.{sentAs}
 use Rattle.senders.specs.Message.{isData}
 use Rattle.theorems.specs.Receiver.{Channel, Receiver, on, withChoice, withFine, withBend, withNote, parameter, fineShift, bendShift, sensitivityCents}

@@ -12,7 +12,8 @@ use lib.Ieee.{Float}
 use lib.ListN.{length}
 use borrow.Author.Tests.{eqb-true}
 use Rattle.models.specs.Outcome.{Outcome, value, refused}
-use Rattle.models.specs.Pool.{State, Place, Press, registerRule, repitchRule}
+use Rattle.models.specs.Places.{Place}
+use Rattle.models.specs.Pool.{State, Press, registerRule, repitchRule}
 use Rattle.theorems.proofs.Pools.Refusals.{register-refused, repitch-refused}
 use Rattle.senders.specs.Lent.{Effect, Answer}
 use Rattle.senders.specs.Message.{isData}

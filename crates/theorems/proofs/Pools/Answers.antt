@@ -20,7 +20,8 @@ use Rattle.models.specs.declared.jit.PoolingMode.{PoolingMode}
 use Rattle.models.specs.declared.jit.PoolingMode.the-variants.{Block, Stop, Ignore}
 use Rattle.models.specs.Lists.{member, without, first}
 use Rattle.models.specs.ChannelList.{listRule, present}
-use Rattle.models.specs.Pool.{Place, State, Held, emptyPool, poolOf, pool, found, withPool, withKey, behind, freedIn, freed, forgotten, heldAt, oldestOf, oldest, room, madeRoom, roomBy, roomFor, Press, accepted, rejected, pressedOn, pressed, isHeld, unlessHeld, registerRule}
+use Rattle.models.specs.Places.{Place, isHeld}
+use Rattle.models.specs.Pool.{State, Held, emptyPool, poolOf, pool, found, withPool, withKey, behind, freedIn, freed, forgotten, heldAt, oldestOf, oldest, room, madeRoom, roomBy, roomFor, Press, accepted, rejected, pressedOn, pressed, unlessHeld, registerRule}
 use Rattle.theorems.specs.PoolCalls.{Call, times}
 use Rattle.models.proofs.Pools.{pool-small, released-found, made-none, pressed-free, pressed-none}
 use Rattle.theorems.proofs.Pools.Occurrences.{times-cons, times-same}

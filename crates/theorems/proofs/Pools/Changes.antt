@@ -13,7 +13,8 @@ use lib.Seq.{getD-set-same, getD-set-other}
 use Rattle.models.specs.declared.jit.PoolingMode.{PoolingMode}
 use Rattle.models.specs.declared.jit.PoolingMode.the-variants.{Block, Stop, Ignore}
 use Rattle.models.specs.Lists.{member, without, first}
-use Rattle.models.specs.Pool.{keyCount, Place, Pool, State, Held, poolOf, pool, found, withPool, withKey, behind, takenIn, taken, freedIn, freed, forgotten, released, oldest, madeRoom, roomBy, roomFor, pressedOn, pressed}
+use Rattle.models.specs.Places.{Place}
+use Rattle.models.specs.Pool.{keyCount, Pool, State, Held, poolOf, pool, found, withPool, withKey, behind, takenIn, taken, freedIn, freed, forgotten, released, oldest, madeRoom, roomBy, roomFor, pressedOn, pressed}
 use Rattle.theorems.specs.PoolCalls.{press, release, times, keysOn, standing}
 use Rattle.models.proofs.Queues.{behind-room}
 use Rattle.models.proofs.Pools.{pool-small, oldest-is, released-found, released-none, released-other}

@@ -17,7 +17,8 @@ use Rattle.models.specs.declared.jit.PoolGroupBy.{PoolGroupBy}
 use Rattle.models.specs.declared.jit.PoolingMode.{PoolingMode}
 use Rattle.models.specs.Lists.{upward}
 use Rattle.models.specs.ChannelList.{listRule, present}
-use Rattle.models.specs.Pool.{keyCount, Place, Pool, State, Held, emptyPool, poolCount, pool, found, fresh, openRule, released, releasedAll, stopped, pressed, isHeld, unlessHeld, registerRule, replied}
+use Rattle.models.specs.Places.{Place, isHeld}
+use Rattle.models.specs.Pool.{keyCount, Pool, State, Held, emptyPool, poolCount, pool, found, fresh, openRule, released, releasedAll, stopped, pressed, unlessHeld, registerRule, replied}
 use Rattle.models.specs.Block.{registerNoteRule}
 use Rattle.theorems.specs.PoolCalls.{Call, press, release, lookup, repitch, pressNote, stop, after, played, standing}
 use Rattle.models.proofs.ChannelLists.{Verdict, listed, offended, verdict, fine-listed, offence-refused, channels-few}

@@ -13,7 +13,8 @@ use lib.Dec.{leb}
 use borrow.Author.Tests.{leb-true, leb-false}
 use Rattle.models.specs.declared.jit.PoolGroupBy.{PoolGroupBy}
 use Rattle.models.specs.Lists.{upward, first}
-use Rattle.models.specs.Pool.{keyCount, Place, Pool, State, emptyPool, poolCount, poolOf, pool, found, behind}
+use Rattle.models.specs.Places.{Place}
+use Rattle.models.specs.Pool.{keyCount, Pool, State, emptyPool, poolCount, poolOf, pool, found, behind}
 use Rattle.theorems.specs.PoolCalls.{times, channelAt, keysOn, standing}
 use Rattle.models.proofs.Queues.{behind-room}
 use Rattle.models.proofs.Pools.{pool-small}

@@ -11,7 +11,8 @@ use Rattle.arithmetic.specs.Pitch.{isPitch, detuningOf}
 use Rattle.arithmetic.specs.Nearest.{nearestNote}
 use Rattle.theorems.proofs.Numbers.NearestDetuning.{nearest-close}
 use Rattle.arithmetic.proofs.Nearest.{nearest-detuning}
-use Rattle.models.specs.Pool.{State, Press, accepted, found, pressed, unlessHeld, registerRule, isHeld}
+use Rattle.models.specs.Places.{isHeld}
+use Rattle.models.specs.Pool.{State, Press, accepted, found, pressed, unlessHeld, registerRule}
 use Rattle.models.specs.Steps.{sentAs}
 use Rattle.theorems.specs.Bounds.{valueOf, StepBound}
 use Rattle.models.specs.declared.steps.TuningKind.{TuningKind}

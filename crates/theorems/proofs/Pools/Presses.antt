@@ -11,7 +11,8 @@ use lib.Ieee.{Float}
 use Rattle.arithmetic.specs.Outcome.{value}
 use Rattle.arithmetic.specs.Pitch.{isPitch, detuningOf}
 use Rattle.arithmetic.specs.Nearest.{nearestNote}
-use Rattle.models.specs.Pool.{State, Place, Press, accepted, found, pressed, unlessHeld, registerRule, tuning, repitchRule, isHeld}
+use Rattle.models.specs.Places.{Place, isHeld}
+use Rattle.models.specs.Pool.{State, Press, accepted, found, pressed, unlessHeld, registerRule, tuning, repitchRule}
 use Rattle.theorems.specs.PoolCalls.{Call}
 use Rattle.models.specs.declared.jit.PoolGroupBy.{PoolGroupBy}
 use Rattle.models.specs.declared.jit.PoolingMode.{PoolingMode}

@@ -16,7 +16,8 @@ use Rattle.arithmetic.proofs.Outcomes.{no-value, refuses-once, refuses-twice}
 use Rattle.models.specs.declared.jit.PoolGroupBy.{PoolGroupBy}
 use Rattle.models.specs.declared.jit.PoolingMode.{PoolingMode}
 use Rattle.models.specs.ChannelList.{present}
-use Rattle.models.specs.Pool.{State, found, fresh, openRule, pressed, isHeld, unlessHeld, registerRule, replied, tuning, repitchRule}
+use Rattle.models.specs.Places.{isHeld}
+use Rattle.models.specs.Pool.{State, found, fresh, openRule, pressed, unlessHeld, registerRule, replied, tuning, repitchRule}
 use Rattle.models.specs.Block.{registerNoteRule}
 use Rattle.models.proofs.ChannelLists.{Offence}
 use Rattle.theorems.proofs.ChannelLists.{refused-offence, refused-numbers}

@@ -15,7 +15,8 @@ use Rattle.models.specs.declared.jit.PoolingMode.{PoolingMode}
 use Rattle.models.specs.declared.jit.PoolingMode.the-variants.{Block, Stop, Ignore}
 use Rattle.models.specs.Lists.{first}
 use Rattle.models.specs.ChannelList.{listRule, present}
-use Rattle.models.specs.Pool.{Place, State, Held, pool, found, fresh, openRule, withPool, withKey, taken, freed, forgotten, released, releasedFrom, releasedAll, stopped, oldest, Room, madeRoom, roomBy, roomFor, pressedOn, pressed, isHeld, unlessHeld, registerRule, replied}
+use Rattle.models.specs.Places.{Place, isHeld}
+use Rattle.models.specs.Pool.{State, Held, pool, found, fresh, openRule, withPool, withKey, taken, freed, forgotten, released, releasedFrom, releasedAll, stopped, oldest, Room, madeRoom, roomBy, roomFor, pressedOn, pressed, unlessHeld, registerRule, replied}
 use Rattle.models.specs.Block.{registerNoteRule}
 use Rattle.theorems.specs.PoolCalls.{Call, press, release, lookup, repitch, pressNote, stop, after, played}
 

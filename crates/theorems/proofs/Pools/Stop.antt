@@ -8,7 +8,8 @@ use native.Mathlib.Nat.{sub-zero}
 use lib.ListN.{length, getD}
 use Rattle.models.specs.declared.jit.PoolGroupBy.{PoolGroupBy}
 use Rattle.models.specs.declared.jit.PoolingMode.{PoolingMode}
-use Rattle.models.specs.Pool.{Place, Pool, State, Held, emptyPool, poolCount, found, withPool, withKey, freed, forgotten, released, releasedAll, heldFrom, heldKeys, stopped}
+use Rattle.models.specs.Places.{Place}
+use Rattle.models.specs.Pool.{Pool, State, Held, emptyPool, poolCount, found, withPool, withKey, freed, forgotten, released, releasedAll, heldFrom, heldKeys, stopped}
 use Rattle.theorems.specs.PoolCalls.{Call, times, keysOn, standing, stop, after}
 use Rattle.theorems.proofs.Pools.Occurrences.{times-cons, times-same, times-range, either}
 use Rattle.models.proofs.Pools.{released-found, released-none, released-other}

@@ -11,7 +11,7 @@ use lib.ListN.{take, getElem?}
 use borrow.Author.Tests.{lt-ltb, ltb-true}
 use Rattle.models.specs.Outcome.{value}
 use Rattle.models.specs.ChannelList.{entries}
-use Rattle.models.specs.Pool.{Place}
+use Rattle.models.specs.Places.{Place}
 use Rattle.models.specs.declared.channels.ChannelList.{ChannelList}
 use Rattle.models.specs.declared.steps.TuningKind.{TuningKind}
 use Rattle.senders.specs.Lent.{Answers, sent}

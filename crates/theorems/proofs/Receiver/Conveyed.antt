@@ -9,7 +9,7 @@ use lib.IntN.{ℤ}
 use lib.ListN.{length, take, getD, getElem?}
 use Rattle.models.specs.Outcome.{Outcome, value}
 use Rattle.models.specs.ChannelList.{entries}
-use Rattle.models.specs.Pool.{Place}
+use Rattle.models.specs.Places.{Place}
 use Rattle.models.specs.Steps.{InSteps}
 use Rattle.models.specs.declared.channels.ChannelList.{ChannelList}
 use Rattle.models.specs.declared.steps.Tuning.{Tuning}

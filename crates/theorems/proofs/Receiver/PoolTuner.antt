@@ -15,11 +15,12 @@ use borrow.Author.Tests.{lt-ltb, ltb-true, eq-eqb}
 use Rattle.arithmetic.specs.Nearest.{nearestNote}
 use Rattle.arithmetic.specs.Pitch.{detuningOf}
 use Rattle.models.specs.Outcome.{Outcome, value}
-use Rattle.models.specs.Pool.{State as Pools, Place, Held, accepted, found, registerRule, repitchRule, heldFrom, heldKeys}
+use Rattle.models.specs.Places.{Place, channelOf}
+use Rattle.models.specs.Pool.{State as Pools, Held, accepted, found, registerRule, repitchRule, heldFrom, heldKeys}
 use Rattle.models.specs.Steps.{sentAs}
 use Rattle.theorems.specs.Bounds.{valueOf, StepBound}
 use Rattle.models.specs.ChannelList.{entries}
-use Rattle.models.specs.Block.{settings, queueOf, queueAt, channelOf, channelsAt, stateOf, stateWith}
+use Rattle.models.specs.Block.{settings, queueOf, queueAt, channelsAt, stateOf, stateWith}
 use Rattle.models.specs.declared.channels.ChannelList.{ChannelList}
 use Rattle.models.proofs.ChannelLists.{number, Low, digits-number}
 use Rattle.theorems.proofs.Pools.Pitches.{press-pitch, press-law}

@@ -12,7 +12,8 @@ use lib.Ieee.{Float}
 use lib.ListN.{length, getElem?}
 use Rattle.models.specs.Outcome.{Outcome, value, refused}
 use Rattle.models.specs.ChannelList.{listRule, present}
-use Rattle.models.specs.Pool.{keyCount, State, Place, Press, accepted, found, stopped, registerRule, replied}
+use Rattle.models.specs.Places.{Place}
+use Rattle.models.specs.Pool.{keyCount, State, Press, accepted, found, stopped, registerRule, replied}
 use Rattle.theorems.specs.PoolCalls as recital
 use Rattle.models.specs.declared.steps.TuningKind.{TuningKind}
 use Rattle.models.specs.declared.jit.PoolingMode.{PoolingMode}

@@ -15,7 +15,7 @@ use Rattle.models.specs.Outcome.{Outcome, value, refused}
 use Rattle.models.specs.ChannelList.{listRule, present}
 use Rattle.models.specs.Lists.{Each}
 use Rattle.models.specs.Line.{Line, group}
-use Rattle.models.specs.Pool.{Place}
+use Rattle.models.specs.Places.{Place}
 use Rattle.models.specs.AotModel as M
 use Rattle.models.specs.AotModel.{Model, planned, openRule}
 use Rattle.models.specs.PlanInside.{Accepted}

@@ -15,7 +15,8 @@ use lib.Ieee.Positive.{positive}
 use Rattle.models.specs.Outcome.{Outcome, value, refused, refuse_unless_then_}
 use Rattle.models.specs.Refusal.{channelOver15, bufferTooShort}
 use Rattle.models.specs.AotModel.{Model, untuned, planned}
-use Rattle.models.specs.Pool.{State, Place, Press, rejected, fresh, found, registerRule, repitchRule}
+use Rattle.models.specs.Places.{Place}
+use Rattle.models.specs.Pool.{State, Press, rejected, fresh, found, registerRule, repitchRule}
 use Rattle.models.specs.Steps.{sentAs, tuningRule}
 use Rattle.models.specs.declared.steps.Tuning.{Tuning}
 use Rattle.models.specs.declared.steps.TuningKind.{TuningKind}

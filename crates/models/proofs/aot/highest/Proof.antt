@@ -15,7 +15,7 @@ use Rattle.arithmetic.specs.Note.{isNote}
 use Rattle.arithmetic.proofs.Notes.{note-fits}
 use Rattle.models.specs.declared.aot.GroupBy.{GroupBy}
 use Rattle.models.specs.Line.{group}
-use Rattle.models.specs.Block.{noteOf}
+use Rattle.models.specs.Places.{noteOf}
 use Rattle.models.specs.PlanLists.{keyCount}
 use Rattle.models.specs.AotModel.{KeyRecord, counts, detuningAnswer, highest, isIn, larger, nobody, recordOf, recordsOf}
 use Rattle.models.proofs.Slots.{group-note}

@@ -12,7 +12,7 @@ use borrow.Author.Tests.{not-true, not-false}
 use Rattle.arithmetic.specs.Note.{isNote}
 use Rattle.arithmetic.proofs.Notes.{note-fits}
 use Rattle.models.specs.Line.{group}
-use Rattle.models.specs.Block.{noteOf}
+use Rattle.models.specs.Places.{noteOf}
 use Rattle.models.specs.AotModel.{isIn, recordOf}
 use Rattle.models.specs.PlanInside.{lower}
 use Rattle.models.proofs.Slots.{group-note}

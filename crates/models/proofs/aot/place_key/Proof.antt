@@ -14,9 +14,9 @@ use mir.Facts.{toZ-ofZ}
 use Rattle.arithmetic.specs.Note.{isNote}
 use Rattle.arithmetic.proofs.Notes.{note-fits}
 use Rattle.models.specs.Line.{group}
-use Rattle.models.specs.Block.{noteOf, channelOf}
+use Rattle.models.specs.Places.{noteOf, channelOf, placeOf, cellOf}
 use Rattle.models.specs.PlanInside.{channelsWith, slotOf}
-use Rattle.models.proofs.RecordNumbers.{note-read}
+use Rattle.models.proofs.RecordNumbers.{note-read, place-cell}
 use Rattle.models.proofs.Slots.{group-note, slot-below}
 use Rattle.models.proofs.Pass.{some-channel}
 use borrow.Author.Needs.{needs}
@@ -99,7 +99,7 @@ cast-channel : tie.Need-cast-channel
 cast-channel c = search needs
 
 record-of-requires : tie.Need-record-of-requires
-record-of-requires c κs = (rw (read (c .before .before .before .before .before)) (s (c .before .before .before) .pre .4), mod-lt (c .with-key .result .used - 1) {m = 16} (omega arith))
+record-of-requires c κs = search needs
 
 mul-records : tie.Need-mul-records
 mul-records c = search needs
@@ -127,7 +127,9 @@ returns c =
       latest-is = ap (λ (j : ℕ). set (a .latest .now) j (w .result .latest)) (slot-at e) ∙ ap (λ (d : Float). set (a .latest .now) (slotOf (group (a .by) (noteAt (s e)))) d) (w .ensures .1);
       cell = c .record-of .result;
       cells-are = refl;
-      cell-is = c .record-of .ensures ∙ ap (λ (z : ℤ). some (record { channel = channelOf (w .result .used - 1); note = z })) (read (c .before .before .before .before .before .before));
+      cell-is =
+          ap placeOf (c .record-of .ensures ∙ ap (λ (z : ℤ). cellOf z (channelOf (w .result .used - 1))) (read (c .before .before .before .before .before .before)))
+          ∙ place-cell (noteAt (s e)) (s e .pre .4) (channelOf (w .result .used - 1)) (mod-lt (w .result .used - 1) {m = 16} (omega arith));
     }
 
 pub place-key-spec : {M : Type 1} → statement M

@@ -9,9 +9,10 @@ use mir.Val.{toZ, ofZ}
 use Rattle.arithmetic.specs.Answers.{ratioAnswer}
 use Rattle.arithmetic.specs.Note.{isNote}
 use Rattle.arithmetic.specs.Pitch.{isPitch, detuningRule}
-use Rattle.models.specs.Pool.{Place, found, repitchRule, tuning}
+use Rattle.models.specs.Places.{Place, place}
+use Rattle.models.specs.Pool.{found, repitchRule, tuning}
 use Rattle.models.specs.Block.{stateOf}
-use Rattle.models.specs.JitModel.{place, repitched}
+use Rattle.models.specs.JitModel.{repitched}
 use Rattle.models.proofs.Pools.{not-true, not-false, detuning-is, detuning-not}
 use Rattle.models.proofs.Blocks.{found-note}
 use Rattle.models.proofs.block.repitch_key.Statement.{statement}

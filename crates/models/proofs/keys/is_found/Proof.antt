@@ -4,7 +4,7 @@ use lib.IntN.{ℤ}
 use mir.Syntax.{w32}
 use mir.Val.{toZ, ofZ}
 use Rattle.arithmetic.specs.Note.{isNote}
-use Rattle.models.specs.Block.{noteOf}
+use Rattle.models.specs.Places.{noteOf}
 use Rattle.models.proofs.RecordNumbers.{note-read, place-held}
 use borrow.Author.Needs.{needs}
 use Rattle.models.proofs.keys.is_found.Statement.{statement}

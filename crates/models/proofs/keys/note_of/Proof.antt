@@ -7,7 +7,7 @@ use lib.IntN.{pos}
 use mir.Facts.{toZ-ofZ, toZ-pos}
 use mir.Syntax.{w32}
 use mir.Val.{toZ}
-use Rattle.models.specs.Block.{noteOf}
+use Rattle.models.specs.Places.{noteOf}
 use Rattle.models.proofs.RecordNumbers.{note-small}
 use borrow.Author.Needs.{needs}
 use Rattle.models.proofs.keys.note_of.Statement.{statement}

@@ -12,8 +12,8 @@ use Rattle.models.proofs.SettingsCells.{put-kept, put-channels, put-gro
 use Rattle.models.proofs.settings.put_settings.Statement.{statement}
 use Rattle.models.proofs.settings.put_settings.Tie as tie
 
-put-requires : tie.Need-put-requires
-put-requires c κs = search needs
+put-list-requires : tie.Need-put-list-requires
+put-list-requires c κs = search needs
 
 group-number-requires : tie.Need-group-number-requires
 group-number-requires c κs = search needs
@@ -26,16 +26,16 @@ mode-number-requires c κs = search needs
 
 slice-write-cells-2 : tie.Need-slice-write-cells-2
 slice-write-cells-2 c =
-    let put = c .before .before .before .before .put in
-    omega (arith, c .before .before .before .before .before .before .before .pre, put .ensures .0 .long, length-set (put .last .1 .0) (settings + 17) (c .before .group-number .result))
+    let put = c .before .before .before .before .put-list in
+    omega (arith, c .before .before .before .before .before .before .before .pre, put .ensures .0 .long, length-set (put .last .0) (settings + 17) (c .before .group-number .result))
 
 kind-number-requires : tie.Need-kind-number-requires
 kind-number-requires c κs = search needs
 
 slice-write-cells-3 : tie.Need-slice-write-cells-3
 slice-write-cells-3 c =
-    let put = c .before .before .before .before .before .put in
-    let l = put .last .1 .0 in
+    let put = c .before .before .before .before .before .put-list in
+    let l = put .last .0 in
     let g = c .before .before .group-number .result in
     omega (arith, c .before .before .before .before .before .before .before .before .pre, put .ensures .0 .long, length-set l (settings + 17) g, length-set (set l (settings + 17) g) (settings + 18) (c .before .mode-number .result))
 
@@ -46,8 +46,8 @@ returns : tie.Need-returns
 returns c =
     let start = c .before .before .before .before .before .before .before .before in
     let a = start .args in
-    let put = c .before .before .before .before .before .put in
-    let l = put .last .1 .0 in
+    let put = c .before .before .before .before .before .put-list in
+    let l = put .last .0 in
     let g = c .before .before .group-number .result in
     let m = c .before .mode-number .result in
     let k = c .kind-number .result in
@@ -63,7 +63,7 @@ pub put-settings-spec : {M : Type 1} → statement M
 put-settings-spec =
     tie.close
     (tie.spec
-    put-requires
+    put-list-requires
     group-number-requires
     slice-write-cells
     mode-number-requires

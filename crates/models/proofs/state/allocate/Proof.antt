@@ -11,10 +11,10 @@ use mir.Val.{toZ, ofZ}
 use lib.ListN.{length, getD}
 use Rattle.arithmetic.specs.Note.{isNote}
 use Rattle.models.specs.Lists.{first}
-use Rattle.models.specs.Pool.{keyCount, poolOf, Place, found}
-use Rattle.models.specs.JitModel.{place}
+use Rattle.models.specs.Places.{Place, placeOf, place}
+use Rattle.models.specs.Pool.{keyCount, poolOf, found}
 use Rattle.models.specs.Block.{queueAt}
-use Rattle.models.specs.Block.{stateWith, placeOf}
+use Rattle.models.specs.Block.{stateWith}
 use Rattle.models.specs.PoolInternal.{stolenBy, Allocates}
 use Rattle.models.proofs.RecordNumbers.{place-sound}
 use Rattle.models.proofs.Blocks.{key-here}

@@ -6,7 +6,8 @@ use mir.Facts.{toZ-ofZ}
 use mir.Syntax.{w32}
 use mir.Val.{toZ, ofZ}
 use Rattle.arithmetic.specs.Outcome.{value}
-use Rattle.models.specs.Pool.{State, found, isHeld}
+use Rattle.models.specs.Places.{isHeld}
+use Rattle.models.specs.Pool.{State, found}
 use Rattle.models.specs.Block.{channelsAt, stateWith, stateOf}
 use Rattle.models.specs.PoolInternal.{Allocates, answered, committed}
 use Rattle.models.specs.JitModel.{press}

@@ -10,10 +10,10 @@ use mir.Syntax.{w32}
 use mir.Val.{toZ, ofZ}
 use lib.ListN.{getD}
 use Rattle.arithmetic.specs.Note.{isNote}
-use Rattle.models.specs.Pool.{Place, State, found, freed, forgotten}
+use Rattle.models.specs.Places.{Place, place}
+use Rattle.models.specs.Pool.{State, found, freed, forgotten}
 use Rattle.models.specs.Block.{settings, channelsAt, modeOf, stateWith, stateOf}
 use Rattle.models.specs.PoolInternal.{forgottenIf}
-use Rattle.models.specs.JitModel.{place}
 use Rattle.models.proofs.Pools.{released-found, released-none}
 use Rattle.models.proofs.Regions.{kept-then}
 use Rattle.models.proofs.Blocks.{place-at-sound, kind-kept, state-before, state-after}

@@ -1,12 +1,13 @@
 -- `state::take` meets its contract. Assumes nothing.
 use mathlib.Core.Path.{_≡_, ap, _∙_}
-use mathlib.Core.Option.{some}
 use native.Mathlib.Omega.{arith}
 use mir.Facts.{toZ-ofZ}
 use Prim.Native.Nat.{_+_, _*_}
 use Rattle.models.specs.Pool.{keyCount, poolOf}
 use Rattle.models.specs.Block.{settings}
 use Rattle.models.proofs.Regions.{kept-then, kept-wider, kept-set}
+use Rattle.models.specs.Places.{placeOf, cellOf}
+use Rattle.models.proofs.RecordNumbers.{place-cell}
 use Rattle.models.proofs.Blocks.{view-taken}
 use borrow.Author.Needs.{needs}
 use Rattle.models.proofs.state.take.Statement.{statement}
@@ -38,7 +39,7 @@ returns c =
     let f = c .before .before .before .take-front in
     let plain = toZ-ofZ (start .fits .note) in
     let at = pool-at .ensures .0 ∙ ap (λ z. keyCount + poolOf (a .group) z * 34) plain in
-    let cell = c .record-of .ensures ∙ ap (λ z. some (record { channel = a .channel; note = z })) plain in (
+    let cell = ap placeOf (c .record-of .ensures ∙ ap (λ z. cellOf z (a .channel)) plain) ∙ place-cell (a .note) (start .pre .1) (a .channel) (start .pre .2) in (
       kept-then
           (kept-wider (f .ensures .0) 0 settings (omega arith) (omega (arith, pool-at .ensures .1)))
           (kept-set 0 settings (f .last .0) (a .key) (c .record-of .result) (omega arith) (omega (arith, start .pre .3))),

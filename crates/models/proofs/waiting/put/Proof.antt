@@ -1,10 +1,11 @@
 -- `models::waiting::put` meets its contract: the key goes to its place, its note and detuning to theirs. Assumes nothing.
 use mathlib.Core.Path.{_≡_, ap, _∙_}
-use mathlib.Core.Option.{some}
 use lib.ListN.{take, length-set}
 use mir.Facts.{toZ-ofZ}
 use mir.Syntax.{w32}
 use mir.Val.{toZ, ofZ}
+use Rattle.models.specs.Places.{placeOf, cellOf}
+use Rattle.models.proofs.RecordNumbers.{place-cell}
 use Rattle.models.proofs.Waits.{rises-kept, holds-more}
 use borrow.Author.Needs.{needs}
 use Rattle.models.proofs.waiting.put.Statement.{statement}
@@ -48,7 +49,7 @@ returns c lines h ok new =
     let cell = c .before .before .before .before .before .record-of in
     let note : toZ w32 (ofZ w32 (a .note)) ≡ a .note = toZ-ofZ (s .fits .note) in
     holds-more (a .order .now) (c .before .before .insert .last .0) (a .records .now) (a .by-key .now) (a .n) (cell .result) (record { key = a .key; note = a .note; detuning = a .detuning }) lines h ok new
-    (s .pre .3 .byte) (s .pre .5) (cell .ensures ∙ ap (λ z. some (record { channel = 0; note = z })) note) (search needs) (c .before .before .insert .ensures)
+    (s .pre .3 .byte) (s .pre .5) (ap placeOf (cell .ensures ∙ ap (λ z. cellOf z 0) note) ∙ place-cell (a .note) (s .pre .4) 0 (search needs)) (search needs) (c .before .before .insert .ensures)
 
 pub put-spec : {M : Type 1} → statement M
 put-spec =

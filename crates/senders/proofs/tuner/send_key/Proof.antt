@@ -5,7 +5,7 @@ use mir.Val.{toZ, ofZ}
 use mir.Facts.{toZ-ofZ}
 use native.Mathlib.Omega.{arith}
 use Rattle.models.specs.ChannelList.{entries}
-use Rattle.models.specs.JitModel.{place}
+use Rattle.models.specs.Places.{place}
 use Rattle.senders.proofs.Channels.{key-size}
 use Rattle.senders.proofs.Lent.{ends-short, ends-counted, put-none}
 use borrow.Author.Needs.{needs}

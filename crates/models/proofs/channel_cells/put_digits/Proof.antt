@@ -1,4 +1,4 @@
--- `channels::put_digits` meets its contract. The loop's invariant: i digits are put, and the others are those of `rest`. Assumes nothing.
+-- `channel_cells::put_digits` meets its contract. The loop's invariant: i digits are put, and the others are those of `rest`. Assumes nothing.
 use Prim.Native.Nat.{ℕ, suc, _+_, _-_, _≤_, _/_, _%_}
 use mathlib.Core.Path.{_≡_, refl, sym, ap, _∙_}
 use mathlib.Core.List.{List, [], _∷_, _++_, append-assoc, append-nil}
@@ -7,8 +7,8 @@ use lib.ListN.{length, take, drop}
 use Rattle.models.specs.ChannelList.{digits}
 use Rattle.models.specs.PoolInternal.{Kept}
 use Rattle.models.proofs.Regions.{kept-same, kept-then, kept-wider, kept-set, put}
-use Rattle.models.proofs.channels.put_digits.Statement.{statement}
-use Rattle.models.proofs.channels.put_digits.Tie as tie
+use Rattle.models.proofs.channel_cells.put_digits.Statement.{statement}
+use Rattle.models.proofs.channel_cells.put_digits.Tie as tie
 
 digits-next : (n i rest : ℕ) → i + 1 ≤ n → digits (n - i) rest ≡ rest % 16 ∷ digits (n - (i + 1)) (rest / 16)
 unfolding digits

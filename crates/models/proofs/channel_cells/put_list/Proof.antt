@@ -1,4 +1,4 @@
--- `channels::ChannelList::put` meets its contract: the digits, and how many there are. Assumes nothing.
+-- `channel_cells::put_list` meets its contract: the digits, and how many there are. Assumes nothing.
 use mathlib.Core.Path.{_≡_, sym, ap, _∙_}
 use Prim.Native.Nat.{ℕ, _+_, min}
 use native.Mathlib.Omega.{arith}
@@ -7,8 +7,8 @@ use Rattle.models.specs.ChannelList.{entries, digits}
 use Rattle.models.proofs.ChannelLists.{entries-few, length-digits}
 use Rattle.models.proofs.Regions.{kept-then, kept-wider, kept-set, queue-counted}
 use borrow.Author.Needs.{needs}
-use Rattle.models.proofs.channels.ChannelList.put.Statement.{statement}
-use Rattle.models.proofs.channels.ChannelList.put.Tie as tie
+use Rattle.models.proofs.channel_cells.put_list.Statement.{statement}
+use Rattle.models.proofs.channel_cells.put_list.Tie as tie
 
 len-requires : tie.Need-len-requires
 len-requires c κs = search needs
@@ -20,7 +20,7 @@ cast-put-digits : tie.Need-cast-put-digits
 cast-put-digits c = search needs
 
 put-digits-requires : tie.Need-put-digits-requires
-put-digits-requires c κs = omega (arith, c .before .before .before .pre, c .before .len .ensures, entries-few (c .before .before .before .args .self))
+put-digits-requires c κs = omega (arith, c .before .before .before .pre, c .before .len .ensures, entries-few (c .before .before .before .args .list))
 
 cast-cells : tie.Need-cast-cells
 cast-cells c = search needs
@@ -41,18 +41,18 @@ returns c =
     let a = start .args in
     let n = c .before .before .before .before .len .result in
     let put = c .before .before .put-digits in
-    let few = entries-few (a .self) in
-    let counted : n ≡ min (a .self .count) 16 = c .before .before .before .before .len .ensures ∙ length-digits (min (a .self .count) 16) (a .self .digits) in (
+    let few = entries-few (a .list) in
+    let counted : n ≡ min (a .list .count) 16 = c .before .before .before .before .len .ensures ∙ length-digits (min (a .list .count) 16) (a .list .digits) in (
       kept-then
           (kept-wider (put .ensures .0) (a .at) 17 (omega arith) (omega (arith, c .before .before .before .before .len .ensures)))
           (kept-set (a .at) 17 (put .last .0) (a .at) n (omega arith) (omega arith)),
       queue-counted (put .last .0) (a .at) (omega (arith, start .pre, put .ensures .0 .long)) n (omega (arith, c .before .before .before .before .len .ensures))
           ∙ put .ensures .1
-          ∙ ap (λ (k : ℕ). digits k (a .self .digits)) counted,
+          ∙ ap (λ (k : ℕ). digits k (a .list .digits)) counted,
     )
 
-pub put-spec : {M : Type 1} → statement M
-put-spec =
+pub put-list-spec : {M : Type 1} → statement M
+put-list-spec =
     tie.close
     (tie.spec
     len-requires

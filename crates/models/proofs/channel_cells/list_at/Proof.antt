@@ -1,4 +1,4 @@
--- `channels::list_at` meets its contract. The loop's invariant: the number has the digits of the items from i on. Assumes nothing.
+-- `channel_cells::list_at` meets its contract. The loop's invariant: the number has the digits of the items from i on. Assumes nothing.
 use Prim.Native.Nat.{ℕ, min, _≤_, _<_, _-_, _*_, _+_, _^_, _%_}
 use mathlib.Core.Path.{_≡_, sym, ap, _∙_}
 use mathlib.Core.List.{List, map}
@@ -6,12 +6,12 @@ use native.Mathlib.Omega.{arith}
 use lib.ListN.{length, getD, take, drop, length-drop, length-map}
 use lib.Seq.{drop-length, getD-take, getD-drop}
 use Rattle.models.specs.ChannelList.{entries}
-use Rattle.models.specs.Block.{channelOf}
+use Rattle.models.specs.Places.{channelOf}
 use Rattle.models.proofs.ChannelLists.{number, number-word, Low, low-drop, number-turn, digits-number}
 use Rattle.models.proofs.Regions.{length-part}
 use Rattle.models.proofs.Blocks.{getD-map-below}
-use Rattle.models.proofs.channels.list_at.Statement.{statement}
-use Rattle.models.proofs.channels.list_at.Tie as tie
+use Rattle.models.proofs.channel_cells.list_at.Statement.{statement}
+use Rattle.models.proofs.channel_cells.list_at.Tie as tie
 
 -- the items, each read as a channel
 abbrev items : List ℕ → ℕ → ℕ → List ℕ
