@@ -8,25 +8,6 @@ ghost use Rattle.lines.specs.Show.{bytesLine, refusalLine, hexDigit};
 use models::refusal::BUFFER_TOO_SHORT;
 use senders::midi::Sent;
 
-const HEX_DIGITS: [u8; 16] = [
-    b'0',
-    b'1',
-    b'2',
-    b'3',
-    b'4',
-    b'5',
-    b'6',
-    b'7',
-    b'8',
-    b'9',
-    b'A',
-    b'B',
-    b'C',
-    b'D',
-    b'E',
-    b'F',
-];
-
 // The line of bytes that are sent. Refuses 10.
 pub(crate) fn show_bytes(bytes: &[u8], out: &mut [u8]) -> Sent
     ensures { λ r. ⌜ Answers (sent (bytesLine (now (bytes .entry)))) (now (out .entry)) (sentAnswer r) (now (out .exit)) ⌝ }
@@ -97,6 +78,5 @@ fn hex_digit(d: u8) -> u8
     requires { ⌜ d < 16 ⌝ }
     ensures { λ r. ⌜ r ≡ hexDigit d ⌝ }
 {
-    let at = d as usize;
-    HEX_DIGITS[at]
+    if d < 10 { b'0' + d } else { b'A' + (d - 10) }
 }
