@@ -8,7 +8,7 @@ use native.Mathlib.Omega.{arith}
 use lib.IntN.{ℤ}
 use lib.Ieee.{Float}
 use lib.ListN.{length, getD, drop}
-use lib.Seq.{getD-set-other}
+use lib.Seq.{getD-set-other, drop-set-lt}
 use Rattle.arithmetic.specs.Outcome.{Outcome, value, refused, refuse_unless_then_}
 use Rattle.arithmetic.specs.Refusal.{pitchOutOfRange, noteOutOfRange}
 use Rattle.arithmetic.specs.Note.{isNote, letterOf, letterRule}
@@ -19,12 +19,12 @@ use Rattle.arithmetic.proofs.Notes.{letter-below}
 use Rattle.arithmetic.proofs.Refusals.{letter-refuses, detuning-refuses}
 use Rattle.models.specs.Lists.{first}
 use Rattle.models.specs.Places.{Place}
-use Rattle.models.specs.Pool.{State, Held, poolCount, poolOf, pool, found, withPool, withKey, freed, forgotten, released, releasedFrom, releasedAll, heldAt, oldestOf, oldest, Room, room, madeRoom, roomFor, accepted, rejected, taken, pressed, pressedOn, heldFrom, unlessHeld, registerRule}
+use Rattle.models.specs.Pool.{State, Held, poolCount, poolOf, pool, found, withPool, withKey, freed, forgotten, released, releasedFrom, releasedAll, heldAt, oldestOf, oldest, Room, room, madeRoom, roomFor, accepted, rejected, taken, pressed, pressedOn, heldFrom, heldKeys, unlessHeld, registerRule}
 use Rattle.models.specs.declared.jit.PoolGroupBy.{PoolGroupBy}
 use Rattle.models.specs.declared.jit.PoolGroupBy.the-variants.{NoteLetter, Channel}
 use Rattle.models.specs.declared.jit.PoolingMode.{PoolingMode}
 use Rattle.models.specs.declared.jit.PoolingMode.the-variants.{Block, Stop, Ignore}
-use Rattle.models.proofs.HeldKeys.{held-here, held-not}
+use Rattle.models.proofs.HeldKeys.{Met}
 
 -- ---- what a call's value says of a rule
 
@@ -107,16 +107,20 @@ pub released-found : (s : State) (key : ℕ) (p : Place) → found s key ≡ som
 unfolding released releasedFrom
 released-found s key p e = rw e
 
--- one key more is released of all that are to be
-pub stop-turn : (s t : State) (key : ℕ) → key < length (s .keys) → found t key ≡ found s key
-    → releasedAll t (heldFrom key (drop key (s .keys))) ≡ releasedAll (released t key) (heldFrom (key + 1) (drop (key + 1) (s .keys)))
-unfolding releasedAll found
-stop-turn s t key h e = go (found s key) refl
+-- the found keys behind a released one stay
+held-behind : (s : State) (key from : ℕ) → key < from → heldKeys (released s key) from ≡ heldKeys s from
+unfolding heldKeys released releasedFrom forgotten freed withKey withPool
+held-behind s key from h = go (found s key)
   where
-    go : (p : Option Place) → getD (s .keys) key none ≡ p
-        → releasedAll t (heldFrom key (drop key (s .keys))) ≡ releasedAll (released t key) (heldFrom (key + 1) (drop (key + 1) (s .keys)))
-    go (some p) f = rw (held-here (s .keys) key p h f)
-    go none f = ap (releasedAll t) (held-not (s .keys) key h f) ∙ ap (λ (u : State). releasedAll u (heldFrom (key + 1) (drop (key + 1) (s .keys)))) (sym (released-none t key (e ∙ f)))
+    go : (p : Option Place) → heldFrom from (drop from (releasedFrom p s key .keys)) ≡ heldFrom from (drop from (s .keys))
+    go (some p) = ap (heldFrom from) (drop-set-lt from (s .keys) key none h)
+    go none = refl
+
+-- the next found key is released of all that are to be
+pub stop-turn : (s : State) (from : ℕ) (h : Held) → Met s from h
+    → releasedAll s (heldKeys s from) ≡ releasedAll (released s (h .key)) (heldKeys (released s (h .key)) (h .key + 1))
+unfolding releasedAll
+stop-turn s from h met = ap (releasedAll s) (met .left) ∙ ap (releasedAll (released s (h .key))) (sym (held-behind s (h .key) (h .key + 1) (omega arith)))
 
 -- ---- a test that is turned round
 

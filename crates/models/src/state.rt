@@ -146,11 +146,18 @@ pub(crate) fn release_all(cells: &mut [u16])
     requires { ⌜ length (now cells) ≡ cellCount ⌝ }
     ensures { λ r. ⌜ (stateOf (now (cells .exit)) ≡ stopped (stateOf (now (cells .entry)))) × (kindAt (now (cells .exit)) ≡ kindAt (now (cells .entry))) ⌝ }
 {
-    let mut key: usize = 0;
-    while key < KEYS {
-        let low = key as u16;
-        release(cells, low);
-        key += 1;
+    let mut from: usize = 0;
+    while from < KEYS {
+        let NextKey::Held {
+            key,
+            channel: _,
+            note: _,
+        } = next(cells, from)
+        else {
+            return;
+        };
+        release(cells, key);
+        from = key as usize + 1;
     }
 }
 
