@@ -10,10 +10,10 @@ use lib.ListN.{length}
 use Rattle.arithmetic.specs.Outcome.{Outcome, value, refused}
 use Rattle.models.specs.Places.{Place}
 use Rattle.models.specs.Pool.{State, Press, accepted, rejected, found, released, registerRule, repitchRule, replied}
-use Rattle.models.specs.declared.jit.PoolGroupBy.{PoolGroupBy}
-use Rattle.models.specs.declared.jit.PoolGroupBy.the-variants.{NoteLetter, Channel}
-use Rattle.models.specs.declared.jit.PoolingMode.{PoolingMode}
-use Rattle.models.specs.declared.jit.PoolingMode.the-variants.{Block, Stop, Ignore}
+use Rattle.models.specs.declared.block.PoolGroupBy.{PoolGroupBy}
+use Rattle.models.specs.declared.block.PoolGroupBy.the-variants.{NoteLetter, Channel}
+use Rattle.models.specs.declared.block.PoolingMode.{PoolingMode}
+use Rattle.models.specs.declared.block.PoolingMode.the-variants.{Block, Stop, Ignore}
 use Rattle.exports.specs.Lent.{zeroFloat, byteAt, floatAt}
 use Rattle.exports.specs.declared.pool.Answer.{Answer}
 

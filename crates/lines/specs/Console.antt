@@ -5,7 +5,7 @@ use lib.IntN.{pos}
 use lib.Ieee.{Float, binary64, ofInt, div}
 use Rattle.models.specs.Outcome.{Outcome, value, refused}
 use Rattle.models.specs.declared.steps.TuningKind.the-variants.{FineTuning}
-use Rattle.models.specs.declared.jit.PoolingMode.the-variants.{Stop}
+use Rattle.models.specs.declared.block.PoolingMode.the-variants.{Stop}
 use Rattle.senders.specs.Lent.{Effect, sends}
 use Rattle.senders.specs.Jit.{Tuner, startRule, noteOnRule, noteOffRule, notePitchRule}
 use Rattle.lines.specs.Split.{feed, split}

@@ -15,7 +15,7 @@ use crate::show::show_bytes;
 use crate::show::show_refusal;
 use models::Pitch;
 use models::cells::CELLS;
-use models::jit::PoolingMode;
+use models::block::PoolingMode;
 use models::refusal::BUFFER_TOO_SHORT;
 use models::refusal::LINE_MALFORMED;
 use models::steps::TuningKind;

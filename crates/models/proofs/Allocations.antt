@@ -17,9 +17,9 @@ use Rattle.arithmetic.specs.Outcome.{Outcome, value, refused}
 use Rattle.models.specs.Lists.{first}
 use Rattle.models.specs.Places.{Place, isHeld, channelOf, placeOf}
 use Rattle.models.specs.Pool.{keyCount, Pool, State, Held, poolCount, poolOf, pool, found, heldAt, oldest, oldestOf, Press, pressed, unlessHeld, replied}
-use Rattle.models.specs.declared.jit.PoolGroupBy.{PoolGroupBy}
-use Rattle.models.specs.declared.jit.PoolingMode.{PoolingMode}
-use Rattle.models.specs.declared.jit.PoolingMode.the-variants.{Block, Stop, Ignore}
+use Rattle.models.specs.declared.block.PoolGroupBy.{PoolGroupBy}
+use Rattle.models.specs.declared.block.PoolingMode.{PoolingMode}
+use Rattle.models.specs.declared.block.PoolingMode.the-variants.{Block, Stop, Ignore}
 use Rattle.models.proofs.Pools.{pool-small}
 use Rattle.models.proofs.PressCases.{pressed-front, pressed-nobody, pressed-blocked, pressed-elsewhere, pressed-stopping, pressed-ignoring}
 use Rattle.models.specs.declared.state.Allocation as A

@@ -14,8 +14,8 @@ use Rattle.arithmetic.specs.Outcome.{Outcome, value, refused}
 use Rattle.models.specs.Lists.{member, without}
 use Rattle.models.specs.Places.{Place, noteOf, channelOf, placeOf}
 use Rattle.models.specs.Pool.{keyCount, Pool, State, poolCount, poolOf, pool, emptyPool, found, withPool, withKey, behind, takenIn, freedIn, freed, taken, forgotten, replied}
-use Rattle.models.specs.declared.jit.PoolGroupBy.{PoolGroupBy}
-use Rattle.models.specs.declared.jit.PoolingMode.{PoolingMode}
+use Rattle.models.specs.declared.block.PoolGroupBy.{PoolGroupBy}
+use Rattle.models.specs.declared.block.PoolingMode.{PoolingMode}
 use Rattle.models.proofs.Pools.{pool-small, pools-few}
 use Rattle.models.specs.Block.{settings, cellCount, queueAt, poolAt, poolsFrom, channelsAt, groupOf, modeOf, kindOf, kindAt, stateWith, stateOf, Moves}
 use Rattle.models.specs.PoolInternal.{Kept, SettingsKept}

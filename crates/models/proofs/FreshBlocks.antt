@@ -10,9 +10,9 @@ use lib.ListN.{length, take, drop, getD, set, replicate, replicate-append-replic
 use lib.Seq.{take-take}
 use Rattle.models.specs.Lists.{upward}
 use Rattle.models.specs.Pool.{keyCount, Pool, poolCount, fresh}
-use Rattle.models.specs.declared.jit.PoolGroupBy.{PoolGroupBy}
-use Rattle.models.specs.declared.jit.PoolGroupBy.the-variants.{NoteLetter, Channel}
-use Rattle.models.specs.declared.jit.PoolingMode.{PoolingMode}
+use Rattle.models.specs.declared.block.PoolGroupBy.{PoolGroupBy}
+use Rattle.models.specs.declared.block.PoolGroupBy.the-variants.{NoteLetter, Channel}
+use Rattle.models.specs.declared.block.PoolingMode.{PoolingMode}
 use Rattle.models.proofs.Queues.{take-range}
 use Rattle.models.specs.PoolInternal.{Kept}
 use Rattle.models.specs.Places.{noteOf, channelOf, placeOf}

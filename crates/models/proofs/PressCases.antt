@@ -12,8 +12,8 @@ use lib.ListN.{length, getD, drop}
 use lib.Seq.{getD-set-same, getD-set-other}
 use Rattle.models.specs.Lists.{first}
 use Rattle.models.specs.Pool.{Pool, State, Held, poolOf, emptyPool, pool, withPool, freed, freedIn, forgotten, withKey, behind, released, oldest, room, madeRoom, roomFor, roomBy, accepted, rejected, taken, pressed}
-use Rattle.models.specs.declared.jit.PoolingMode.{PoolingMode}
-use Rattle.models.specs.declared.jit.PoolingMode.the-variants.{Block, Stop, Ignore}
+use Rattle.models.specs.declared.block.PoolingMode.{PoolingMode}
+use Rattle.models.specs.declared.block.PoolingMode.the-variants.{Block, Stop, Ignore}
 use Rattle.models.proofs.ListLaws.{T→true, first-rest, first-none}
 use Rattle.models.proofs.Pools.{oldest-is, made-none, pressed-free, pressed-none, released-found}
 

@@ -15,10 +15,10 @@ use Rattle.arithmetic.specs.Outcome.{Outcome, value, refused, refuse_unless_the
 use Rattle.arithmetic.specs.Refusal.{noteOutOfRange}
 use Rattle.models.specs.Places.{channelOf, placeOf}
 use Rattle.models.specs.Pool.{keyCount, Pool, State, poolCount, Press, unlessHeld}
-use Rattle.models.specs.declared.jit.PoolGroupBy.{PoolGroupBy}
-use Rattle.models.specs.declared.jit.PoolGroupBy.the-variants.{NoteLetter, Channel}
-use Rattle.models.specs.declared.jit.PoolingMode.{PoolingMode}
-use Rattle.models.specs.declared.jit.PoolingMode.the-variants.{Block, Stop, Ignore}
+use Rattle.models.specs.declared.block.PoolGroupBy.{PoolGroupBy}
+use Rattle.models.specs.declared.block.PoolGroupBy.the-variants.{NoteLetter, Channel}
+use Rattle.models.specs.declared.block.PoolingMode.{PoolingMode}
+use Rattle.models.specs.declared.block.PoolingMode.the-variants.{Block, Stop, Ignore}
 use Rattle.models.specs.declared.steps.TuningKind.{TuningKind}
 use Rattle.models.specs.declared.steps.TuningKind.the-variants.{FineTuning, Bend}
 

@@ -9,6 +9,7 @@ pub mod Steps
 pub mod Answers
 pub mod Pool
 pub mod Block
+pub mod PoolAnswers
 pub mod JitModel
 pub mod PoolInternal
 pub mod Line

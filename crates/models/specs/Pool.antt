@@ -16,10 +16,10 @@ pub use Rattle.models.specs.Keys.{keyCount}
 use Rattle.models.specs.Places.{Place, isHeld}
 use Rattle.models.specs.Lists.{member, without, upward, first}
 use Rattle.models.specs.ChannelList.{listRule, present}
-use Rattle.models.specs.declared.jit.PoolGroupBy.{PoolGroupBy}
-use Rattle.models.specs.declared.jit.PoolGroupBy.the-variants.{NoteLetter, Channel}
-use Rattle.models.specs.declared.jit.PoolingMode.{PoolingMode}
-use Rattle.models.specs.declared.jit.PoolingMode.the-variants.{Block, Stop, Ignore}
+use Rattle.models.specs.declared.block.PoolGroupBy.{PoolGroupBy}
+use Rattle.models.specs.declared.block.PoolGroupBy.the-variants.{NoteLetter, Channel}
+use Rattle.models.specs.declared.block.PoolingMode.{PoolingMode}
+use Rattle.models.specs.declared.block.PoolingMode.the-variants.{Block, Stop, Ignore}
 
 -- ---- the state
 

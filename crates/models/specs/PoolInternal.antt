@@ -11,9 +11,9 @@ use lib.ListN.{length, take, drop}
 use Rattle.arithmetic.specs.Note.{isNote}
 use Rattle.models.specs.Block.{settings}
 use Rattle.models.specs.Pool.{keyCount, State, poolOf, Press, accepted, rejected, taken, freed, forgotten, pressed}
-use Rattle.models.specs.declared.jit.PoolGroupBy.{PoolGroupBy}
-use Rattle.models.specs.declared.jit.PoolingMode.{PoolingMode}
-use Rattle.models.specs.declared.jit.PoolingMode.the-variants.{Block, Stop, Ignore}
+use Rattle.models.specs.declared.block.PoolGroupBy.{PoolGroupBy}
+use Rattle.models.specs.declared.block.PoolingMode.{PoolingMode}
+use Rattle.models.specs.declared.block.PoolingMode.the-variants.{Block, Stop, Ignore}
 use Rattle.models.specs.declared.state.Allocation as A
 use Rattle.models.specs.declared.state.Allocation.{Allocation}
 

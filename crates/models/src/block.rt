@@ -7,14 +7,10 @@ ghost use Rattle.models.specs.Lists.{first};
 ghost use Rattle.models.specs.ChannelList.{entries};
 ghost use Rattle.models.specs.Pool.{fresh, found, released, heldKeys, stopped, replied, registerRule, repitchRule};
 ghost use Rattle.models.specs.Places.{place};
-ghost use Rattle.models.specs.JitModel.{nextHeld, press, repitched};
+ghost use Rattle.models.specs.PoolAnswers.{nextHeld, press, repitched};
 ghost use Rattle.models.specs.Block.{stateOf, kindAt, Moves, registerNoteRule};
 use crate::cells::CELLS;
 use crate::channels::ChannelList;
-use crate::jit::PoolGroupBy;
-use crate::jit::PoolingMode;
-use crate::jit::RegisterKeyResult;
-use crate::jit::RepitchKeyResult;
 use crate::keys::AccessKeyResult;
 use crate::keys::NextKey;
 use crate::settings::channels;
@@ -35,6 +31,48 @@ use arithmetic::tuning::Approximation;
 use arithmetic::tuning::RatioAnswer;
 use arithmetic::tuning::detuning;
 use arithmetic::tuning::find_by_pitch;
+
+// Which notes share a pool: those of a letter, or all. (Rust's `GroupBy` without pools for single notes.)
+pub enum PoolGroupBy {
+    NoteLetter,
+    Channel,
+}
+
+// What a press does that finds no free channel.
+pub enum PoolingMode {
+    Block,
+    Stop,
+    Ignore,
+}
+
+// The note that a press stopped, if any.
+pub enum StoppedNote {
+    Note(i32),
+    Nothing,
+}
+
+pub enum RegisterKeyResult {
+    Accepted {
+        channel: u8,
+        stopped_note: StoppedNote,
+        started_note: i32,
+        detuning: f64,
+    },
+    Rejected,
+    // 1 or 11.
+    Refused(u8),
+}
+
+pub enum RepitchKeyResult {
+    Found {
+        channel: u8,
+        found_note: i32,
+        detuning: f64,
+    },
+    NotFound,
+    // 1.
+    Refused(u8),
+}
 
 // A state in which no key is found, with the channels listed and the settings.
 pub fn open(

@@ -6,7 +6,12 @@ ghost use Rattle.models.specs.Lists.{first};
 ghost use Rattle.models.specs.ChannelList.{entries};
 ghost use Rattle.models.specs.Pool.{found, released, heldKeys, stopped, replied, registerRule, repitchRule, openRule};
 ghost use Rattle.models.specs.Places.{place};
-ghost use Rattle.models.specs.JitModel.{nextHeld, view, told, repitched, opened};
+ghost use Rattle.models.specs.PoolAnswers.{nextHeld, repitched};
+ghost use Rattle.models.specs.JitModel.{view, told, opened};
+use crate::block::PoolGroupBy;
+use crate::block::PoolingMode;
+use crate::block::RegisterKeyResult;
+use crate::block::RepitchKeyResult;
 use crate::block::access_key;
 use crate::block::channel_list;
 use crate::block::deregister_all;
@@ -23,48 +28,6 @@ use crate::keys::AccessKeyResult;
 use crate::keys::NextKey;
 use crate::steps::TuningKind;
 use arithmetic::pitch::Pitch;
-
-// Which notes share a pool: those of a letter, or all. (Rust's `GroupBy` without pools for single notes.)
-pub enum PoolGroupBy {
-    NoteLetter,
-    Channel,
-}
-
-// What a press does that finds no free channel.
-pub enum PoolingMode {
-    Block,
-    Stop,
-    Ignore,
-}
-
-// The note that a press stopped, if any.
-pub enum StoppedNote {
-    Note(i32),
-    Nothing,
-}
-
-pub enum RegisterKeyResult {
-    Accepted {
-        channel: u8,
-        stopped_note: StoppedNote,
-        started_note: i32,
-        detuning: f64,
-    },
-    Rejected,
-    // 1 or 11.
-    Refused(u8),
-}
-
-pub enum RepitchKeyResult {
-    Found {
-        channel: u8,
-        found_note: i32,
-        detuning: f64,
-    },
-    NotFound,
-    // 1.
-    Refused(u8),
-}
 
 // The state is in the block; a model tunes nothing, so it makes no use of the tuning kind there.
 pub struct JitTuningModel {

@@ -11,7 +11,7 @@ ghost use Rattle.models.specs.Pool.{poolOf, poolCount, takenIn, freedIn}
 ghost use Rattle.models.specs.PoolInternal.{Kept};
 ghost use Rattle.models.specs.Block.{poolAt};
 use crate::cells::QUEUE;
-use crate::jit::PoolGroupBy;
+use crate::block::PoolGroupBy;
 use crate::queue::count_up;
 use crate::queue::drop_front;
 use crate::queue::push;

@@ -13,8 +13,8 @@ use crate::cells::TUNING_KIND;
 use crate::channel_cells::list_at;
 use crate::channel_cells::put_list;
 use crate::channels::ChannelList;
-use crate::jit::PoolGroupBy;
-use crate::jit::PoolingMode;
+use crate::block::PoolGroupBy;
+use crate::block::PoolingMode;
 use crate::steps::TuningKind;
 
 pub(crate) fn group_by(cells: &[u16]) -> PoolGroupBy

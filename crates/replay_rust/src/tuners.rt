@@ -8,7 +8,7 @@ use crate::low_byte;
 use crate::pooling_mode;
 use crate::read;
 use arithmetic::pitch::Pitch;
-use models::jit::PoolingMode;
+use models::block::PoolingMode;
 use models::steps::TuningKind;
 use senders::aot::AotTuner;
 use senders::aot::PlanSent;

@@ -14,8 +14,8 @@ use Rattle.models.specs.Pool.{State, Held, Press, accepted, rejected, found, re
 use Rattle.models.specs.Block.{stateOf, kindAt}
 use Rattle.models.specs.Steps.{sentAs}
 use Rattle.models.specs.declared.steps.TuningKind.{TuningKind}
-use Rattle.models.specs.declared.jit.PoolingMode.{PoolingMode}
-use Rattle.models.specs.declared.jit.PoolGroupBy.the-variants.{Channel}
+use Rattle.models.specs.declared.block.PoolingMode.{PoolingMode}
+use Rattle.models.specs.declared.block.PoolGroupBy.the-variants.{Channel}
 use Rattle.senders.specs.Message.{Message, isData}
 use Rattle.senders.specs.Midi.{bytesOf}
 use Rattle.senders.specs.Lent.{Effect, sends, Answer, sent}

@@ -21,8 +21,8 @@ use models::cells::CELLS;
 use models::channels::ChannelList;
 use models::channels::ChannelsAnswer;
 use models::channels::present;
-use models::jit::PoolGroupBy;
-use models::jit::PoolingMode;
+use models::block::PoolGroupBy;
+use models::block::PoolingMode;
 use models::keys::AccessKeyResult;
 use models::steps::TuningKind;
 

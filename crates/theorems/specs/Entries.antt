@@ -6,7 +6,7 @@ use lib.IntN.{ℤ}
 use lib.Ieee.{Float}
 use Rattle.models.specs.Outcome.{Outcome}
 use Rattle.models.specs.declared.steps.TuningKind.{TuningKind}
-use Rattle.models.specs.declared.jit.PoolingMode.{PoolingMode}
+use Rattle.models.specs.declared.block.PoolingMode.{PoolingMode}
 use Rattle.senders.specs.Lent.{fitted}
 use Rattle.senders.specs.Midi.{messageRule}
 use Rattle.senders.specs.Mts.{channelTuningRule}

@@ -10,8 +10,8 @@ use lib.ListN.{length}
 use Rattle.models.specs.Pool as Pools
 use Rattle.models.specs.AotModel.{openRule, setTuning, setTuningOfPitches}
 use Rattle.models.specs.declared.aot.GroupBy.{GroupBy}
-use Rattle.models.specs.declared.jit.PoolGroupBy.{PoolGroupBy}
-use Rattle.models.specs.declared.jit.PoolingMode.{PoolingMode}
+use Rattle.models.specs.declared.block.PoolGroupBy.{PoolGroupBy}
+use Rattle.models.specs.declared.block.PoolingMode.{PoolingMode}
 use Rattle.models.specs.declared.steps.TuningKind.{TuningKind}
 use Rattle.senders.specs.Lent.{fitted, told}
 use Rattle.senders.specs.Midi.{messageRule}

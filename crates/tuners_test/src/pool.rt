@@ -8,7 +8,7 @@ use crate::shown::written;
 use models::Pitch;
 use models::Ratio;
 use models::channels::ChannelsAnswer;
-use models::jit::PoolingMode;
+use models::block::PoolingMode;
 use models::keys::AccessKeyResult;
 use models::steps::TuningKind;
 use senders::jit::JitTuner;

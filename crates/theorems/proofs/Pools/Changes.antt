@@ -10,8 +10,8 @@ use lib.IntN.{ℤ}
 use lib.Ieee.{Float}
 use lib.ListN.{length, getD, set, drop, length-set, length-append}
 use lib.Seq.{getD-set-same, getD-set-other}
-use Rattle.models.specs.declared.jit.PoolingMode.{PoolingMode}
-use Rattle.models.specs.declared.jit.PoolingMode.the-variants.{Block, Stop, Ignore}
+use Rattle.models.specs.declared.block.PoolingMode.{PoolingMode}
+use Rattle.models.specs.declared.block.PoolingMode.the-variants.{Block, Stop, Ignore}
 use Rattle.models.specs.Lists.{member, without, first}
 use Rattle.models.specs.Places.{Place}
 use Rattle.models.specs.Pool.{keyCount, Pool, State, Held, poolOf, pool, found, withPool, withKey, behind, takenIn, taken, freedIn, freed, forgotten, released, oldest, madeRoom, roomBy, roomFor, pressedOn, pressed}

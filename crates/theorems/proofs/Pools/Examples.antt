@@ -9,9 +9,9 @@ use lib.Ieee.{Float}
 use Rattle.arithmetic.specs.Outcome.{Outcome, value}
 use Rattle.arithmetic.specs.Pitch.{isPitch, detuningOf}
 use Rattle.arithmetic.specs.Nearest.{nearestNote}
-use Rattle.models.specs.declared.jit.PoolGroupBy.the-variants.{Channel}
-use Rattle.models.specs.declared.jit.PoolingMode.{PoolingMode}
-use Rattle.models.specs.declared.jit.PoolingMode.the-variants.{Stop}
+use Rattle.models.specs.declared.block.PoolGroupBy.the-variants.{Channel}
+use Rattle.models.specs.declared.block.PoolingMode.{PoolingMode}
+use Rattle.models.specs.declared.block.PoolingMode.the-variants.{Stop}
 use Rattle.models.specs.Lists.{without, upward, first}
 use Rattle.models.specs.ChannelList.{listFrom, listRule}
 use Rattle.models.specs.Pool.{State, poolCount, poolOf, pool, found, fresh, openRule, withPool, withKey, behind, takenIn, taken, freedIn, freed, forgotten, released, releasedFrom, heldAt, oldestOf, oldest, madeRoom, roomBy, roomFor, Press, accepted, pressedOn, pressed, registerRule, replied}

@@ -13,8 +13,8 @@ use Rattle.arithmetic.specs.Outcome.{value, refuse_unless_then_}
 use Rattle.arithmetic.specs.Note.{isNote}
 use Rattle.arithmetic.specs.Pitch.{isPitch, detuningOf}
 use Rattle.arithmetic.specs.Nearest.{nearestNote}
-use Rattle.models.specs.declared.jit.PoolGroupBy.{PoolGroupBy}
-use Rattle.models.specs.declared.jit.PoolingMode.{PoolingMode}
+use Rattle.models.specs.declared.block.PoolGroupBy.{PoolGroupBy}
+use Rattle.models.specs.declared.block.PoolingMode.{PoolingMode}
 use Rattle.models.specs.Lists.{upward}
 use Rattle.models.specs.ChannelList.{listRule, present}
 use Rattle.models.specs.Places.{Place, isHeld}

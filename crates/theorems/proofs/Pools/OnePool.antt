@@ -11,7 +11,7 @@ use lib.ListN.{length, getD, set, drop, length-set, length-append}
 use lib.Seq.{getD-set-same, getD-set-other}
 use lib.Dec.{leb}
 use borrow.Author.Tests.{leb-true, leb-false}
-use Rattle.models.specs.declared.jit.PoolGroupBy.{PoolGroupBy}
+use Rattle.models.specs.declared.block.PoolGroupBy.{PoolGroupBy}
 use Rattle.models.specs.Lists.{upward, first}
 use Rattle.models.specs.Places.{Place}
 use Rattle.models.specs.Pool.{keyCount, Pool, State, emptyPool, poolCount, poolOf, pool, found, behind}

@@ -14,8 +14,8 @@ use Rattle.arithmetic.specs.Nearest.{nearestNote}
 use Rattle.models.specs.Places.{Place, isHeld}
 use Rattle.models.specs.Pool.{State, Press, accepted, found, pressed, unlessHeld, registerRule, tuning, repitchRule}
 use Rattle.theorems.specs.PoolCalls.{Call}
-use Rattle.models.specs.declared.jit.PoolGroupBy.{PoolGroupBy}
-use Rattle.models.specs.declared.jit.PoolingMode.{PoolingMode}
+use Rattle.models.specs.declared.block.PoolGroupBy.{PoolGroupBy}
+use Rattle.models.specs.declared.block.PoolingMode.{PoolingMode}
 use Rattle.theorems.proofs.Pools.Invariant.{model}
 use Rattle.theorems.proofs.Pools.Answers.{accepted-channel}
 use Rattle.models.proofs.Pools.{value-by}

@@ -13,8 +13,8 @@ use Rattle.arithmetic.specs.Note.{isNote}
 use Rattle.arithmetic.specs.Pitch.{isPitch, detuningOf}
 use Rattle.arithmetic.specs.Nearest.{nearestNote}
 use Rattle.arithmetic.proofs.Outcomes.{no-value, refuses-once, refuses-twice}
-use Rattle.models.specs.declared.jit.PoolGroupBy.{PoolGroupBy}
-use Rattle.models.specs.declared.jit.PoolingMode.{PoolingMode}
+use Rattle.models.specs.declared.block.PoolGroupBy.{PoolGroupBy}
+use Rattle.models.specs.declared.block.PoolingMode.{PoolingMode}
 use Rattle.models.specs.ChannelList.{present}
 use Rattle.models.specs.Places.{isHeld}
 use Rattle.models.specs.Pool.{State, found, fresh, openRule, pressed, unlessHeld, registerRule, replied, tuning, repitchRule}

@@ -6,8 +6,8 @@ use mathlib.Core.Option.{Option, some, none}
 use native.Mathlib.Omega.{arith}
 use native.Mathlib.Nat.{sub-zero}
 use lib.ListN.{length, getD}
-use Rattle.models.specs.declared.jit.PoolGroupBy.{PoolGroupBy}
-use Rattle.models.specs.declared.jit.PoolingMode.{PoolingMode}
+use Rattle.models.specs.declared.block.PoolGroupBy.{PoolGroupBy}
+use Rattle.models.specs.declared.block.PoolingMode.{PoolingMode}
 use Rattle.models.specs.Places.{Place}
 use Rattle.models.specs.Pool.{Pool, State, Held, emptyPool, poolCount, found, withPool, withKey, freed, forgotten, released, releasedAll, heldFrom, heldKeys, stopped}
 use Rattle.theorems.specs.PoolCalls.{Call, times, keysOn, standing, stop, after}

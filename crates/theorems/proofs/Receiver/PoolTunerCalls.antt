@@ -16,8 +16,8 @@ use Rattle.models.specs.Places.{Place}
 use Rattle.models.specs.Pool.{keyCount, State, Press, accepted, found, stopped, registerRule, replied}
 use Rattle.theorems.specs.PoolCalls as recital
 use Rattle.models.specs.declared.steps.TuningKind.{TuningKind}
-use Rattle.models.specs.declared.jit.PoolingMode.{PoolingMode}
-use Rattle.models.specs.declared.jit.PoolGroupBy.the-variants.{Channel}
+use Rattle.models.specs.declared.block.PoolingMode.{PoolingMode}
+use Rattle.models.specs.declared.block.PoolGroupBy.the-variants.{Channel}
 use Rattle.theorems.specs.PoolInvariant.{Ok}
 use Rattle.theorems.proofs.Pools.Invariant.{model, model-ok}
 use Rattle.theorems.proofs.Pools.Presses.{press-channel}

@@ -20,8 +20,8 @@ use Rattle.models.specs.Pool.{State, Press, rejected, fresh, found, registerRul
 use Rattle.models.specs.Steps.{sentAs, tuningRule}
 use Rattle.models.specs.declared.steps.Tuning.{Tuning}
 use Rattle.models.specs.declared.steps.TuningKind.{TuningKind}
-use Rattle.models.specs.declared.jit.PoolingMode.{PoolingMode}
-use Rattle.models.specs.declared.jit.PoolGroupBy.the-variants.{Channel as PoolGroup}
+use Rattle.models.specs.declared.block.PoolingMode.{PoolingMode}
+use Rattle.models.specs.declared.block.PoolGroupBy.the-variants.{Channel as PoolGroup}
 use Rattle.theorems.proofs.Pools.Presses.{repitch-unknown}
 use Rattle.theorems.proofs.Pools.Refusals.{open-refused, register-refused, repitch-refused}
 use Rattle.senders.specs.Lent.{Effect, sent, fitted, told, Moved, left, Steps}

@@ -7,8 +7,8 @@ use lib.ListN.{length}
 use Rattle.models.specs.Outcome.{Outcome}
 use Rattle.models.specs.ChannelList.{listRule, present}
 use Rattle.models.specs.Pool.{State, openRule, fresh}
-use Rattle.models.specs.declared.jit.PoolGroupBy.{PoolGroupBy}
-use Rattle.models.specs.declared.jit.PoolingMode.{PoolingMode}
+use Rattle.models.specs.declared.block.PoolGroupBy.{PoolGroupBy}
+use Rattle.models.specs.declared.block.PoolingMode.{PoolingMode}
 use Rattle.exports.specs.Lent.{filled}
 use Rattle.exports.specs.Returned.{listRefusal}
 use Rattle.exports.specs.Events.{Events, equalLists, answerTo, groupOf}

@@ -16,7 +16,7 @@ use Rattle.arithmetic.proofs.Nearest.{nearest-is-note}
 use Rattle.arithmetic.proofs.Refusals.{nearest-refuses}
 use Rattle.models.specs.Pool.{Press, State, unlessHeld, registerRule, replied}
 use Rattle.models.specs.Block.{stateOf, Moves}
-use Rattle.models.specs.JitModel.{press}
+use Rattle.models.specs.PoolAnswers.{press}
 use Rattle.models.proofs.Pools.{nearest-is, register-nearest}
 use Rattle.models.proofs.block.register_key.Statement.{statement}
 use Rattle.models.proofs.block.register_key.Tie as tie

@@ -6,7 +6,7 @@ use mir.Facts.{toZ-ofZ}
 use Rattle.arithmetic.specs.Note.{isNote}
 use Rattle.models.specs.Pool.{replied}
 use Rattle.models.specs.Block.{registerNoteRule}
-use Rattle.models.specs.JitModel.{press}
+use Rattle.models.specs.PoolAnswers.{press}
 use Rattle.models.proofs.block.register_note.Statement.{statement}
 use Rattle.models.proofs.block.register_note.Tie as tie
 

@@ -12,7 +12,7 @@ use Rattle.arithmetic.specs.Pitch.{isPitch, detuningRule}
 use Rattle.models.specs.Places.{Place, place}
 use Rattle.models.specs.Pool.{found, repitchRule, tuning}
 use Rattle.models.specs.Block.{stateOf}
-use Rattle.models.specs.JitModel.{repitched}
+use Rattle.models.specs.PoolAnswers.{repitched}
 use Rattle.models.proofs.Pools.{not-true, not-false, detuning-is, detuning-not}
 use Rattle.models.proofs.Blocks.{found-note}
 use Rattle.models.proofs.block.repitch_key.Statement.{statement}

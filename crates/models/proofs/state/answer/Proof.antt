@@ -4,7 +4,7 @@ use mir.Facts.{toZ-ofZ}
 use mir.Syntax.{w32}
 use mir.Val.{toZ, ofZ}
 use Rattle.arithmetic.specs.Outcome.{value}
-use Rattle.models.specs.JitModel.{press}
+use Rattle.models.specs.PoolAnswers.{press}
 use Rattle.models.specs.PoolInternal.{answered}
 use borrow.Author.Needs.{needs}
 use Rattle.models.proofs.state.answer.Statement.{statement}

@@ -10,7 +10,7 @@ use Rattle.models.specs.Places.{isHeld}
 use Rattle.models.specs.Pool.{found}
 use Rattle.models.specs.Block.{channelsAt, stateOf}
 use Rattle.models.specs.PoolInternal.{Allocates, answered, committed}
-use Rattle.models.specs.JitModel.{press}
+use Rattle.models.specs.PoolAnswers.{press}
 use Rattle.models.proofs.Blocks.{place-at, state-before}
 use Rattle.models.proofs.Allocations.{held-refused, press-answers}
 use Rattle.models.proofs.state.decide.Statement.{statement}

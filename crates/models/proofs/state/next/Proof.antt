@@ -10,7 +10,7 @@ use Rattle.models.specs.Lists.{first}
 use Rattle.models.specs.Pool.{keyCount, found, heldKeys}
 use Rattle.models.specs.Block.{stateOf}
 use Rattle.models.specs.Places.{place}
-use Rattle.models.specs.JitModel.{nextHeld}
+use Rattle.models.specs.PoolAnswers.{nextHeld}
 use Rattle.models.proofs.HeldKeys.{held-here, held-not, held-past}
 use Rattle.models.proofs.Blocks.{keys-all}
 use Rattle.models.proofs.state.next.Statement.{statement}

@@ -10,7 +10,7 @@ use Rattle.models.specs.Places.{isHeld}
 use Rattle.models.specs.Pool.{State, found}
 use Rattle.models.specs.Block.{channelsAt, stateWith, stateOf}
 use Rattle.models.specs.PoolInternal.{Allocates, answered, committed}
-use Rattle.models.specs.JitModel.{press}
+use Rattle.models.specs.PoolAnswers.{press}
 use Rattle.models.proofs.Blocks.{place-at, kind-kept, state-before, state-after}
 use Rattle.models.proofs.Allocations.{held-refused, press-answers, press-moves}
 use Rattle.models.proofs.state.press.Statement.{statement}

@@ -8,7 +8,7 @@ use lib.ListN.{length}
 use Rattle.models.specs.Lists.{first}
 use Rattle.models.specs.Pool.{keyCount, State, Held, heldKeys, releasedAll, stopped}
 use Rattle.models.specs.Block.{cellCount, stateOf, kindAt}
-use Rattle.models.specs.JitModel.{nextHeld}
+use Rattle.models.specs.PoolAnswers.{nextHeld}
 use Rattle.models.proofs.HeldKeys.{Met, next-met, next-none, walked}
 use Rattle.models.proofs.Pools.{stop-turn}
 use Rattle.models.proofs.Blocks.{keys-all}

@@ -11,7 +11,7 @@ use borrow.Author.Tests.{le-ltb}
 use Rattle.models.specs.Outcome.{Outcome, value}
 use Rattle.models.specs.Pool.{State, Press, accepted, registerRule, replied}
 use Rattle.models.specs.Block.{stateOf, kindAt, Moves}
-use Rattle.models.specs.JitModel.{stoppedNote, press}
+use Rattle.models.specs.PoolAnswers.{stoppedNote, press}
 use Rattle.models.proofs.PoolPresses.{press-measurable, register-again, rejected-stays}
 use Rattle.models.proofs.Values.{sent-in-steps}
 use Rattle.senders.specs.Jit.{view, withPool}

@@ -9,10 +9,10 @@ use denote.Enum.Declared.{tagOf}
 use Rattle.models.specs.Outcome.{value}
 use Rattle.models.specs.Pool.{repitchRule}
 use Rattle.models.specs.Block.{stateOf}
-use Rattle.models.specs.JitModel.{repitched}
-use Rattle.models.specs.declared.jit.RepitchKeyResult.{RepitchKeyResult}
-use Rattle.models.specs.declared.jit.RepitchKeyResult.the-variants.{Found, NotFound, Refused}
-use Rattle.models.proofs.jit.RepitchKeyResult.{the-type}
+use Rattle.models.specs.PoolAnswers.{repitched}
+use Rattle.models.specs.declared.block.RepitchKeyResult.{RepitchKeyResult}
+use Rattle.models.specs.declared.block.RepitchKeyResult.the-variants.{Found, NotFound, Refused}
+use Rattle.models.proofs.block.RepitchKeyResult.{the-type}
 use Rattle.models.proofs.PoolPresses.{repitch-measurable}
 use Rattle.models.proofs.Values.{sent-in-steps}
 use Rattle.senders.proofs.Lent.{ends-refused, ends-counted, put-none}

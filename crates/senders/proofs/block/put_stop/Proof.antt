@@ -11,7 +11,7 @@ use mir.Facts.{toZ-ofZ}
 use Rattle.models.specs.Lists.{first}
 use Rattle.models.specs.Pool.{Held, keyCount, heldKeys}
 use Rattle.models.specs.Block.{stateOf}
-use Rattle.models.specs.JitModel.{nextHeld}
+use Rattle.models.specs.PoolAnswers.{nextHeld}
 use Rattle.models.proofs.HeldKeys.{Met, next-met}
 use Rattle.models.proofs.Blocks.{keys-few}
 use Rattle.senders.specs.Jit.{view}

@@ -3,7 +3,7 @@ use mathlib.Core.Path.{_≡_, refl, sym, ap, _∙_}
 use Rattle.models.specs.Outcome.{value}
 use Rattle.models.specs.ChannelList.{entries, present, channelsAnswer}
 use Rattle.models.specs.Pool.{State, openRule, fresh}
-use Rattle.models.specs.declared.jit.PoolGroupBy.the-variants.{Channel}
+use Rattle.models.specs.declared.block.PoolGroupBy.the-variants.{Channel}
 use Rattle.models.specs.declared.steps.TuningKind.{TuningKind}
 use Rattle.models.specs.Block.{stateOf, kindAt}
 use Rattle.senders.specs.Jit.{Tuner}
