@@ -9,6 +9,7 @@ ghost use Rattle.models.specs.Places.{channelOf};
 ghost use Rattle.models.specs.Block.{queueAt};
 ghost use Rattle.models.specs.PoolInternal.{Kept};
 use crate::channels::ChannelList;
+use crate::channels::stored_list;
 use crate::queue::size;
 
 // Puts the entries into the queue at a place of a block.
@@ -17,7 +18,7 @@ pub(crate) fn put_list(cells: &mut [u16], at: usize, list: ChannelList)
     ensures { λ r. ⌜ Kept at 17 (now (cells .entry)) (now (cells .exit)) × (queueAt (now (cells .exit)) at ≡ entries list) ⌝ }
 {
     let n = list.len();
-    put_digits(cells, at + 1, n as usize, list.digits);
+    put_digits(cells, at + 1, n as usize, list.digits());
     cells[at] = n as u16;
 }
 
@@ -34,8 +35,7 @@ pub(crate) fn list_at(cells: &[u16], at: usize) -> ChannelList
         digits = digits * 16 + channel;
         i -= 1;
     }
-    let count = n as u8;
-    ChannelList { digits, count }
+    stored_list(n as u64, digits)
 }
 
 // The n lowest digits of a number, the lowest first, in a region.

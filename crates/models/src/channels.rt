@@ -2,9 +2,9 @@
 
 ghost use mathlib.Core.Path.{_≡_};
 ghost use mathlib.Core.List.{[]};
-ghost use Prim.Native.Nat.{ℕ, _+_, _≤_, _<_};
+ghost use Prim.Native.Nat.{ℕ, _≤_, _<_, min};
 ghost use lib.ListN.{length, getD, getElem?};
-ghost use Rattle.models.specs.ChannelList.{entries, listRule, present, channelsAnswer, entryAnswer};
+ghost use Rattle.models.specs.ChannelList.{entries, listRule, present, channelsAnswer, entryAnswer, digits};
 use crate::lists::listed;
 use arithmetic::refusal::CHANNEL_OVER_15;
 use arithmetic::refusal::CHANNEL_TWICE;
@@ -17,9 +17,9 @@ const MOST_ENTRIES: u8 = 16;
 
 pub struct ChannelList {
     // Entry 0 is the lowest of sixteen digits to base 16.
-    pub digits: u64,
+    digits: u64,
     // How many of them are entries; a number over sixteen, which no call gives, counts as sixteen.
-    pub count: u8,
+    count: u8,
 }
 
 pub enum ChannelsAnswer {
@@ -96,6 +96,29 @@ impl ChannelList {
             return EntryAnswer::Channel(channel as u8);
         }
         EntryAnswer::NoEntry
+    }
+
+    // The entries as one number, entry 0 the lowest digit to base 16.
+    pub fn digits(self) -> u64
+        ensures { λ r. ⌜ r ≡ self .digits ⌝ }
+    {
+        self.digits
+    }
+}
+
+// The list of so many digits of a number, at most sixteen.
+pub fn stored_list(count: u64, number: u64) -> ChannelList
+    ensures { λ r. ⌜ entries r ≡ digits (min count 16) number ⌝ }
+{
+    if count < 16 {
+        return ChannelList {
+            digits: number,
+            count: count as u8,
+        };
+    }
+    ChannelList {
+        digits: number,
+        count: MOST_ENTRIES,
     }
 }
 

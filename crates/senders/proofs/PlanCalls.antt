@@ -19,7 +19,7 @@ use Rattle.models.specs.Placing.{Demand3}
 use Rattle.models.specs.AotModel as M
 use Rattle.models.specs.AotModel.{Model, planned, accessAnswer}
 use Rattle.models.specs.Places.{place}
-use Rattle.models.specs.PlanInside.{Fine}
+use Rattle.models.specs.PlanInternal.{Fine}
 use Rattle.models.specs.PlanLists.{keyCount, noteLists, pitchLists}
 use Rattle.models.specs.declared.aot.GroupBy.{GroupBy}
 use Rattle.models.specs.declared.keys.AccessKeyResult.{AccessKeyResult}

@@ -18,7 +18,7 @@ use Rattle.models.specs.Line.{Line, group}
 use Rattle.models.specs.Places.{Place}
 use Rattle.models.specs.AotModel as M
 use Rattle.models.specs.AotModel.{Model, planned, openRule}
-use Rattle.models.specs.PlanInside.{Accepted}
+use Rattle.models.specs.PlanInternal.{Accepted}
 use Rattle.models.specs.PlanLists.{pitchLists}
 use Rattle.models.specs.Steps.{sentAs}
 use Rattle.theorems.specs.Bounds.{valueOf, StepBound}

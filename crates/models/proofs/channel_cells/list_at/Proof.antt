@@ -10,6 +10,7 @@ use Rattle.models.specs.Places.{channelOf}
 use Rattle.models.proofs.ChannelLists.{number, number-word, Low, low-drop, number-turn, digits-number}
 use Rattle.models.proofs.Regions.{length-part}
 use Rattle.models.proofs.Blocks.{getD-map-below}
+use borrow.Author.Needs.{needs}
 use Rattle.models.proofs.channel_cells.list_at.Statement.{statement}
 use Rattle.models.proofs.channel_cells.list_at.Tie as tie
 
@@ -97,22 +98,21 @@ loop-less c = omega arith
 loop-again : tie.Need-loop-again Inv-loop μ-loop
 loop-again c = (omega arith, sym (turn c .0))
 
-cast-count : tie.Need-cast-count Inv-loop μ-loop
-cast-count c = omega arith
+stored-list-requires : tie.Need-stored-list-requires Inv-loop μ-loop
+stored-list-requires c κs = search needs
 
 returns : tie.Need-returns Inv-loop μ-loop
-unfolding entries
 returns c =
-    let start = c .before .before .before .before in
+    let start = c .before .before .before .before .before in
     let a = start .args in
-    let l = c .before .loop in
-    let size = c .before .before .size in
+    let l = c .before .before .loop in
+    let size = c .before .before .before .size in
     let cs = items (a .cells .now) (a .at) (size .result) in
     let low = items-low (a .cells .now) (a .at) (size .result) (start .pre) (size .ensures .0) in
     let long = items-long (a .cells .now) (a .at) (size .result) (start .pre) (size .ensures .0) in
     let none : l .i ≡ 0 = omega arith in
     let all : min (size .result) 16 ≡ length cs = omega (arith, long, size .ensures .0) in
-    rw (all, l .inv .1, none) (digits-number cs low) ∙ ap (map channelOf) (sym (size .ensures .1))
+    c .stored-list .ensures ∙ rw (all, l .inv .1, none) (digits-number cs low) ∙ ap (map channelOf) (sym (size .ensures .1))
 
 pub list-at-spec : {M : Type 1} → statement M
 list-at-spec =
@@ -131,5 +131,5 @@ list-at-spec =
     sub-i
     loop-less
     loop-again
-    cast-count
+    stored-list-requires
     returns)

@@ -13,6 +13,9 @@ use Rattle.models.proofs.channel_cells.put_list.Tie as tie
 len-requires : tie.Need-len-requires
 len-requires c κs = search needs
 
+digits-requires : tie.Need-digits-requires
+digits-requires c κs = search needs
+
 add-put-digits : tie.Need-add-put-digits
 add-put-digits c = search needs
 
@@ -20,7 +23,9 @@ cast-put-digits : tie.Need-cast-put-digits
 cast-put-digits c = search needs
 
 put-digits-requires : tie.Need-put-digits-requires
-put-digits-requires c κs = omega (arith, c .before .before .before .pre, c .before .len .ensures, entries-few (c .before .before .before .args .list))
+put-digits-requires c κs =
+    let start = c .before .before .before .before in
+    omega (arith, start .pre, c .before .before .len .ensures, entries-few (start .args .list))
 
 cast-cells : tie.Need-cast-cells
 cast-cells c = search needs
@@ -37,17 +42,19 @@ same-length c = search needs
 returns : tie.Need-returns
 unfolding entries
 returns c =
-    let start = c .before .before .before .before .before .before in
+    let start = c .before .before .before .before .before .before .before in
     let a = start .args in
-    let n = c .before .before .before .before .len .result in
+    let len = c .before .before .before .before .before .len in
     let put = c .before .before .put-digits in
+    let number = c .before .before .before .digits .ensures in
     let few = entries-few (a .list) in
-    let counted : n ≡ min (a .list .count) 16 = c .before .before .before .before .len .ensures ∙ length-digits (min (a .list .count) 16) (a .list .digits) in (
+    let counted : len .result ≡ min (a .list .count) 16 = len .ensures ∙ length-digits (min (a .list .count) 16) (a .list .digits) in (
       kept-then
-          (kept-wider (put .ensures .0) (a .at) 17 (omega arith) (omega (arith, c .before .before .before .before .len .ensures)))
-          (kept-set (a .at) 17 (put .last .0) (a .at) n (omega arith) (omega arith)),
-      queue-counted (put .last .0) (a .at) (omega (arith, start .pre, put .ensures .0 .long)) n (omega (arith, c .before .before .before .before .len .ensures))
+          (kept-wider (put .ensures .0) (a .at) 17 (omega arith) (omega (arith, len .ensures)))
+          (kept-set (a .at) 17 (put .last .0) (a .at) (len .result) (omega arith) (omega arith)),
+      queue-counted (put .last .0) (a .at) (omega (arith, start .pre, put .ensures .0 .long)) (len .result) (omega (arith, len .ensures))
           ∙ put .ensures .1
+          ∙ ap (λ (k : ℕ). digits (len .result) k) number
           ∙ ap (λ (k : ℕ). digits k (a .list .digits)) counted,
     )
 
@@ -58,6 +65,7 @@ put-list-spec =
     len-requires
     add-put-digits
     cast-put-digits
+    digits-requires
     put-digits-requires
     cast-cells
     mul-cells
