@@ -12,7 +12,7 @@ use Rattle.arithmetic.specs.Outcome.{Outcome, value, refused, refuse_unless_the
 use Rattle.models.specs.Refusal.{bufferTooShort, dataByteOver127, bendOutOfRange}
 use Rattle.models.specs.Places.{Place}
 use Rattle.models.specs.Pool.{State, Press, accepted, rejected, registerRule, repitchRule}
-use Rattle.models.specs.AotModel as M
+use Rattle.models.specs.Plan as M
 use Rattle.models.specs.declared.steps.TuningKind.{TuningKind}
 use Rattle.senders.specs.Message.{isData, isBend}
 use Rattle.senders.specs.Midi.{bytesOf, checked}

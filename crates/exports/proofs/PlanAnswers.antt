@@ -6,7 +6,7 @@ use Prim.Native.Nat.{ℕ}
 use lib.IntN.{ℤ}
 use Rattle.arithmetic.specs.Outcome.{Outcome}
 use Rattle.models.specs.Line.{Line}
-use Rattle.models.specs.AotModel.{Model, Answer, planned, Smallest}
+use Rattle.models.specs.Plan.{Model, Answer, planned, Smallest}
 use Rattle.exports.specs.Returned.{listRefusal}
 use Rattle.exports.specs.Plans.{kindOf, Told}
 

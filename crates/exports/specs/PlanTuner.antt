@@ -7,7 +7,7 @@ use lib.IntN.{ℤ}
 use lib.Ieee.{Float}
 use lib.ListN.{length}
 use Rattle.arithmetic.specs.Outcome.{Outcome, value, refused}
-use Rattle.models.specs.AotModel.{planned}
+use Rattle.models.specs.Plan.{planned}
 use Rattle.models.specs.Line.{Line}
 use Rattle.models.specs.PlanLists.{noteLists, pitchLists}
 use Rattle.senders.specs.Lent.{Answer, fitted, told, settled}

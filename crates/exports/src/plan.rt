@@ -5,7 +5,8 @@ ghost use mathlib.Core.Bool.{true};
 ghost use lib.Dec.{eqb};
 ghost use lib.ListN.{length};
 ghost use Rattle.models.specs.PlanLists.{noteLists, pitchLists};
-ghost use Rattle.models.specs.AotModel.{openRule, setTuning, setTuningOfPitches, Smallest, modelOf, planAnswer, accessAnswer, nextAnswer};
+ghost use Rattle.models.specs.Plan.{openRule, setTuning, setTuningOfPitches, Smallest, planAnswer, accessAnswer, nextAnswer};
+ghost use Rattle.models.specs.AotModel.{modelOf};
 ghost use Rattle.exports.specs.Lent.{filled};
 ghost use Rattle.exports.specs.Returned.{listRefusal, unlessRefused};
 ghost use Rattle.exports.specs.Plans.{groupOf, kindOf, countOf, seatOf, seatAt, Told, entryOf, entryFrom};
@@ -20,9 +21,9 @@ use crate::returned::UNTUNED;
 use crate::returned::is_result;
 use crate::returned::list_refusal;
 use models::aot::AotTuningModel;
-use models::aot::GroupBy;
-use models::aot::NextAnswer;
-use models::aot::PlanAnswer;
+use models::plan_block::GroupBy;
+use models::plan_block::NextAnswer;
+use models::plan_block::PlanAnswer;
 use models::keys::AccessKeyResult;
 
 // The kind of an entry, and of none.

@@ -17,7 +17,8 @@ use Rattle.models.specs.Pool.{keyCount, Pool, State, poolCount, poolOf, 
 use Rattle.models.specs.declared.block.PoolGroupBy.{PoolGroupBy}
 use Rattle.models.specs.declared.block.PoolingMode.{PoolingMode}
 use Rattle.models.proofs.Pools.{pool-small, pools-few}
-use Rattle.models.specs.Block.{settings, cellCount, queueAt, poolAt, poolsFrom, channelsAt, groupOf, modeOf, kindOf, kindAt, stateWith, stateOf, Moves}
+use Rattle.models.specs.Block.{settings, cellCount, queueAt, poolAt, poolsFrom, channelsAt, groupOf, modeOf, kindAt, stateWith, stateOf, Moves}
+use Rattle.models.specs.Steps.{kindOf}
 use Rattle.models.specs.PoolInternal.{Kept, SettingsKept}
 use Rattle.models.proofs.Regions.{before, kept-set, kept-wider, read-past, queue-past, queue-front}
 use Rattle.models.proofs.RecordNumbers.{place-sound}

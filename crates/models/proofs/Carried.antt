@@ -12,7 +12,7 @@ use lib.Ieee.{Float, le}
 use native.Mathlib.Nat.{le-of-eq}
 use lib.Ieee.Positive.{positive, le-trans-positive, cross→le}
 use lib.ListN.{length}
-use Rattle.models.specs.declared.aot.GroupBy.{GroupBy}
+use Rattle.models.specs.declared.plan_block.GroupBy.{GroupBy}
 use Rattle.models.specs.Lists.{Each, keep, member}
 use Rattle.models.specs.Line.{Line, ofGroup, joins, rising}
 use Rattle.models.specs.PlanLists.{keys}

@@ -15,12 +15,12 @@ use lib.Ieee.Fits.{and-l, and-r}
 use lib.Ieee.Positive.{positive, le-trans-positive, cross→le}
 use lib.ListN.{length, getD}
 use Rattle.arithmetic.specs.Note.{isNote}
-use Rattle.models.specs.declared.aot.GroupBy.{GroupBy}
+use Rattle.models.specs.declared.plan_block.GroupBy.{GroupBy}
 use Rattle.models.specs.Lists.{Each, keep, member}
 use Rattle.models.specs.Line.{Line, group, same, ofGroup, rising}
 use Rattle.models.specs.PlanLists.{keyCount, keys}
 use Rattle.models.specs.Walk.{count, seat, entry}
-use Rattle.models.specs.AotModel.{KeyRecord, nobody, isIn, keyIn, larger, counts, highest}
+use Rattle.models.specs.Plan.{KeyRecord, nobody, isIn, keyIn, larger, counts, highest}
 use Rattle.models.specs.PlanInternal.{Accepted, Seats}
 use Rattle.models.proofs.ListLaws.{outcome, passed, failed, T→true, true→T, not-false, or-cases, Each-map, Each-keep, Pairwise, Pairwise-keep}
 use mathlib.Core.Logic.{inl, inr}

@@ -10,10 +10,10 @@ use lib.IntN.{ℤ}
 use lib.Ieee.{Float}
 use lib.ListN.{length}
 use Rattle.arithmetic.specs.Outcome.{value}
-use Rattle.models.specs.declared.aot.GroupBy.{GroupBy}
+use Rattle.models.specs.declared.plan_block.GroupBy.{GroupBy}
 use Rattle.models.specs.Line.{Line, group, same}
 use Rattle.models.specs.Walk.{count}
-use Rattle.models.specs.AotModel.{KeyRecord, Model, tuned, untuned, empty, holding, planned, isIn, recordsOf, keyIn, counts, highest}
+use Rattle.models.specs.Plan.{KeyRecord, Model, tuned, untuned, empty, holding, planned, isIn, recordsOf, keyIn, counts, highest}
 use Rattle.models.specs.Lists.{Each}
 use Rattle.models.specs.Places.{noteOf}
 use Rattle.models.proofs.SortedKeys.{zeros}

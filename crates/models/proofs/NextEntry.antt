@@ -16,11 +16,11 @@ use Rattle.arithmetic.specs.Note.{isNote, lowestNote, letterOf}
 use Rattle.arithmetic.proofs.Integers.{plus, less, add-parts, same as same-parts}
 use Rattle.models.proofs.Slots.{group-note}
 use Rattle.arithmetic.proofs.Notes.{bounds, letter-below}
-use Rattle.models.specs.declared.aot.GroupBy.{GroupBy}
-use Rattle.models.specs.declared.aot.GroupBy.the-variants.{Note, NoteLetter, Channel}
+use Rattle.models.specs.declared.plan_block.GroupBy.{GroupBy}
+use Rattle.models.specs.declared.plan_block.GroupBy.the-variants.{Note, NoteLetter, Channel}
 use Rattle.models.specs.Lists.{Each}
 use Rattle.models.specs.Line.{group, same}
-use Rattle.models.specs.AotModel.{KeyRecord, isIn, counts, highest, larger, numbersFrom, groups, firstEntry}
+use Rattle.models.specs.Plan.{KeyRecord, isIn, counts, highest, larger, numbersFrom, groups, firstEntry}
 use Rattle.models.specs.PlanInternal.{lower, leastFrom}
 use Rattle.models.proofs.ListLaws.{outcome, passed, failed, T→true, true→T, not-false}
 use Rattle.models.proofs.Sweep.{same-eq}

@@ -12,7 +12,7 @@ use lib.Dec.{T, eqb, eqb→eq, eqb-refl}
 use lib.ListN.{length}
 use lib.Ieee.{Float}
 use Rattle.models.specs.Lists.{Each, member}
-use Rattle.models.specs.declared.aot.GroupBy.{GroupBy}
+use Rattle.models.specs.declared.plan_block.GroupBy.{GroupBy}
 use Rattle.models.specs.Line.{Line, group, ofGroup, joins, rising}
 use Rattle.models.specs.Walk.{latest, accepts, takes, next, here, later, channels, walk, count}
 use Rattle.models.proofs.ListLaws.{outcome, passed, failed, T→true, true→T, not-false, at-member, own-image, Each-image, map-same, Each-map, Pairwise}

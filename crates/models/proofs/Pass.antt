@@ -12,13 +12,13 @@ use lib.Ieee.{Float, nan}
 use lib.ListN.{length, getD, drop, set, length-set}
 use lib.Seq.{getD-set-same, getD-set-other}
 use Rattle.arithmetic.specs.Note.{isNote}
-use Rattle.models.specs.declared.aot.GroupBy.{GroupBy}
+use Rattle.models.specs.declared.plan_block.GroupBy.{GroupBy}
 use Rattle.models.specs.Lists.{Each, member}
 use Rattle.models.specs.Line.{Line, group, ofGroup, joins, rising}
 use Rattle.models.specs.PlanLists.{keyCount, keys}
 use Rattle.models.specs.Places.{Place, noteOf, channelOf, placeOf}
 use Rattle.models.specs.Walk.{count, seat}
-use Rattle.models.specs.AotModel.{KeyRecord, nobody, isIn, recordsOf}
+use Rattle.models.specs.Plan.{KeyRecord, nobody, isIn, recordsOf}
 use Rattle.models.specs.PlanInternal.{Accepted, Placed, Seats, channelsWith, lineAt, slotOf}
 use Rattle.models.proofs.ListLaws.{outcome, passed, failed, T→true, true→T, not-false, Each-map, Each-all, Pairwise, own-image}
 use Rattle.models.proofs.Rising.{Other, other-sym, distinct-apart, rising-Each}

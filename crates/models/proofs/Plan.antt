@@ -11,7 +11,7 @@ use lib.IntN.{ℤ}
 use lib.Dec.{T, eqb, eqb-refl}
 use lib.ListN.{length, getD}
 use Rattle.models.specs.Lists.{Each, keep, member, once}
-use Rattle.models.specs.declared.aot.GroupBy.{GroupBy}
+use Rattle.models.specs.declared.plan_block.GroupBy.{GroupBy}
 use Rattle.models.specs.Line.{Line, ofGroup, joins, rising}
 use Rattle.models.specs.Walk.{walk, count, channels}
 use Rattle.models.specs.PlanInternal.{Accepted}

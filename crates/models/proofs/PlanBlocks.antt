@@ -19,13 +19,13 @@ use Rattle.models.specs.Keys.{keyCount}
 use Rattle.models.specs.Lists.{Each, upward}
 use Rattle.arithmetic.specs.Outcome.{value}
 use Rattle.models.specs.ChannelList.{digits}
-use Rattle.models.specs.declared.aot.GroupBy.{GroupBy}
+use Rattle.models.specs.declared.plan_block.GroupBy.{GroupBy}
 use Rattle.models.specs.declared.steps.TuningKind.{TuningKind}
 use Rattle.models.specs.Line.{Line}
 use Rattle.models.specs.Places.{noteOf}
-use Rattle.models.specs.Block.{kindOf}
+use Rattle.models.specs.Steps.{kindOf}
 use Rattle.models.specs.PlanBlock.{planSettings, planCellCount, detuningOf, stored, listAt, groupByOf, groupByAt, planKindAt}
-use Rattle.models.specs.AotModel.{KeyRecord, Model, nobody, isIn, recordOf, recordsOf, recordAt, recordsAt, Answer, tuned, detuningIn, modelWith, planAt, empty, holding, planned}
+use Rattle.models.specs.Plan.{KeyRecord, Model, nobody, isIn, recordOf, recordsOf, recordAt, recordsAt, Answer, tuned, detuningIn, modelWith, planAt, empty, holding, planned}
 use Rattle.models.specs.Walk.{count}
 use Rattle.models.specs.PlanInternal.{Accepted, Seats, SettingsSame}
 use Rattle.models.proofs.ListLaws.{outcome, passed, failed, true→T}

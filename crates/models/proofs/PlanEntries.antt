@@ -13,11 +13,11 @@ use lib.Ieee.{Float}
 use lib.Ieee.Positive.{positive}
 use lib.ListN.{length}
 use Rattle.arithmetic.specs.Outcome.{value}
-use Rattle.models.specs.declared.aot.GroupBy.{GroupBy}
+use Rattle.models.specs.declared.plan_block.GroupBy.{GroupBy}
 use Rattle.models.specs.Lists.{Each, keep}
 use Rattle.models.specs.Line.{Line, ofGroup, rising}
 use Rattle.models.specs.Walk.{count, entry}
-use Rattle.models.specs.AotModel.{Model, Answer, tuned, untuned, holding, empty, planned}
+use Rattle.models.specs.Plan.{Model, Answer, tuned, untuned, holding, empty, planned}
 use Rattle.models.specs.PlanInternal.{Accepted}
 use Rattle.models.proofs.ListLaws.{outcome, passed, failed, Each-keep, Pairwise, Pairwise-keep}
 use Rattle.models.proofs.Rising.{UpTo, Each-rising}

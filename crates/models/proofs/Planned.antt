@@ -11,14 +11,14 @@ use lib.Ieee.Positive.{positive}
 use lib.ListN.{length, getD}
 use Rattle.arithmetic.specs.Outcome.{Outcome, value}
 use Rattle.arithmetic.specs.Note.{isNote}
-use Rattle.models.specs.declared.aot.GroupBy.{GroupBy}
+use Rattle.models.specs.declared.plan_block.GroupBy.{GroupBy}
 use Rattle.models.specs.Lists.{Each, Distinct, member}
 use Rattle.models.specs.Line.{Line, rising}
 use Rattle.models.specs.PlanLists.{keyCount, keys}
 use Rattle.models.specs.Walk.{walk, count, seat, seatFrom, entry, channels}
 use Rattle.models.specs.PlanInternal.{Accepted, Checked, Holds, Plans, Ready, Seats, linesOf}
 use Rattle.models.specs.declared.placing.Planning.{Planning}
-use Rattle.models.specs.AotModel.{Model, Answer, tuned, untuned, empty, holding, planned, Smallest, recordsOf}
+use Rattle.models.specs.Plan.{Model, Answer, tuned, untuned, empty, holding, planned, Smallest, recordsOf}
 use Rattle.models.proofs.ListLaws.{Pairwise, false→T}
 use Rattle.models.proofs.Rising.{Other, Each-rising, rising-Each, length-rising, rising-sorted, rising-of-sorted, absent}
 use Rattle.models.proofs.Plan.{different}

@@ -15,9 +15,9 @@ use lib.ListN.{length, getD, drop, drop-of-length-le}
 use lib.Seq.{drop-cons}
 use Rattle.models.specs.Keys.{keyCount}
 use Rattle.models.specs.Lists.{Each}
-use Rattle.models.specs.declared.aot.GroupBy.{GroupBy}
+use Rattle.models.specs.declared.plan_block.GroupBy.{GroupBy}
 use Rattle.models.specs.Line.{group, same}
-use Rattle.models.specs.AotModel.{KeyRecord, nobody, isIn, recordOf, recordsOf, keyIn, counts, highest, larger, accessAnswer}
+use Rattle.models.specs.Plan.{KeyRecord, nobody, isIn, recordOf, recordsOf, keyIn, counts, highest, larger, accessAnswer}
 use Rattle.models.specs.Places.{Place, noteOf, channelOf, placeOf, place}
 use Rattle.models.specs.declared.keys.AccessKeyResult as AccessKeyResult
 use Rattle.models.specs.declared.keys.AccessKeyResult.{AccessKeyResult}

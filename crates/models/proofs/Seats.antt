@@ -8,7 +8,7 @@ use native.Mathlib.Nat.{add-zero, zero-add}
 use native.Mathlib.Omega.{arith}
 use lib.Dec.{T, eqb, eqb-refl}
 use lib.ListN.{length}
-use Rattle.models.specs.declared.aot.GroupBy.{GroupBy}
+use Rattle.models.specs.declared.plan_block.GroupBy.{GroupBy}
 use Rattle.models.specs.Lists.{Each, keep, member}
 use Rattle.models.specs.Line.{Line, rising}
 use Rattle.models.specs.PlanLists.{keys}

@@ -7,7 +7,8 @@ use native.Mathlib.Nat.{mod-eq-of-lt}
 use lib.ListN.{length, getD, set, length-set}
 use lib.Seq.{getD-set-same, getD-set-other}
 use Rattle.models.specs.Places.{channelOf}
-use Rattle.models.specs.Block.{settings, cellCount, queueAt, channelsAt, kindAt, kindOf}
+use Rattle.models.specs.Block.{settings, cellCount, queueAt, channelsAt, kindAt}
+use Rattle.models.specs.Steps.{kindOf}
 use Rattle.models.specs.PoolInternal.{Kept}
 use Rattle.models.proofs.ChannelLists.{Low}
 use Rattle.models.proofs.Regions.{kept-then, kept-wider, kept-set, queue-front}

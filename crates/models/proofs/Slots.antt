@@ -9,8 +9,8 @@ use mir.Val.{SFits}
 use Rattle.arithmetic.specs.Note.{isNote, letterOf}
 use Rattle.arithmetic.proofs.Integers.{plus, less, same, sub-parts-ℤ, fits-by}
 use Rattle.arithmetic.proofs.Notes.{bounds, within, letter-below}
-use Rattle.models.specs.declared.aot.GroupBy.{GroupBy}
-use Rattle.models.specs.declared.aot.GroupBy.the-variants.{Note, NoteLetter, Channel}
+use Rattle.models.specs.declared.plan_block.GroupBy.{GroupBy}
+use Rattle.models.specs.declared.plan_block.GroupBy.the-variants.{Note, NoteLetter, Channel}
 use Rattle.models.specs.Line.{group}
 use Rattle.models.specs.PlanInternal.{slotOf}
 

@@ -13,7 +13,7 @@ use lib.Dec.{T, eqb, eqb→eq, eqb-refl, eqb·suc-zero, eqb·zero-suc, eqb·suc-
 use lib.ListN.{length, getD}
 use lib.Ieee.{Float}
 use Rattle.models.specs.Lists.{Each, keep, member}
-use Rattle.models.specs.declared.aot.GroupBy.{GroupBy}
+use Rattle.models.specs.declared.plan_block.GroupBy.{GroupBy}
 use Rattle.models.specs.Line.{Line, group, same, ofGroup, joins}
 use Rattle.models.specs.Walk.{latest, accepts, takes, next, here, later, channels}
 use Rattle.models.specs.Placing.{Joined}

@@ -19,8 +19,8 @@ use Rattle.models.specs.declared.block.PoolGroupBy.{PoolGroupBy}
 use Rattle.models.specs.declared.block.PoolGroupBy.the-variants.{NoteLetter, Channel}
 use Rattle.models.specs.declared.block.PoolingMode.{PoolingMode}
 use Rattle.models.specs.declared.block.PoolingMode.the-variants.{Block, Stop, Ignore}
+use Rattle.models.specs.Steps.{kindOf}
 use Rattle.models.specs.declared.steps.TuningKind.{TuningKind}
-use Rattle.models.specs.declared.steps.TuningKind.the-variants.{FineTuning, Bend}
 
 -- ---- the layout
 
@@ -66,10 +66,6 @@ groupOf n = cond (eqb n 1) Channel NoteLetter
 -- 0 Block, 1 Stop, 2 Ignore
 unfoldable pub modeOf : ℕ → PoolingMode
 modeOf n = cond (eqb n 1) Stop (cond (eqb n 2) Ignore Block)
-
--- 0 fine tuning, 1 bends
-unfoldable pub kindOf : ℕ → TuningKind
-kindOf n = cond (eqb n 1) Bend FineTuning
 
 -- how the tuner of a block tunes its channels
 unfoldable pub kindAt : List ℕ → TuningKind

@@ -17,5 +17,6 @@ pub mod Walk
 pub mod Placing
 pub mod PlanLists
 pub mod PlanBlock
+pub mod Plan
 pub mod AotModel
 pub mod PlanInternal

@@ -7,8 +7,8 @@ use lib.Dec.{eqb}
 use lib.Ieee.{Float, binary64, div, le}
 use Rattle.arithmetic.specs.Note.{letterOf}
 use Rattle.arithmetic.specs.Pitch.{negligible}
-use Rattle.models.specs.declared.aot.GroupBy.{GroupBy}
-use Rattle.models.specs.declared.aot.GroupBy.the-variants.{Note, NoteLetter, Channel}
+use Rattle.models.specs.declared.plan_block.GroupBy.{GroupBy}
+use Rattle.models.specs.declared.plan_block.GroupBy.the-variants.{Note, NoteLetter, Channel}
 
 -- A key, its note, and its detuning: the pitch that it wants divided by the note's.
 pub record Line : Type 0 where

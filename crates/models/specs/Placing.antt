@@ -8,7 +8,7 @@ use Prim.Native.Nat.{ℕ, _≤_}
 use lib.IntN.{ℤ}
 use lib.Dec.{T, eqb}
 use lib.ListN.{length}
-use Rattle.models.specs.declared.aot.GroupBy.{GroupBy}
+use Rattle.models.specs.declared.plan_block.GroupBy.{GroupBy}
 use Rattle.models.specs.Lists.{Each, keep, once}
 use Rattle.models.specs.Line.{Line, ofGroup, joins, rising}
 

@@ -10,9 +10,9 @@ use lib.Ieee.{Float, binary64, ofBits, nanBits, lt}
 use lib.ListN.{getD}
 use Rattle.models.specs.Keys.{keyCount}
 use Rattle.models.specs.ChannelList.{digits}
-use Rattle.models.specs.Block.{kindOf}
-use Rattle.models.specs.declared.aot.GroupBy.{GroupBy}
-use Rattle.models.specs.declared.aot.GroupBy.the-variants.{Note, NoteLetter, Channel}
+use Rattle.models.specs.Steps.{kindOf}
+use Rattle.models.specs.declared.plan_block.GroupBy.{GroupBy}
+use Rattle.models.specs.declared.plan_block.GroupBy.the-variants.{Note, NoteLetter, Channel}
 use Rattle.models.specs.declared.steps.TuningKind.{TuningKind}
 
 -- where the settings begin, the channel list first

@@ -12,13 +12,13 @@ use lib.Ieee.{Float, nan, binary64, fits, le, lt}
 use lib.Ieee.Positive.{positive}
 use Rattle.arithmetic.specs.Outcome.{Outcome, value, refused}
 use Rattle.arithmetic.specs.Note.{isNote}
-use Rattle.models.specs.declared.aot.GroupBy.{GroupBy}
+use Rattle.models.specs.declared.plan_block.GroupBy.{GroupBy}
 use Rattle.models.specs.Lists.{Each, member, Distinct}
 use Rattle.models.specs.Line.{Line, joins, rising, group}
 use Rattle.models.specs.Walk.{count, seat}
 use Rattle.models.specs.Places.{isHeld, noteOf, channelOf, placeOf}
 use Rattle.models.specs.PlanBlock.{planSettings}
-use Rattle.models.specs.AotModel.{KeyRecord, nobody, isIn, recordsOf}
+use Rattle.models.specs.Plan.{KeyRecord, nobody, isIn, recordsOf}
 use Rattle.models.specs.declared.placing.Planning.{Planning}
 use Rattle.models.specs.PlanLists.{keyCount, keys, lineByLine}
 

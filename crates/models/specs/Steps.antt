@@ -2,6 +2,7 @@
 use Prim.Native.Nat.{ℕ, zero, _<_}
 use mathlib.Core.Path.{_≡_}
 use mathlib.Core.Bool.{true, cond, _&&_}
+use lib.Dec.{eqb}
 use lib.IntN.{ℤ, pos, negsuc, natAbs, _+ℤ_, _*ℤ_}
 use lib.Signed.{ltZ, leZ, quotZ}
 use lib.Ieee.{Float}
@@ -14,6 +15,13 @@ use Rattle.models.specs.declared.steps.TuningKind.{TuningKind}
 use Rattle.models.specs.declared.steps.TuningKind.the-variants.{FineTuning, Bend}
 use Rattle.models.specs.declared.steps.Tuning.{Tuning}
 use Rattle.models.specs.declared.steps.Tuning.the-variants.{Fine, Bend as Bent}
+
+-- ---- the tuning kind as a number: 0 fine tuning, 1 bends; a number that names none is read as 0
+
+unfoldable pub kindOf : ℕ → TuningKind
+kindOf n = cond (eqb n 1) Bend FineTuning
+
+-- ---- the values
 
 -- z, or the nearer end where it is not from lo to hi
 unfoldable pub clamp : ℤ → ℤ → ℤ → ℤ

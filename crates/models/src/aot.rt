@@ -3,11 +3,16 @@
 ghost use mathlib.Core.Path.{_≡_};
 ghost use Rattle.models.specs.ChannelList.{channelsAnswer, entries};
 ghost use Rattle.models.specs.PlanLists.{noteLists, pitchLists};
-ghost use Rattle.models.specs.AotModel.{Smallest, accessAnswer, detuningAnswer, empty, modelOf, nextAnswer, nextRule, openRule, openedOf, setTuning, setTuningOfPitches, outcomeOf};
+ghost use Rattle.models.specs.Plan.{Smallest, accessAnswer, detuningAnswer, empty, nextAnswer, nextRule, openRule, setTuning, setTuningOfPitches};
+ghost use Rattle.models.specs.AotModel.{modelOf, openedOf, outcomeOf};
 use crate::channels::ChannelList;
 use crate::channels::ChannelsAnswer;
 use crate::channels::present;
 use crate::keys::AccessKeyResult;
+use crate::plan_block::DetuningAnswer;
+use crate::plan_block::GroupBy;
+use crate::plan_block::NextAnswer;
+use crate::plan_block::PlanAnswer;
 use crate::plan_block::access_key;
 use crate::plan_block::channel_list;
 use crate::plan_block::detuning;
@@ -20,34 +25,6 @@ use crate::plan_block::set_tuning_of_pitches;
 use crate::plan_block::tuned;
 use crate::plan_cells::PLAN_CELLS;
 use crate::steps::TuningKind;
-
-// What a sound module retunes together: one note, one note letter, or a whole channel.
-pub enum GroupBy {
-    Note,
-    NoteLetter,
-    Channel,
-}
-
-// What a tuning answers.
-pub enum PlanAnswer {
-    // How many channels the plan uses.
-    Tuned(u16),
-    // How many it would need; there are fewer.
-    Untuned(u16),
-    Refused(u8),
-}
-
-// The detuning of a group on a channel.
-pub enum DetuningAnswer {
-    Detuning(f64),
-    NoEntry,
-}
-
-// The next group with a detuning on a channel, and the detuning.
-pub enum NextAnswer {
-    Entry(i32, f64),
-    NoEntry,
-}
 
 // A model of tunings that are planned.
 pub struct AotTuningModel {

@@ -5,11 +5,7 @@ ghost use mathlib.Core.Path.{_≡_};
 ghost use Rattle.models.specs.ChannelList.{entries};
 ghost use Rattle.models.specs.PlanLists.{noteLists, pitchLists};
 ghost use Rattle.models.specs.PlanBlock.{planKindAt};
-ghost use Rattle.models.specs.AotModel.{Smallest, Tunes, accessAnswer, detuningAnswer, empty, nextAnswer, nextRule, planAnswer, planAt, setTuning, setTuningOfPitches};
-use crate::aot::DetuningAnswer;
-use crate::aot::GroupBy;
-use crate::aot::NextAnswer;
-use crate::aot::PlanAnswer;
+ghost use Rattle.models.specs.Plan.{Smallest, Tunes, accessAnswer, detuningAnswer, empty, nextAnswer, nextRule, planAnswer, planAt, setTuning, setTuningOfPitches};
 use crate::channels::ChannelList;
 use crate::entries::highest;
 use crate::entries::least_group;
@@ -28,6 +24,34 @@ use crate::plan_state::begin;
 use crate::plan_state::commit;
 use crate::plan_state::listed;
 use crate::steps::TuningKind;
+
+// What a sound module retunes together: one note, one note letter, or a whole channel.
+pub enum GroupBy {
+    Note,
+    NoteLetter,
+    Channel,
+}
+
+// What a tuning answers.
+pub enum PlanAnswer {
+    // How many channels the plan uses.
+    Tuned(u16),
+    // How many it would need; there are fewer.
+    Untuned(u16),
+    Refused(u8),
+}
+
+// The detuning of a group on a channel.
+pub enum DetuningAnswer {
+    Detuning(f64),
+    NoEntry,
+}
+
+// The next group with a detuning on a channel, and the detuning.
+pub enum NextAnswer {
+    Entry(i32, f64),
+    NoEntry,
+}
 
 // A state without a plan, with the channels listed and the settings.
 pub fn open(

@@ -4,7 +4,7 @@ ghost use mathlib.Core.Path.{_≡_};
 ghost use Prim.Native.Nat.{_+_};
 ghost use lib.ListN.{length, getD};
 ghost use Rattle.models.specs.ChannelList.{entries};
-ghost use Rattle.models.specs.Block.{cellCount, settings, channelsAt, groupOf, modeOf, kindOf, kindAt};
+ghost use Rattle.models.specs.Block.{cellCount, settings, channelsAt, groupOf, modeOf, kindAt};
 ghost use Rattle.models.specs.PoolInternal.{Kept};
 use crate::cells::CHANNELS;
 use crate::cells::GROUP_BY;
@@ -16,6 +16,7 @@ use crate::channels::ChannelList;
 use crate::block::PoolGroupBy;
 use crate::block::PoolingMode;
 use crate::steps::TuningKind;
+use crate::steps::kind_number;
 
 pub(crate) fn group_by(cells: &[u16]) -> PoolGroupBy
     requires { ⌜ length (now cells) ≡ cellCount ⌝ }
@@ -92,14 +93,5 @@ fn mode_number(mode: PoolingMode) -> u16
         PoolingMode::Block => 0,
         PoolingMode::Stop => 1,
         PoolingMode::Ignore => 2,
-    }
-}
-
-pub(crate) fn kind_number(kind: TuningKind) -> u16
-    ensures { λ r. ⌜ kindOf r ≡ kind ⌝ }
-{
-    match kind {
-        TuningKind::FineTuning => 0,
-        TuningKind::Bend => 1,
     }
 }

@@ -5,7 +5,7 @@ ghost use Prim.Native.Nat.{_^_, _<_};
 ghost use lib.IntN.{pos};
 ghost use lib.Signed.{mag, _≤ℤ_};
 ghost use Rattle.models.specs.declared.steps.TuningKind.the-variants.{FineTuning, Bend};
-ghost use Rattle.models.specs.Steps.{clamp, fineValue, bendValue, tuningRule};
+ghost use Rattle.models.specs.Steps.{clamp, fineValue, bendValue, tuningRule, kindOf};
 ghost use Rattle.models.specs.Answers.{tuningAnswer};
 use arithmetic::pitch::Measured;
 use arithmetic::pitch::Ratio;
@@ -91,4 +91,14 @@ fn clamped(low: i64, high: i64, x: i64) -> i64
         return high;
     }
     x
+}
+
+// The number of a tuning kind in a block.
+pub fn kind_number(kind: TuningKind) -> u16
+    ensures { λ r. ⌜ kindOf r ≡ kind ⌝ }
+{
+    match kind {
+        TuningKind::FineTuning => 0,
+        TuningKind::Bend => 1,
+    }
 }

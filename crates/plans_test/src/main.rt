@@ -2,10 +2,10 @@
 // Writes a line for each call.
 ghost use Prim.Native.Nat.{_≤_};
 use models::aot::AotTuningModel;
-use models::aot::DetuningAnswer;
-use models::aot::GroupBy;
-use models::aot::NextAnswer;
-use models::aot::PlanAnswer;
+use models::plan_block::DetuningAnswer;
+use models::plan_block::GroupBy;
+use models::plan_block::NextAnswer;
+use models::plan_block::PlanAnswer;
 use models::aot::SetTuning;
 use models::channels::ChannelsAnswer;
 use models::keys::AccessKeyResult;

@@ -16,12 +16,12 @@ use Rattle.models.specs.Refusal.{bufferTooShort}
 use Rattle.models.specs.Lists.{Each}
 use Rattle.models.specs.Line.{Line}
 use Rattle.models.specs.Placing.{Demand3}
-use Rattle.models.specs.AotModel as M
-use Rattle.models.specs.AotModel.{Model, planned, accessAnswer}
+use Rattle.models.specs.Plan as M
+use Rattle.models.specs.Plan.{Model, planned, accessAnswer}
 use Rattle.models.specs.Places.{place}
 use Rattle.models.specs.PlanInternal.{Fine}
 use Rattle.models.specs.PlanLists.{keyCount, noteLists, pitchLists}
-use Rattle.models.specs.declared.aot.GroupBy.{GroupBy}
+use Rattle.models.specs.declared.plan_block.GroupBy.{GroupBy}
 use Rattle.models.specs.declared.keys.AccessKeyResult.{AccessKeyResult}
 use Rattle.models.specs.declared.keys.AccessKeyResult.the-variants.{Found, NotFound}
 use Rattle.models.proofs.Accepted.{notes-accepted, pitches-accepted}

@@ -16,12 +16,13 @@ use Rattle.models.specs.Lists.{upward}
 use Rattle.models.specs.Line.{Line}
 use Rattle.models.specs.Places.{Place}
 use Rattle.models.specs.Placing.{Placing, InOrder, Fits, Demand3}
-use Rattle.models.specs.AotModel.{Model, modelOf, openRule, setTuning, setTuningOfPitches}
-use Rattle.models.specs.AotModel as M
+use Rattle.models.specs.Plan.{Model, openRule, setTuning, setTuningOfPitches}
+use Rattle.models.specs.AotModel.{modelOf}
+use Rattle.models.specs.Plan as M
 use Rattle.models.specs.Steps.{sentAs}
 use Rattle.models.specs.declared.steps.TuningKind.{TuningKind}
-use Rattle.models.specs.declared.aot.GroupBy.{GroupBy}
-use Rattle.models.specs.declared.aot.GroupBy.the-variants.{Channel}
+use Rattle.models.specs.declared.plan_block.GroupBy.{GroupBy}
+use Rattle.models.specs.declared.plan_block.GroupBy.the-variants.{Channel}
 use Rattle.senders.specs.Message.{Message}
 use Rattle.senders.specs.Midi.{bytesOf}
 use Rattle.senders.specs.Lent.{Effect, Answer, sent}

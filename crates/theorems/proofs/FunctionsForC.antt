@@ -17,7 +17,7 @@ use Rattle.models.specs.Line.{Line}
 use Rattle.models.specs.ChannelList.{listRule}
 use Rattle.models.specs.PlanLists.{noteLists, pitchLists}
 use Rattle.models.specs.Pool as Pools
-use Rattle.models.specs.AotModel as M
+use Rattle.models.specs.Plan as M
 use Rattle.theorems.proofs.ChannelLists.{refused-numbers}
 use Rattle.models.proofs.ListLaws.{or-cases}
 use Rattle.theorems.proofs.Plans.Refusals.{note-lists-numbers, pitch-lists-numbers, refused-leaves}

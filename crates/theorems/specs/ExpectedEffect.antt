@@ -7,7 +7,7 @@ use lib.Dec.{ltb}
 use lib.IntN.{ℤ, pos, negsuc, _-ℤ_}
 use lib.Ieee.{Float}
 use lib.ListN.{getElem?}
-use Rattle.models.specs.AotModel.{Model}
+use Rattle.models.specs.Plan.{Model}
 use Rattle.models.specs.Lists.{upward}
 use Rattle.models.specs.Places.{Place}
 use Rattle.models.specs.Steps.{sentAs}

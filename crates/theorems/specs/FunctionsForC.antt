@@ -8,8 +8,8 @@ use lib.IntN.{ℤ}
 use lib.Ieee.{Float}
 use lib.ListN.{length}
 use Rattle.models.specs.Pool as Pools
-use Rattle.models.specs.AotModel.{openRule, setTuning, setTuningOfPitches}
-use Rattle.models.specs.declared.aot.GroupBy.{GroupBy}
+use Rattle.models.specs.Plan.{openRule, setTuning, setTuningOfPitches}
+use Rattle.models.specs.declared.plan_block.GroupBy.{GroupBy}
 use Rattle.models.specs.declared.block.PoolGroupBy.{PoolGroupBy}
 use Rattle.models.specs.declared.block.PoolingMode.{PoolingMode}
 use Rattle.models.specs.declared.steps.TuningKind.{TuningKind}

@@ -14,13 +14,13 @@ use lib.Ieee.{Float}
 use lib.Ieee.Positive.{positive}
 use lib.ListN.{length}
 use Rattle.arithmetic.specs.Outcome.{value}
-use Rattle.models.specs.declared.aot.GroupBy.{GroupBy}
-use Rattle.models.specs.declared.aot.GroupBy.the-variants.{Channel}
+use Rattle.models.specs.declared.plan_block.GroupBy.{GroupBy}
+use Rattle.models.specs.declared.plan_block.GroupBy.the-variants.{Channel}
 use Rattle.models.specs.Lists.{Each, keep, member}
 use Rattle.models.specs.Line.{Line, group, ofGroup, rising}
 use Rattle.models.specs.PlanLists.{keys}
 use Rattle.models.specs.Walk.{count, seat, entry}
-use Rattle.models.specs.AotModel.{Model, Answer, tuned, untuned, holding, empty, planned}
+use Rattle.models.specs.Plan.{Model, Answer, tuned, untuned, holding, empty, planned}
 use Rattle.models.specs.PlanInternal.{Accepted}
 use Rattle.models.proofs.ListLaws.{outcome, passed, failed, true→T, or-cases, Each-map}
 use Rattle.models.proofs.Rising.{rising-Each}

@@ -17,7 +17,7 @@ use Rattle.models.specs.Lists.{Each, member}
 use Rattle.models.specs.Line.{Line}
 use Rattle.models.specs.PlanLists.{keys, pitchLine, pitchLines, lineByLine, pitchLists}
 use Rattle.models.specs.PlanInternal.{Accepted}
-use Rattle.models.specs.AotModel.{Model, planned}
+use Rattle.models.specs.Plan.{Model, planned}
 use Rattle.models.specs.Steps.{sentAs}
 use Rattle.theorems.specs.Bounds.{valueOf, StepBound}
 use Rattle.models.specs.declared.steps.TuningKind.{TuningKind}

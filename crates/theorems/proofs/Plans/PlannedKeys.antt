@@ -10,7 +10,7 @@ use lib.Dec.{leb, eqb, eqb-refl}
 use lib.IntN.{ℤ}
 use lib.Ieee.{Float}
 use lib.ListN.{length, getD}
-use Rattle.models.specs.declared.aot.GroupBy.{GroupBy}
+use Rattle.models.specs.declared.plan_block.GroupBy.{GroupBy}
 use Rattle.models.specs.Lists.{Each, keep}
 use Rattle.models.specs.Line.{Line, ofGroup, rising, group}
 use Rattle.models.specs.PlanLists.{keys}
@@ -26,7 +26,7 @@ use borrow.Author.Tests.{leb-true}
 use Rattle.arithmetic.specs.Outcome.{value}
 use Rattle.models.specs.Placing.{Joined, together}
 use Rattle.theorems.specs.PlannedKeys.{isOn, row, lastDetuning, JoinChain, Placed}
-use Rattle.models.specs.AotModel.{Model, Answer, tuned, untuned, holding, empty, planned}
+use Rattle.models.specs.Plan.{Model, Answer, tuned, untuned, holding, empty, planned}
 use Rattle.models.proofs.Held.{of-kept, zip}
 
 -- ---- a channel takes the keys of a group that come first

@@ -18,7 +18,7 @@ use Rattle.models.specs.Lists.{Each, member}
 use Rattle.models.specs.Line.{Line}
 use Rattle.models.specs.PlanLists.{isPlanned, keys, withKey, noteLine, noteLines, pitchLine, pitchLines, lineByLine, noteLists, pitchLists}
 use Rattle.models.specs.Walk.{count}
-use Rattle.models.specs.AotModel as M
+use Rattle.models.specs.Plan as M
 use Rattle.models.proofs.ListLaws.{outcome, passed, failed}
 use Rattle.models.proofs.Lines.{nearest-refused}
 

@@ -19,8 +19,9 @@ use Rattle.models.specs.Lists.{member, upward}
 use Rattle.models.specs.Line.{Line}
 use Rattle.models.specs.Refusal.{bufferTooShort}
 use Rattle.models.specs.Walk.{count}
-use Rattle.models.specs.AotModel as M
-use Rattle.models.specs.AotModel.{Model, modelOf, planned, openRule}
+use Rattle.models.specs.Plan as M
+use Rattle.models.specs.Plan.{Model, planned, openRule}
+use Rattle.models.specs.AotModel.{modelOf}
 use Rattle.models.specs.Steps.{sentAs}
 use Rattle.models.specs.declared.channels.ChannelList.{ChannelList}
 use Rattle.models.specs.declared.steps.TuningKind.{TuningKind}

@@ -16,14 +16,14 @@ use Rattle.models.specs.ChannelList.{listRule, present}
 use Rattle.models.specs.Lists.{Each}
 use Rattle.models.specs.Line.{Line, group}
 use Rattle.models.specs.Places.{Place}
-use Rattle.models.specs.AotModel as M
-use Rattle.models.specs.AotModel.{Model, planned, openRule}
+use Rattle.models.specs.Plan as M
+use Rattle.models.specs.Plan.{Model, planned, openRule}
 use Rattle.models.specs.PlanInternal.{Accepted}
 use Rattle.models.specs.PlanLists.{pitchLists}
 use Rattle.models.specs.Steps.{sentAs}
 use Rattle.theorems.specs.Bounds.{valueOf, StepBound}
-use Rattle.models.specs.declared.aot.GroupBy.{GroupBy}
-use Rattle.models.specs.declared.aot.GroupBy.the-variants.{Channel}
+use Rattle.models.specs.declared.plan_block.GroupBy.{GroupBy}
+use Rattle.models.specs.declared.plan_block.GroupBy.the-variants.{Channel}
 use Rattle.models.specs.declared.steps.TuningKind.{TuningKind}
 use Rattle.models.proofs.Accepted.{notes-accepted, pitches-accepted}
 use Rattle.models.proofs.ChannelLists.{Channels}

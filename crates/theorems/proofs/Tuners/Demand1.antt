@@ -13,8 +13,8 @@ use Rattle.models.specs.ChannelList.{listRule}
 use Rattle.models.specs.Line.{Line}
 use Rattle.models.specs.Lists.{Each, member}
 use Rattle.models.specs.PlanLists.{noteLists, pitchLists}
-use Rattle.models.specs.AotModel as M
-use Rattle.models.specs.AotModel.{Model, planned, openRule}
+use Rattle.models.specs.Plan as M
+use Rattle.models.specs.Plan.{Model, planned, openRule}
 use Rattle.models.specs.Pool as Pools
 use Rattle.models.specs.Pool.{found}
 use Rattle.theorems.proofs.ChannelLists.{refused-numbers}

@@ -14,7 +14,7 @@ use lib.Ieee.{Float}
 use lib.Ieee.Positive.{positive}
 use Rattle.models.specs.Outcome.{Outcome, value, refused, refuse_unless_then_}
 use Rattle.models.specs.Refusal.{channelOver15, bufferTooShort}
-use Rattle.models.specs.AotModel.{Model, untuned, planned}
+use Rattle.models.specs.Plan.{Model, untuned, planned}
 use Rattle.models.specs.Places.{Place}
 use Rattle.models.specs.Pool.{State, Press, rejected, fresh, found, registerRule, repitchRule}
 use Rattle.models.specs.Steps.{sentAs, tuningRule}

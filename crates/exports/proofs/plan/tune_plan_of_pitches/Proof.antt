@@ -2,7 +2,7 @@
 use mathlib.Core.Path.{_∙_, ap}
 use mathlib.Core.Bool.{true}
 use Rattle.models.specs.PlanLists.{pitchLists}
-use Rattle.models.specs.AotModel.{openRule}
+use Rattle.models.specs.Plan.{openRule}
 use Rattle.exports.proofs.PlanAnswers.{smallest, told-so}
 use borrow.Author.Needs.{needs}
 use Rattle.exports.proofs.plan.tune_plan_of_pitches.Statement.{statement}

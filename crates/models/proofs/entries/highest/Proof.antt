@@ -13,12 +13,12 @@ use mir.Val.{SFits, toZ, ofZ}
 use mir.Facts.{toZ-ofZ}
 use Rattle.arithmetic.specs.Note.{isNote}
 use Rattle.arithmetic.proofs.Notes.{note-fits}
-use Rattle.models.specs.declared.aot.GroupBy.{GroupBy}
+use Rattle.models.specs.declared.plan_block.GroupBy.{GroupBy}
 use Rattle.models.specs.Line.{group}
 use Rattle.models.specs.Places.{noteOf}
 use Rattle.models.specs.Keys.{keyCount}
 use Rattle.models.specs.PlanBlock.{detuningOf}
-use Rattle.models.specs.AotModel.{KeyRecord, counts, detuningAnswer, highest, isIn, larger, nobody, recordAt, recordOf, recordsAt}
+use Rattle.models.specs.Plan.{KeyRecord, counts, detuningAnswer, highest, isIn, larger, nobody, recordAt, recordOf, recordsAt}
 use Rattle.models.proofs.Slots.{group-note}
 use Rattle.models.proofs.RecordNumbers.{note-read}
 use Rattle.models.proofs.Records.{highest-none, highest-yes, highest-no, counts-not, counts-own, counts-other, in-note}

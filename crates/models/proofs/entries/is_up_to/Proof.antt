@@ -5,7 +5,7 @@ use mir.Syntax.{w32}
 use mir.Val.{toZ, ofZ}
 use borrow.Author.Tests.{le-leb, lt-leb}
 use Rattle.arithmetic.specs.Note.{isNote}
-use Rattle.models.specs.AotModel.{isIn}
+use Rattle.models.specs.Plan.{isIn}
 use Rattle.models.proofs.RecordNumbers.{note-read}
 use borrow.Author.Needs.{needs}
 use Rattle.models.proofs.entries.is_up_to.Statement.{statement}

@@ -10,7 +10,7 @@ use mir.Val.{SFits, toZ, ofZ}
 use mir.Facts.{toZ-ofZ}
 use Rattle.models.specs.Keys.{keyCount}
 use Rattle.models.specs.PlanBlock.{detuningOf}
-use Rattle.models.specs.AotModel.{KeyRecord, nobody, recordAt, recordOf, recordsAt}
+use Rattle.models.specs.Plan.{KeyRecord, nobody, recordAt, recordOf, recordsAt}
 use Rattle.models.specs.PlanInternal.{lower, leastFrom}
 use Rattle.models.proofs.Records.{least-next, least-end}
 use Rattle.models.proofs.PlanBlocks.{record-here, records-count}

@@ -13,7 +13,7 @@ use Rattle.arithmetic.specs.Note.{isNote}
 use Rattle.arithmetic.proofs.Notes.{note-fits}
 use Rattle.models.specs.Line.{group}
 use Rattle.models.specs.Places.{noteOf}
-use Rattle.models.specs.AotModel.{isIn, recordOf}
+use Rattle.models.specs.Plan.{isIn, recordOf}
 use Rattle.models.specs.PlanInternal.{lower}
 use Rattle.models.proofs.Slots.{group-note}
 use Rattle.models.proofs.Records.{in-note}

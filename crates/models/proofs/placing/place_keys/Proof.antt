@@ -8,7 +8,7 @@ use native.Mathlib.Omega.{arith}
 use lib.ListN.{getD, take, drop}
 use borrow.Author.Needs.{needs}
 use Rattle.arithmetic.specs.Note.{isNote}
-use Rattle.models.specs.declared.aot.GroupBy.{GroupBy}
+use Rattle.models.specs.declared.plan_block.GroupBy.{GroupBy}
 use Rattle.models.specs.Lists.{Each}
 use Rattle.models.specs.Line.{Line}
 use Rattle.models.specs.PlanLists.{keyCount}

@@ -6,7 +6,7 @@ use lib.ListN.{getD}
 use Rattle.models.specs.Keys.{keyCount}
 use Rattle.models.specs.Places.{placeOf}
 use Rattle.models.specs.PlanBlock.{detuningOf}
-use Rattle.models.specs.AotModel.{recordAt, recordsAt}
+use Rattle.models.specs.Plan.{recordAt, recordsAt}
 use Rattle.models.proofs.Records.{key-looked-up}
 use Rattle.models.proofs.PlanBlocks.{record-here}
 use borrow.Author.Needs.{needs}

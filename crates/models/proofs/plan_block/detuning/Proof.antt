@@ -3,8 +3,8 @@ use mathlib.Core.Path.{ap, sym, _∙_}
 use lib.IntN.{ℤ}
 use mir.Facts.{toZ-ofZ}
 use borrow.Author.Tests.{lt-ltb, le-ltb}
-use Rattle.models.specs.declared.aot.GroupBy.{GroupBy}
-use Rattle.models.specs.AotModel.{detuningIn, highest, recordsAt}
+use Rattle.models.specs.declared.plan_block.GroupBy.{GroupBy}
+use Rattle.models.specs.Plan.{detuningIn, highest, recordsAt}
 use borrow.Author.Needs.{needs}
 use Rattle.models.proofs.plan_block.detuning.Statement.{statement}
 use Rattle.models.proofs.plan_block.detuning.Tie as tie

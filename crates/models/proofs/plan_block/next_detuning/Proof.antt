@@ -8,8 +8,8 @@ use lib.ListN.{getD}
 use mir.Syntax.{w32}
 use mir.Val.{SFits, toZ, ofZ}
 use mir.Facts.{toZ-ofZ}
-use Rattle.models.specs.declared.aot.GroupBy.{GroupBy}
-use Rattle.models.specs.AotModel.{detuningAnswer, detuningIn, nextRule, planAt, recordsAt}
+use Rattle.models.specs.declared.plan_block.GroupBy.{GroupBy}
+use Rattle.models.specs.Plan.{detuningAnswer, detuningIn, nextRule, planAt, recordsAt}
 use Rattle.models.specs.PlanInternal.{leastFrom}
 use Rattle.models.proofs.NextEntry.{entry-found, entry-lost}
 use borrow.Author.Needs.{needs}

@@ -1,6 +1,6 @@
 -- `models::plan_block::tuning_kind` meets its contract. Assumes nothing.
 use borrow.Author.Tests.{eq-eqb, ne-eqb}
-use Rattle.models.specs.Block.{kindOf}
+use Rattle.models.specs.Steps.{kindOf}
 use Rattle.models.specs.PlanBlock.{planKindAt}
 use borrow.Author.Needs.{needs}
 use Rattle.models.proofs.plan_block.tuning_kind.Statement.{statement}

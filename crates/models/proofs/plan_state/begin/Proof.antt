@@ -5,7 +5,7 @@ use native.Mathlib.Omega.{arith}
 use lib.ListN.{length}
 use Rattle.models.specs.ChannelList.{entries, digits}
 use Rattle.models.specs.PlanBlock.{listAt}
-use Rattle.models.specs.AotModel.{empty}
+use Rattle.models.specs.Plan.{empty}
 use Rattle.models.proofs.ChannelLists.{length-digits}
 use Rattle.models.proofs.PlanBlocks.{settings-long, settings-list, settings-group, settings-kind}
 use borrow.Author.Needs.{needs}

@@ -5,7 +5,7 @@ use Prim.Native.Nat.{ℕ, _≤_}
 use native.Mathlib.Omega.{arith}
 use lib.ListN.{length}
 use Rattle.models.specs.PlanBlock.{listAt, groupByAt}
-use Rattle.models.specs.AotModel.{recordsAt, empty}
+use Rattle.models.specs.Plan.{recordsAt, empty}
 use Rattle.models.proofs.ChannelLists.{entries-few}
 use Rattle.models.proofs.PlanBlocks.{put-plan, put-kind, list-same, group-same, kind-same, no-records, cleared}
 use borrow.Author.Needs.{needs}

@@ -5,7 +5,7 @@ use native.Mathlib.Omega.{arith}
 use lib.ListN.{length, length-set}
 use Rattle.models.specs.PlanBlock.{planSettings}
 use Rattle.models.specs.Walk.{count}
-use Rattle.models.specs.AotModel.{Model, planAt, untuned}
+use Rattle.models.specs.Plan.{Model, planAt, untuned}
 use Rattle.models.proofs.ChannelLists.{entries-few}
 use Rattle.models.proofs.Models.{planned-untuned}
 use Rattle.models.proofs.Planned.{plan-refused, plan-accepted}

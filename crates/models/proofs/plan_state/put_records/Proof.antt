@@ -7,7 +7,7 @@ use lib.Ieee.{Float, nan}
 use lib.ListN.{getD, length-set}
 use Rattle.models.specs.Keys.{keyCount}
 use Rattle.models.specs.PlanBlock.{stored}
-use Rattle.models.specs.AotModel.{KeyRecord, recordOf, recordAt}
+use Rattle.models.specs.Plan.{KeyRecord, recordOf, recordAt}
 use Rattle.models.specs.PlanInternal.{SettingsSame}
 use Rattle.models.proofs.PlanBlocks.{settings-kept, settings-then, key-same, key-more}
 use borrow.Author.Needs.{needs}

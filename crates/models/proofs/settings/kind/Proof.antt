@@ -1,6 +1,7 @@
 -- `settings::kind` meets its contract. Assumes nothing.
 use borrow.Author.Tests.{eq-eqb, ne-eqb}
-use Rattle.models.specs.Block.{kindOf, kindAt}
+use Rattle.models.specs.Block.{kindAt}
+use Rattle.models.specs.Steps.{kindOf}
 use borrow.Author.Needs.{needs}
 use Rattle.models.proofs.settings.kind.Statement.{statement}
 use Rattle.models.proofs.settings.kind.Tie as tie

@@ -2,7 +2,7 @@
 use mathlib.Core.Path.{ap, _∙_}
 use mathlib.Core.List.{List}
 use Prim.Native.Nat.{ℕ}
-use Rattle.models.specs.AotModel.{openRule, empty}
+use Rattle.models.specs.Plan.{openRule, empty}
 use Rattle.models.specs.ChannelList.{present}
 use borrow.Author.Needs.{needs}
 use Rattle.models.proofs.aot.AotTuningModel.open.Statement.{statement}

@@ -3,7 +3,7 @@ use mathlib.Core.Path.{ap}
 use mathlib.Core.List.{List}
 use Prim.Native.Nat.{ℕ}
 use Rattle.models.specs.Outcome.{Outcome}
-use Rattle.models.specs.AotModel.{Model}
+use Rattle.models.specs.Plan.{Model}
 use Rattle.models.specs.declared.steps.TuningKind.{TuningKind}
 use Rattle.senders.specs.Aot.{Tuner}
 use borrow.Author.Needs.{needs}

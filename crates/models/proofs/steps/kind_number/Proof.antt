@@ -1,9 +1,9 @@
--- `settings::kind_number` meets its contract. Assumes nothing.
+-- `steps::kind_number` meets its contract. Assumes nothing.
 use mathlib.Core.Path.{sym}
-use Rattle.models.specs.Block.{kindOf}
+use Rattle.models.specs.Steps.{kindOf}
 use borrow.Author.Needs.{needs}
-use Rattle.models.proofs.settings.kind_number.Statement.{statement}
-use Rattle.models.proofs.settings.kind_number.Tie as tie
+use Rattle.models.proofs.steps.kind_number.Statement.{statement}
+use Rattle.models.proofs.steps.kind_number.Tie as tie
 
 enum-told : tie.Need-enum-told
 enum-told c = search needs
