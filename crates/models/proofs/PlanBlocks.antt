@@ -90,16 +90,17 @@ bits-back d f e =
     rw (n, e) (ofBits-toBits binary64 d f)
 
 -- zero is below what is above zero
-zero-below : (m : ℕ) (e : ℤ) → T (positive (fin false m e)) → lt (ofBits binary64 0) (fin false m e) ≡ true
+pub zero-below : (d : Float) → T (positive d) → lt (ofBits binary64 0) d ≡ true
 unfolding ofBits lt
-zero-below m e p = lt-ltb (0 * down e) (m * up e * 1) (subst (λ (n : ℕ). n < m * up e * 1) (sym (zero-mul (down e))) (mul-pos (mul-pos (ltb→lt 0 m p) (up-pos e)) (omega arith)))
+zero-below nan p = absurd p
+zero-below (inf s) p = absurd p
+zero-below (fin true m e) p = absurd p
+zero-below (fin false m e) p =
+    lt-ltb (0 * down e) (m * up e * 1) (subst (λ (n : ℕ). n < m * up e * 1) (sym (zero-mul (down e))) (mul-pos (mul-pos (ltb→lt 0 m p) (up-pos e)) (omega arith)))
 
 pub stored-positive : (d : Float) → T (positive d) → stored d ≡ d
 unfolding stored
-stored-positive nan p = absurd p
-stored-positive (inf s) p = absurd p
-stored-positive (fin true m e) p = absurd p
-stored-positive (fin false m e) p = rw (zero-below m e p)
+stored-positive d p = rw (zero-below d p)
 
 -- ---- the settings
 

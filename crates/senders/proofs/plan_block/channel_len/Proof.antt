@@ -1,12 +1,12 @@
--- `senders::aot::channel_len` meets its contract: the channel has a detuning and the list the entry, or not. Assumes nothing.
+-- `senders::plan_block::channel_len` meets its contract: the channel has a detuning and the list the entry, or not. Assumes nothing.
 use mathlib.Core.Path.{_≡_, refl, sym, ap, _∙_}
 use Rattle.models.specs.ChannelList.{entries, entryAnswer}
 use Rattle.models.specs.Steps.{sentAs}
 use Rattle.senders.proofs.Sizes.{tuning-size}
 use Rattle.senders.proofs.Tunings.{channel-sent, channel-past}
 use borrow.Author.Needs.{needs}
-use Rattle.senders.proofs.aot.channel_len.Statement.{statement}
-use Rattle.senders.proofs.aot.channel_len.Tie as tie
+use Rattle.senders.proofs.plan_block.channel_len.Statement.{statement}
+use Rattle.senders.proofs.plan_block.channel_len.Tie as tie
 
 enum-known-detuning : tie.Need-enum-known-detuning
 enum-known-detuning c = search needs

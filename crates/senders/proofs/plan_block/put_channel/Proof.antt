@@ -1,4 +1,4 @@
--- `senders::aot::put_channel` meets its contract: the channel has a detuning and the list the entry, and then the tuning is put, or not. Assumes nothing.
+-- `senders::plan_block::put_channel` meets its contract: the channel has a detuning and the list the entry, and then the tuning is put, or not. Assumes nothing.
 use mathlib.Core.Path.{_≡_, sym, ap, _∙_}
 use mathlib.Core.Option.{some}
 use lib.ListN.{getElem?}
@@ -8,8 +8,8 @@ use Rattle.senders.proofs.Channels.{entry-low}
 use Rattle.senders.proofs.Lent.{put-none}
 use Rattle.senders.proofs.Tunings.{channel-sent, channel-past}
 use borrow.Author.Needs.{needs}
-use Rattle.senders.proofs.aot.put_channel.Statement.{statement}
-use Rattle.senders.proofs.aot.put_channel.Tie as tie
+use Rattle.senders.proofs.plan_block.put_channel.Statement.{statement}
+use Rattle.senders.proofs.plan_block.put_channel.Tie as tie
 
 known : (c : tie.After-channel) → let a = c .before .before .before .before .before .before .before .args in
     getElem? (entries (a .channels)) (a .i) ≡ some (c .channel .given .0 .0)
