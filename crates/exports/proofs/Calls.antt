@@ -11,7 +11,7 @@ use lib.Seq.{drop-drop, take-at, drop-at}
 use borrow.Author.Tests.{leb-true}
 use borrow.Rule.Slice.PartMut.{putMid}
 use Rattle.arithmetic.specs.Outcome.{Outcome, value, refused}
-use Rattle.models.specs.Refusal.{bufferTooShort}
+use Rattle.channels.specs.Refusal.{bufferTooShort}
 use Rattle.senders.specs.Lent.{Effect, fitted, left, written, settled}
 use Rattle.senders.proofs.Lent.{tail-part, tail-back}
 use Rattle.exports.specs.declared.message.Heard.{Heard}

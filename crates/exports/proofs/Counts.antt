@@ -9,11 +9,11 @@ use lib.Ieee.{Float}
 use lib.IntN.{ℤ}
 use lib.ListN.{length}
 use Rattle.arithmetic.specs.Outcome.{Outcome, value, refused, refuse_unless_then_}
-use Rattle.models.specs.Refusal.{bufferTooShort, dataByteOver127, bendOutOfRange}
-use Rattle.models.specs.Places.{Place}
-use Rattle.models.specs.Pool.{State, Press, accepted, rejected, registerRule, repitchRule}
-use Rattle.models.specs.Plan as M
-use Rattle.models.specs.declared.steps.TuningKind.{TuningKind}
+use Rattle.channels.specs.Refusal.{bufferTooShort, dataByteOver127, bendOutOfRange}
+use Rattle.channels.specs.Places.{Place}
+use Rattle.pools.specs.Pool.{State, Press, accepted, rejected, registerRule, repitchRule}
+use Rattle.plans.specs.Plan as M
+use Rattle.channels.specs.declared.tuning_value.TuningKind.{TuningKind}
 use Rattle.senders.specs.Message.{isData, isBend}
 use Rattle.senders.specs.Midi.{bytesOf, checked}
 use Rattle.senders.specs.Lent.{Effect, Answer, sent, fitted, told, Moved, left, Steps, settled}

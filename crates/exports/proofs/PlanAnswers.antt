@@ -5,8 +5,8 @@ use mathlib.Core.List.{List}
 use Prim.Native.Nat.{ℕ}
 use lib.IntN.{ℤ}
 use Rattle.arithmetic.specs.Outcome.{Outcome}
-use Rattle.models.specs.Line.{Line}
-use Rattle.models.specs.Plan.{Model, Answer, planned, Smallest}
+use Rattle.plans.specs.Line.{Line}
+use Rattle.plans.specs.Plan.{Model, Answer, planned, Smallest}
 use Rattle.exports.specs.Returned.{listRefusal}
 use Rattle.exports.specs.Plans.{kindOf, Told}
 

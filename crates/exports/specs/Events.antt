@@ -8,12 +8,12 @@ use lib.IntN.{ℤ, pos}
 use lib.Ieee.{Float}
 use lib.ListN.{length}
 use Rattle.arithmetic.specs.Outcome.{Outcome, value, refused}
-use Rattle.models.specs.Places.{Place}
-use Rattle.models.specs.Pool.{State, Press, accepted, rejected, found, released, registerRule, repitchRule, replied}
-use Rattle.models.specs.declared.block.PoolGroupBy.{PoolGroupBy}
-use Rattle.models.specs.declared.block.PoolGroupBy.the-variants.{NoteLetter, Channel}
-use Rattle.models.specs.declared.block.PoolingMode.{PoolingMode}
-use Rattle.models.specs.declared.block.PoolingMode.the-variants.{Block, Stop, Ignore}
+use Rattle.channels.specs.Places.{Place}
+use Rattle.pools.specs.Pool.{State, Press, accepted, rejected, found, released, registerRule, repitchRule, replied}
+use Rattle.pools.specs.declared.block.PoolGroupBy.{PoolGroupBy}
+use Rattle.pools.specs.declared.block.PoolGroupBy.the-variants.{NoteLetter, Channel}
+use Rattle.pools.specs.declared.block.PoolingMode.{PoolingMode}
+use Rattle.pools.specs.declared.block.PoolingMode.the-variants.{Block, Stop, Ignore}
 use Rattle.exports.specs.Lent.{zeroFloat, byteAt, floatAt}
 use Rattle.exports.specs.declared.pool.Answer.{Answer}
 

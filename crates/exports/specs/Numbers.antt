@@ -5,10 +5,10 @@ use lib.IntN.{ℤ, pos}
 use lib.Ieee.{Float}
 use Rattle.arithmetic.specs.Outcome.{Outcome, value, refused}
 use Rattle.arithmetic.specs.Nearest.{nearestRule}
-use Rattle.models.specs.Steps.{tuningRule}
-use Rattle.models.specs.declared.steps.TuningKind.{TuningKind}
-use Rattle.models.specs.declared.steps.Tuning.{Tuning}
-use Rattle.models.specs.declared.steps.Tuning.the-variants.{Fine, Bend}
+use Rattle.channels.specs.TuningValue.{tuningRule}
+use Rattle.channels.specs.declared.tuning_value.TuningKind.{TuningKind}
+use Rattle.channels.specs.declared.tuning_value.Tuning.{Tuning}
+use Rattle.channels.specs.declared.tuning_value.Tuning.the-variants.{Fine, Bend}
 use Rattle.exports.specs.Lent.{zeroFloat, floatAt}
 use Rattle.exports.specs.declared.nearest.Found.{Found}
 

@@ -7,9 +7,9 @@ use lib.IntN.{ℤ}
 use lib.Ieee.{Float}
 use lib.ListN.{length}
 use Rattle.arithmetic.specs.Outcome.{Outcome, value, refused}
-use Rattle.models.specs.Plan.{planned}
-use Rattle.models.specs.Line.{Line}
-use Rattle.models.specs.PlanLists.{noteLists, pitchLists}
+use Rattle.plans.specs.Plan.{planned}
+use Rattle.plans.specs.Line.{Line}
+use Rattle.plans.specs.PlanLists.{noteLists, pitchLists}
 use Rattle.senders.specs.Lent.{Answer, fitted, told, settled}
 use Rattle.senders.specs.Aot.{Tuner, Planned, tunes, cannot, planEffect, Smallest, setTuningRule, setTuningOfPitchesRule, noteOnRule, noteOffRule, noteAttrRule, globalAttrRule, stopRule}
 use Rattle.exports.specs.Lent.{byteAt, numberAt}

@@ -8,9 +8,9 @@ use lib.Dec.{eqb}
 use lib.IntN.{ℤ, pos}
 use lib.Ieee.{Float}
 use lib.ListN.{length, set}
-use Rattle.models.specs.Plan.{Model, Answer, tuned, untuned, refused, nextRule}
-use Rattle.models.specs.declared.plan_block.GroupBy.{GroupBy}
-use Rattle.models.specs.declared.plan_block.GroupBy.the-variants.{Note, NoteLetter, Channel}
+use Rattle.plans.specs.Plan.{Model, Answer, tuned, untuned, refused, nextRule}
+use Rattle.plans.specs.declared.block.GroupBy.{GroupBy}
+use Rattle.plans.specs.declared.block.GroupBy.the-variants.{Note, NoteLetter, Channel}
 use Rattle.exports.specs.Lent.{zeroFloat, byteAt, numberAt, filled}
 use Rattle.exports.specs.Returned.{unlessRefused}
 use Rattle.exports.specs.declared.plan.Seat.{Seat}

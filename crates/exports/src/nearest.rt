@@ -3,8 +3,8 @@
 ghost use mathlib.Core.Path.{_≡_};
 ghost use lib.ListN.{length};
 ghost use Rattle.arithmetic.specs.Nearest.{nearestRule};
-ghost use Rattle.models.specs.Answers.{tuningAnswer};
-ghost use Rattle.models.specs.declared.steps.TuningKind.the-variants.{FineTuning, Bend};
+ghost use Rattle.channels.specs.Answers.{tuningAnswer};
+ghost use Rattle.channels.specs.declared.tuning_value.TuningKind.the-variants.{FineTuning, Bend};
 ghost use Rattle.exports.specs.Lent.{filled, floatAt};
 ghost use Rattle.exports.specs.Numbers.{foundNote, refusalOf, fineOf, bendOf, nearestAt, tuningAt};
 use crate::lent::float_at;
@@ -17,9 +17,9 @@ use arithmetic::pitch::Pitch;
 use arithmetic::pitch::Ratio;
 use arithmetic::tuning::Approximation;
 use arithmetic::tuning::find_by_pitch;
-use models::steps::Tuning;
-use models::steps::TuningAnswer;
-use models::steps::tunings_of;
+use channels::tuning_value::Tuning;
+use channels::tuning_value::TuningAnswer;
+use channels::tuning_value::tunings_of;
 
 // A nearest note and its detuning, or the number of a refusal, which is 0 where there is none.
 struct Found {

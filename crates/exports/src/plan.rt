@@ -4,8 +4,8 @@ ghost use mathlib.Core.Path.{_≡_};
 ghost use mathlib.Core.Bool.{true};
 ghost use lib.Dec.{eqb};
 ghost use lib.ListN.{length};
-ghost use Rattle.models.specs.PlanLists.{noteLists, pitchLists};
-ghost use Rattle.models.specs.Plan.{openRule, setTuning, setTuningOfPitches, Smallest, planAnswer, accessAnswer, nextAnswer};
+ghost use Rattle.plans.specs.PlanLists.{noteLists, pitchLists};
+ghost use Rattle.plans.specs.Plan.{openRule, setTuning, setTuningOfPitches, Smallest, planAnswer, accessAnswer, nextAnswer};
 ghost use Rattle.models.specs.AotModel.{modelOf};
 ghost use Rattle.exports.specs.Lent.{filled};
 ghost use Rattle.exports.specs.Returned.{listRefusal, unlessRefused};
@@ -21,10 +21,10 @@ use crate::returned::UNTUNED;
 use crate::returned::is_result;
 use crate::returned::list_refusal;
 use models::aot::AotTuningModel;
-use models::plan_block::GroupBy;
-use models::plan_block::NextAnswer;
-use models::plan_block::PlanAnswer;
-use models::keys::AccessKeyResult;
+use plans::block::GroupBy;
+use plans::block::NextAnswer;
+use plans::block::PlanAnswer;
+use channels::keys::AccessKeyResult;
 
 // The kind of an entry, and of none.
 const FOUND: u8 = 0;

@@ -24,7 +24,7 @@ use crate::message::sent_heard;
 use crate::pool::mode_of;
 use crate::returned::is_result;
 use crate::returned::list_refusal;
-use models::Pitch;
+use channels::Pitch;
 use senders::jit::JitTuner;
 use senders::jit::PressAnswer;
 

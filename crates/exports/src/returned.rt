@@ -1,10 +1,10 @@
 // What a function returns: 0 where it is done, 20 where there are too few channels for a plan, or the number of a refusal.
 
 ghost use mathlib.Core.Path.{_≡_};
-ghost use Rattle.models.specs.ChannelList.{channelsAnswer};
+ghost use Rattle.channels.specs.ChannelList.{channelsAnswer};
 ghost use Rattle.exports.specs.Returned.{isResult, listRefusal};
 use arithmetic::refusal::LISTS_UNEQUAL;
-use models::channels::ChannelsAnswer;
+use channels::list::ChannelsAnswer;
 
 pub(crate) const DONE: u8 = 0;
 

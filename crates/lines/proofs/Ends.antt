@@ -7,8 +7,8 @@ use mathlib.Core.Bool.{Bool, true, false}
 use lib.Dec.{leb}
 use lib.ListN.{length, take}
 use borrow.Author.Tests.{leb-true, leb-false}
-use Rattle.models.specs.Outcome.{value, refused}
-use Rattle.models.specs.Refusal.{bufferTooShort}
+use Rattle.channels.specs.Outcome.{value, refused}
+use Rattle.channels.specs.Refusal.{bufferTooShort}
 use Rattle.senders.specs.Lent.{Steps, Answers, sent, written}
 use Rattle.senders.specs.Answers.{sentAnswer}
 use Rattle.senders.specs.Jit.{view}

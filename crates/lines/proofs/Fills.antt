@@ -8,7 +8,7 @@ use lib.ListN.{length, take, drop, length-append, length-drop, take-append-drop}
 use lib.Seq.{length-take-le, drop-drop, take-at, drop-at}
 use lib.Dec.{leb}
 use borrow.Author.Tests.{leb-true, leb-false}
-use Rattle.models.specs.Outcome.{value, refused}
+use Rattle.channels.specs.Outcome.{value, refused}
 use Rattle.senders.specs.Lent.{written, Answers, sent}
 
 -- w bytes of output at the start of a buffer, the rest kept

@@ -10,12 +10,12 @@ use lib.Ieee.{Float}
 use lib.ListN.{length, take, drop, length-append}
 use lib.Seq.{take-at, take-append-le}
 use borrow.Author.Tests.{le-leb, leb-false}
-use Rattle.models.specs.Outcome.{Outcome, value, refused, refuse_unless_then_}
-use Rattle.models.specs.Refusal.{bufferTooShort}
+use Rattle.channels.specs.Outcome.{Outcome, value, refused, refuse_unless_then_}
+use Rattle.channels.specs.Refusal.{bufferTooShort}
 use Rattle.arithmetic.specs.Pitch.{isPitch, detuningOf}
 use Rattle.arithmetic.specs.Nearest.{nearestNote}
-use Rattle.models.specs.Places.{Place, isHeld}
-use Rattle.models.specs.Pool.{State, Press, found, released, pressed, unlessHeld, registerRule, tuning, repitchRule}
+use Rattle.channels.specs.Places.{Place, isHeld}
+use Rattle.pools.specs.Pool.{State, Press, found, released, pressed, unlessHeld, registerRule, tuning, repitchRule}
 use Rattle.senders.specs.Lent.{Effect, sends, sent, Answer, Steps, Answers}
 use Rattle.senders.specs.Answers.{sentAnswer}
 use Rattle.senders.specs.Jit.{Tuner, withPool, Pressed, pressEffect, repitchEffect, noteOnRule, noteOffRule, notePitchRule}

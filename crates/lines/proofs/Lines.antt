@@ -11,8 +11,8 @@ use lib.ListN.{length, take, drop, getD, drop-of-length-le, length-take}
 use lib.Seq.{take-all}
 use lib.Dec.{eqb, leb, lit<}
 use borrow.Author.Tests.{eq-eqb, ne-eqb, eqb-true, eqb-false, le-leb, lt-leb, leb-true, leb-false}
-use Rattle.models.specs.Outcome.{value, refused}
-use Rattle.models.proofs.ListLaws.{passed, failed, outcome}
+use Rattle.channels.specs.Outcome.{value, refused}
+use Rattle.channels.proofs.ListLaws.{passed, failed, outcome}
 use Rattle.lines.specs.Grammar.{digits, decimal, allowed, zeros}
 use Rattle.lines.specs.Line.{same, kindOf, number, event, eventOf, ofFields, meaning}
 use Rattle.lines.specs.Split.{into, split}

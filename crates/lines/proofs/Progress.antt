@@ -7,7 +7,7 @@ use mathlib.Core.List.{List, [], _++_, append-nil}
 use lib.ListN.{length, take, drop, length-drop, drop-of-length-le, take-append-drop}
 use lib.Seq.{drop-drop, length-take-le, take-length}
 use borrow.Rule.Slice.PartMut.{putMid}
-use Rattle.models.specs.Outcome.{value}
+use Rattle.channels.specs.Outcome.{value}
 use Rattle.senders.specs.Lent.{Answers, sent, written}
 use Rattle.senders.specs.Answers.{sentAnswer}
 use Rattle.senders.specs.Jit.{Tuner}

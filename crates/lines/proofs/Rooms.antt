@@ -6,7 +6,7 @@ use mathlib.Core.List.{List, [], _∷_, _++_}
 use lib.ListN.{length}
 use lib.Dec.{eqb, leb, ltb}
 use borrow.Author.Tests.{le-leb}
-use Rattle.models.specs.Outcome.{Outcome}
+use Rattle.channels.specs.Outcome.{Outcome}
 use Rattle.senders.specs.Lent.{Effect}
 use Rattle.senders.specs.Jit.{Tuner}
 use Rattle.lines.specs.Split.{feed}

@@ -7,8 +7,8 @@ use mathlib.Core.Path.{_≡_, refl, sym, _∙_, ap}
 use mathlib.Core.List.{List, [], _∷_, _++_, append-assoc, append-nil}
 use lib.ListN.{length, take, drop, set, length-set, take-append-drop}
 use lib.Seq.{take-suc-set, drop-set-lt, drop-drop, length-take-le}
-use Rattle.models.specs.Outcome.{value, refused}
-use Rattle.models.specs.Refusal.{bufferTooShort}
+use Rattle.channels.specs.Outcome.{value, refused}
+use Rattle.channels.specs.Refusal.{bufferTooShort}
 use Rattle.senders.specs.Lent.{written, Answers, sent, Put}
 use Rattle.senders.proofs.Lent.{ends-short, ends-counted}
 

@@ -3,9 +3,9 @@ use Prim.Native.Nat.{ℕ}
 use mathlib.Core.List.{List, [], _∷_, _++_}
 use lib.IntN.{pos}
 use lib.Ieee.{Float, binary64, ofInt, div}
-use Rattle.models.specs.Outcome.{Outcome, value, refused}
-use Rattle.models.specs.declared.steps.TuningKind.the-variants.{FineTuning}
-use Rattle.models.specs.declared.block.PoolingMode.the-variants.{Stop}
+use Rattle.channels.specs.Outcome.{Outcome, value, refused}
+use Rattle.channels.specs.declared.tuning_value.TuningKind.the-variants.{FineTuning}
+use Rattle.pools.specs.declared.block.PoolingMode.the-variants.{Stop}
 use Rattle.senders.specs.Lent.{Effect, sends}
 use Rattle.senders.specs.Jit.{Tuner, startRule, noteOnRule, noteOffRule, notePitchRule}
 use Rattle.lines.specs.Split.{feed, split}

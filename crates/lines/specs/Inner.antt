@@ -3,7 +3,7 @@ use Prim.Native.Nat.{ℕ, _≤_}
 use mathlib.Core.Path.{_≡_}
 use mathlib.Core.List.{List, [], _++_}
 use lib.ListN.{length, take}
-use Rattle.models.specs.Outcome.{Outcome, value, refused}
+use Rattle.channels.specs.Outcome.{Outcome, value, refused}
 use Rattle.senders.specs.Lent.{Answers, sent}
 use Rattle.senders.specs.Answers.{sentAnswer}
 use Rattle.senders.specs.Jit.{Tuner, Pressed, sounds, rejects}

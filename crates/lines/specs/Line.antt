@@ -6,8 +6,8 @@ use mathlib.Core.List.{List, [], _∷_}
 use mathlib.Core.Option.{Option, some, none}
 use lib.ListN.{length}
 use lib.Dec.{eqb, leb}
-use Rattle.models.specs.Outcome.{Outcome, value, refused, refuse_unless_then_}
-use Rattle.models.specs.Refusal.{lineMalformed}
+use Rattle.channels.specs.Outcome.{Outcome, value, refused, refuse_unless_then_}
+use Rattle.channels.specs.Refusal.{lineMalformed}
 use Rattle.lines.specs.Split.{comma, split}
 use Rattle.lines.specs.Grammar.{word, digits, decimal, allowed}
 use Rattle.lines.specs.declared.line.Kind.{Kind}

@@ -5,7 +5,7 @@ ghost use Prim.Native.Nat.{_<_};
 ghost use Rattle.senders.specs.Lent.{Answers, sent};
 ghost use Rattle.senders.specs.Answers.{sentAnswer};
 ghost use Rattle.lines.specs.Show.{bytesLine, refusalLine, hexDigit};
-use models::refusal::BUFFER_TOO_SHORT;
+use channels::refusal::BUFFER_TOO_SHORT;
 use senders::midi::Sent;
 
 // The line of bytes that are sent. Refuses 10.

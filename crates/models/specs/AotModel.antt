@@ -2,8 +2,8 @@
 use Prim.Native.Nat.{ℕ}
 use mathlib.Core.List.{List}
 use Rattle.arithmetic.specs.Outcome.{Outcome}
-use Rattle.models.specs.ChannelList.{channelsAnswer}
-use Rattle.models.specs.Plan.{Model, Answer, planAt, planAnswer}
+use Rattle.channels.specs.ChannelList.{channelsAnswer}
+use Rattle.plans.specs.Plan.{Model, Answer, planAt, planAnswer}
 use Rattle.models.specs.declared.aot.AotTuningModel.{AotTuningModel}
 use Rattle.models.specs.declared.aot.SetTuning.{SetTuning}
 use Rattle.models.specs.declared.aot.Opened.{Opened}

@@ -2,10 +2,10 @@
 use Prim.Native.Nat.{ℕ}
 use mathlib.Core.List.{List}
 use Rattle.arithmetic.specs.Outcome.{Outcome}
-use Rattle.models.specs.ChannelList.{channelsAnswer}
-use Rattle.models.specs.Pool.{State, Press}
-use Rattle.models.specs.Block.{stateOf}
-use Rattle.models.specs.PoolAnswers.{press}
+use Rattle.channels.specs.ChannelList.{channelsAnswer}
+use Rattle.pools.specs.Pool.{State, Press}
+use Rattle.pools.specs.Block.{stateOf}
+use Rattle.pools.specs.PoolAnswers.{press}
 use Rattle.models.specs.declared.jit.JitTuningModel.{JitTuningModel}
 use Rattle.models.specs.declared.jit.Registered.{Registered}
 use Rattle.models.specs.declared.jit.Opened.{Opened}

@@ -1,22 +1,3 @@
 -- What the crate's contracts cite, each file a rule of document 01.
-pub mod Outcome
-pub mod Refusal
-pub mod Lists
-pub mod Keys
-pub mod Places
-pub mod ChannelList
-pub mod Steps
-pub mod Answers
-pub mod Pool
-pub mod Block
-pub mod PoolAnswers
 pub mod JitModel
-pub mod PoolInternal
-pub mod Line
-pub mod Walk
-pub mod Placing
-pub mod PlanLists
-pub mod PlanBlock
-pub mod Plan
 pub mod AotModel
-pub mod PlanInternal

@@ -1,30 +1,30 @@
 // Plans ("ahead of time"): every key gets a channel and a note before anyone plays. Here by value, as `plan_block` has them in place.
 
 ghost use mathlib.Core.Path.{_≡_};
-ghost use Rattle.models.specs.ChannelList.{channelsAnswer, entries};
-ghost use Rattle.models.specs.PlanLists.{noteLists, pitchLists};
-ghost use Rattle.models.specs.Plan.{Smallest, accessAnswer, detuningAnswer, empty, nextAnswer, nextRule, openRule, setTuning, setTuningOfPitches};
+ghost use Rattle.channels.specs.ChannelList.{channelsAnswer, entries};
+ghost use Rattle.plans.specs.PlanLists.{noteLists, pitchLists};
+ghost use Rattle.plans.specs.Plan.{Smallest, accessAnswer, detuningAnswer, empty, nextAnswer, nextRule, openRule, setTuning, setTuningOfPitches};
 ghost use Rattle.models.specs.AotModel.{modelOf, openedOf, outcomeOf};
-use crate::channels::ChannelList;
-use crate::channels::ChannelsAnswer;
-use crate::channels::present;
-use crate::keys::AccessKeyResult;
-use crate::plan_block::DetuningAnswer;
-use crate::plan_block::GroupBy;
-use crate::plan_block::NextAnswer;
-use crate::plan_block::PlanAnswer;
-use crate::plan_block::access_key;
-use crate::plan_block::channel_list;
-use crate::plan_block::detuning;
-use crate::plan_block::group_by;
-use crate::plan_block::next_detuning;
-use crate::plan_block::num_channels;
-use crate::plan_block::open;
-use crate::plan_block::set_tuning;
-use crate::plan_block::set_tuning_of_pitches;
-use crate::plan_block::tuned;
-use crate::plan_cells::PLAN_CELLS;
-use crate::steps::TuningKind;
+use channels::list::ChannelList;
+use channels::list::ChannelsAnswer;
+use channels::list::present;
+use channels::keys::AccessKeyResult;
+use plans::block::DetuningAnswer;
+use plans::block::GroupBy;
+use plans::block::NextAnswer;
+use plans::block::PlanAnswer;
+use plans::block::access_key;
+use plans::block::channel_list;
+use plans::block::detuning;
+use plans::block::group_by;
+use plans::block::next_detuning;
+use plans::block::num_channels;
+use plans::block::open;
+use plans::block::set_tuning;
+use plans::block::set_tuning_of_pitches;
+use plans::block::tuned;
+use plans::cells::PLAN_CELLS;
+use channels::tuning_value::TuningKind;
 
 // A model of tunings that are planned.
 pub struct AotTuningModel {

@@ -2,13 +2,13 @@
 // Writes a line for each call.
 ghost use Prim.Native.Nat.{_≤_};
 use models::aot::AotTuningModel;
-use models::plan_block::DetuningAnswer;
-use models::plan_block::GroupBy;
-use models::plan_block::NextAnswer;
-use models::plan_block::PlanAnswer;
+use plans::block::DetuningAnswer;
+use plans::block::GroupBy;
+use plans::block::NextAnswer;
+use plans::block::PlanAnswer;
 use models::aot::SetTuning;
-use models::channels::ChannelsAnswer;
-use models::keys::AccessKeyResult;
+use channels::list::ChannelsAnswer;
+use channels::keys::AccessKeyResult;
 use show::float;
 use show::number;
 use show::refusal;

@@ -1,26 +1,26 @@
 // Replays document 01's examples 11 and 12, every pooling mode, letter pools, zero channels and the refusals, and writes what it found.
 
 use arithmetic::pitch::Pitch;
-use models::block::access_key;
-use models::block::allocate_key;
-use models::block::deregister_all;
-use models::block::deregister_key;
-use models::block::register_key;
-use models::block::register_note;
-use models::cells::CELLS;
-use models::channels::ChannelList;
-use models::channels::ChannelsAnswer;
-use models::channels::EntryAnswer;
-use models::channels::present;
+use pools::block::access_key;
+use pools::block::allocate_key;
+use pools::block::deregister_all;
+use pools::block::deregister_key;
+use pools::block::register_key;
+use pools::block::register_note;
+use pools::cells::CELLS;
+use channels::list::ChannelList;
+use channels::list::ChannelsAnswer;
+use channels::list::EntryAnswer;
+use channels::list::present;
 use models::jit::JitTuningModel;
-use models::block::PoolGroupBy;
-use models::block::PoolingMode;
-use models::block::RegisterKeyResult;
-use models::block::RepitchKeyResult;
-use models::block::StoppedNote;
-use models::keys::AccessKeyResult;
-use models::keys::NextKey;
-use models::steps::TuningKind;
+use pools::block::PoolGroupBy;
+use pools::block::PoolingMode;
+use pools::block::RegisterKeyResult;
+use pools::block::RepitchKeyResult;
+use pools::block::StoppedNote;
+use channels::keys::AccessKeyResult;
+use channels::keys::NextKey;
+use channels::tuning_value::TuningKind;
 
 fn place(channel: u8, note: i32) {
     show::word(b": channel");
@@ -284,7 +284,7 @@ fn in_place() {
     show::word(b"in place\n");
     let list = present(ChannelList::of(&[0, 1]));
     let mut cells = [0u16; CELLS];
-    models::block::open(
+    pools::block::open(
         &mut cells,
         list,
         PoolGroupBy::Channel,

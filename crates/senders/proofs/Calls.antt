@@ -8,11 +8,11 @@ use lib.IntN.{ℤ}
 use lib.Ieee.{Float}
 use lib.ListN.{length}
 use borrow.Author.Tests.{lt-ltb}
-use Rattle.models.specs.Outcome.{Outcome, value, refused}
-use Rattle.models.specs.Pool.{State, found, released, accepted, rejected, registerRule, replied}
-use Rattle.models.specs.Block.{stateOf, kindAt}
-use Rattle.models.specs.Steps.{sentAs}
-use Rattle.models.specs.declared.steps.TuningKind.{TuningKind}
+use Rattle.channels.specs.Outcome.{Outcome, value, refused}
+use Rattle.pools.specs.Pool.{State, found, released, accepted, rejected, registerRule, replied}
+use Rattle.pools.specs.Block.{stateOf, kindAt}
+use Rattle.channels.specs.TuningValue.{sentAs}
+use Rattle.channels.specs.declared.tuning_value.TuningKind.{TuningKind}
 use Rattle.senders.specs.Lent.{Effect, sends, sent, fitted, Moved, Answers, Steps}
 use Rattle.senders.specs.Midi.{bytesOf}
 use Rattle.senders.specs.Tuner.{onChannel, pressMessages, keyMessages}

@@ -6,10 +6,10 @@ use Prim.Native.Nat.{ℕ, zero, suc, _+_, _*_, _≤_, _<_}
 use native.Mathlib.Omega.{arith}
 use lib.IntN.{ℤ}
 use lib.ListN.{length, take, getD, getElem?, length-append}
-use Rattle.models.specs.ChannelList.{entries}
-use Rattle.models.specs.declared.channels.ChannelList.{ChannelList}
-use Rattle.models.proofs.ChannelLists.{entries-low}
-use Rattle.models.specs.Outcome.{value}
+use Rattle.channels.specs.ChannelList.{entries}
+use Rattle.channels.specs.declared.list.ChannelList.{ChannelList}
+use Rattle.channels.proofs.ChannelLists.{entries-low}
+use Rattle.channels.specs.Outcome.{value}
 use Rattle.senders.specs.Message.{Message, Valid}
 use Rattle.senders.specs.Midi.{bytes, bytesOf, meant}
 use Rattle.senders.specs.Tuner.{noteMessages, each, onEntry, onChannel}

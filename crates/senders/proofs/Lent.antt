@@ -10,8 +10,8 @@ use lib.ListN.{length, take, drop, getD, set, length-append, length-drop, drop-o
 use lib.Seq.{sets-eq, take-all, length-take-le, take-at, drop-at, drop-drop}
 use borrow.Author.Tests.{lt-leb, le-leb}
 use mathlib.Core.Bool.{Bool, true, false, cond}
-use Rattle.models.specs.Outcome.{Outcome, value, refused}
-use Rattle.models.specs.Refusal.{bufferTooShort}
+use Rattle.channels.specs.Outcome.{Outcome, value, refused}
+use Rattle.channels.specs.Refusal.{bufferTooShort}
 use Rattle.senders.specs.Lent.{Effect, sends, sent, told, left, fitted, Moved, Steps, Answers, Put, settled}
 
 -- ---- bytes put into a buffer

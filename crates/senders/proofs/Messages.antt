@@ -7,7 +7,7 @@ use native.Mathlib.Omega.{arith}
 use lib.Dec.{ltb}
 use lib.ListN.{length}
 use borrow.Author.Tests.{lt-ltb, ltb-true}
-use Rattle.models.specs.Outcome.{Outcome, value, refused}
+use Rattle.channels.specs.Outcome.{Outcome, value, refused}
 use Rattle.senders.specs.Lent.{sent}
 use Rattle.senders.specs.Message.{Message, noteOff, noteOn, keyPressure, control, program, channelPressure, bend, Valid, isBend}
 use Rattle.senders.specs.Midi.{bytes, bytesOf, meant, checked, messageRule}

@@ -13,29 +13,29 @@ use lib.Ieee.{Float, nan, binary64, fits, ofBits, lt}
 use lib.Ieee.Positive.{positive}
 use lib.ListN.{length, getD, set}
 use lib.Seq.{getD-set-same, getD-set-other}
-use Rattle.models.specs.Outcome.{Outcome, value, refused}
-use Rattle.models.specs.Refusal.{bufferTooShort}
-use Rattle.models.specs.Lists.{Each}
-use Rattle.models.specs.Line.{Line}
-use Rattle.models.specs.Placing.{Demand3}
-use Rattle.models.specs.Plan as M
-use Rattle.models.specs.Plan.{Model, planned, planAt, accessAnswer}
-use Rattle.models.specs.PlanBlock.{planSettings, listAt, planKindAt}
-use Rattle.models.specs.Walk.{count}
-use Rattle.models.specs.declared.steps.TuningKind.{TuningKind}
-use Rattle.models.specs.Places.{place}
-use Rattle.models.specs.PlanInternal.{Fine}
-use Rattle.models.specs.PlanLists.{keyCount, noteLists, pitchLists}
-use Rattle.models.specs.declared.plan_block.GroupBy.{GroupBy}
-use Rattle.models.specs.declared.keys.AccessKeyResult.{AccessKeyResult}
-use Rattle.models.specs.declared.keys.AccessKeyResult.the-variants.{Found, NotFound}
-use Rattle.models.proofs.Accepted.{notes-accepted, pitches-accepted}
-use Rattle.models.proofs.Demand3.{demand-3}
-use Rattle.models.proofs.ChannelLists.{length-digits}
-use Rattle.models.proofs.ListLaws.{T→true, true→T, outcome, passed, failed}
-use Rattle.models.proofs.SortedKeys.{differs}
-use Rattle.models.proofs.PlanBlocks.{zero-below}
-use Rattle.models.proofs.PlanEntries.{planned-positive}
+use Rattle.channels.specs.Outcome.{Outcome, value, refused}
+use Rattle.channels.specs.Refusal.{bufferTooShort}
+use Rattle.channels.specs.Lists.{Each}
+use Rattle.plans.specs.Line.{Line}
+use Rattle.plans.specs.Placing.{Demand3}
+use Rattle.plans.specs.Plan as M
+use Rattle.plans.specs.Plan.{Model, planned, planAt, accessAnswer}
+use Rattle.plans.specs.PlanBlock.{planSettings, listAt, planKindAt}
+use Rattle.plans.specs.Walk.{count}
+use Rattle.channels.specs.declared.tuning_value.TuningKind.{TuningKind}
+use Rattle.channels.specs.Places.{place}
+use Rattle.plans.specs.PlanInternal.{Fine}
+use Rattle.plans.specs.PlanLists.{keyCount, noteLists, pitchLists}
+use Rattle.plans.specs.declared.block.GroupBy.{GroupBy}
+use Rattle.channels.specs.declared.keys.AccessKeyResult.{AccessKeyResult}
+use Rattle.channels.specs.declared.keys.AccessKeyResult.the-variants.{Found, NotFound}
+use Rattle.plans.proofs.Accepted.{notes-accepted, pitches-accepted}
+use Rattle.plans.proofs.Demand3.{demand-3}
+use Rattle.channels.proofs.ChannelLists.{length-digits}
+use Rattle.channels.proofs.ListLaws.{T→true, true→T, outcome, passed, failed}
+use Rattle.plans.proofs.SortedKeys.{differs}
+use Rattle.plans.proofs.PlanBlocks.{zero-below}
+use Rattle.plans.proofs.PlanEntries.{planned-positive}
 use Rattle.senders.specs.Midi.{bytesOf}
 use Rattle.senders.specs.Lent.{Effect, fitted, told, Steps, Put, settled}
 use Rattle.senders.specs.Aot.{Tuner, view, tuner, withPlan, Planned, tunes, cannot, planMessages, planEffect, SomeFits, Smallest, Measurable, Ready, entryOf, placed}

@@ -9,13 +9,13 @@ use mathlib.Core.Option.{Option, some, none}
 use lib.Ieee.{Float}
 use lib.IntN.{ℤ}
 use lib.ListN.{length, getElem?}
-use Rattle.models.specs.Outcome.{Outcome, value, refused}
-use Rattle.models.specs.Refusal.{dataByteOver127}
-use Rattle.models.specs.Places.{Place}
-use Rattle.models.specs.Pool.{State, Press, accepted, rejected, found, released, registerRule, repitchRule}
-use Rattle.models.specs.Steps.{sentAs}
-use Rattle.models.specs.declared.steps.Tuning.{Tuning}
-use Rattle.models.specs.declared.steps.Tuning.the-variants.{Fine, Bend}
+use Rattle.channels.specs.Outcome.{Outcome, value, refused}
+use Rattle.channels.specs.Refusal.{dataByteOver127}
+use Rattle.channels.specs.Places.{Place}
+use Rattle.pools.specs.Pool.{State, Press, accepted, rejected, found, released, registerRule, repitchRule}
+use Rattle.channels.specs.TuningValue.{sentAs}
+use Rattle.channels.specs.declared.tuning_value.Tuning.{Tuning}
+use Rattle.channels.specs.declared.tuning_value.Tuning.the-variants.{Fine, Bend}
 use Rattle.senders.specs.Lent.{Effect, Answer, sends}
 use Rattle.senders.specs.Message.{Message, isData}
 use Rattle.senders.specs.Midi.{bytesOf, meant}

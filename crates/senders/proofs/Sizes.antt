@@ -10,8 +10,8 @@ use Rattle.senders.specs.Message.{Message}
 use Rattle.senders.specs.Midi.{bytesOf, meant}
 use Rattle.senders.specs.Mts.{tuningMessages}
 use Rattle.senders.specs.Tuner.{numberOf, numbered, noteType, noteMessages, stopMessages, pressMessages}
-use Rattle.models.specs.declared.steps.Tuning.{Tuning}
-use Rattle.models.specs.declared.steps.Tuning.the-variants.{Fine, Bend}
+use Rattle.channels.specs.declared.tuning_value.Tuning.{Tuning}
+use Rattle.channels.specs.declared.tuning_value.Tuning.the-variants.{Fine, Bend}
 use Rattle.senders.specs.declared.tuner.NoteMessage.{NoteMessage}
 use Rattle.senders.specs.declared.tuner.NoteMessage.the-variants.{Off, On, Pressure}
 use Rattle.senders.proofs.Messages.{bytes-append}

@@ -5,9 +5,9 @@ use mathlib.Core.List.{List, [], _++_, append-assoc, append-nil}
 use Prim.Native.Nat.{ℕ, _+_, _≤_}
 use native.Mathlib.Omega.{arith}
 use lib.ListN.{length, length-append}
-use Rattle.models.specs.Lists.{first}
-use Rattle.models.specs.Pool.{Held, heldKeys}
-use Rattle.models.proofs.HeldKeys.{next-met, next-none, walked}
+use Rattle.channels.specs.Lists.{first}
+use Rattle.pools.specs.Pool.{Held, heldKeys}
+use Rattle.pools.proofs.HeldKeys.{next-met, next-none, walked}
 use Rattle.senders.specs.Message.{Message}
 use Rattle.senders.specs.Midi.{bytesOf}
 use Rattle.senders.specs.Lent.{Put}

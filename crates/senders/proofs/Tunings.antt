@@ -8,9 +8,9 @@ use native.Mathlib.Numerals.{add-one}
 use native.Mathlib.Omega.{arith}
 use lib.Ieee.{Float}
 use lib.ListN.{length, getElem?, length-append}
-use Rattle.models.specs.Lists.{upward}
-use Rattle.models.specs.Steps.{sentAs}
-use Rattle.models.specs.declared.steps.TuningKind.{TuningKind}
+use Rattle.channels.specs.Lists.{upward}
+use Rattle.channels.specs.TuningValue.{sentAs}
+use Rattle.channels.specs.declared.tuning_value.TuningKind.{TuningKind}
 use Rattle.senders.specs.Message.{Message}
 use Rattle.senders.specs.Midi.{bytesOf}
 use Rattle.senders.specs.Mts.{tuningMessages}

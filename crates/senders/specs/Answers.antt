@@ -1,7 +1,7 @@
 -- The answers of the calls, each enum's cases in document 01's words: a value, or a refusal by its number. Assumes nothing.
 use mathlib.Core.Option.{Option, some, none}
 use Prim.Native.Nat.{ℕ}
-use Rattle.models.specs.Outcome.{Outcome, value, refused}
+use Rattle.channels.specs.Outcome.{Outcome, value, refused}
 use Rattle.senders.specs.Jit.{Pressed, sounds, rejects}
 use Rattle.senders.specs.Aot.{Planned, tunes, cannot}
 use Rattle.senders.specs.declared.midi.Sent.{Sent}

@@ -9,20 +9,20 @@ use lib.IntN.{ℤ, pos}
 use lib.Ieee.{Float, nan, binary64, ofBits, lt}
 use lib.Ieee.Positive.{positive}
 use lib.ListN.{length, getD}
-use Rattle.models.specs.Outcome.{Outcome, value, refused}
-use Rattle.models.specs.Refusal.{bufferTooShort}
-use Rattle.models.specs.ChannelList.{channelsAnswer}
-use Rattle.models.specs.Lists.{upward}
-use Rattle.models.specs.Line.{Line}
-use Rattle.models.specs.Places.{Place}
-use Rattle.models.specs.Placing.{Placing, InOrder, Fits, Demand3}
-use Rattle.models.specs.PlanBlock.{planKindAt}
-use Rattle.models.specs.Plan.{Model, planAt, openRule, setTuning, setTuningOfPitches}
-use Rattle.models.specs.Plan as M
-use Rattle.models.specs.Steps.{sentAs}
-use Rattle.models.specs.declared.steps.TuningKind.{TuningKind}
-use Rattle.models.specs.declared.plan_block.GroupBy.{GroupBy}
-use Rattle.models.specs.declared.plan_block.GroupBy.the-variants.{Channel}
+use Rattle.channels.specs.Outcome.{Outcome, value, refused}
+use Rattle.channels.specs.Refusal.{bufferTooShort}
+use Rattle.channels.specs.ChannelList.{channelsAnswer}
+use Rattle.channels.specs.Lists.{upward}
+use Rattle.plans.specs.Line.{Line}
+use Rattle.channels.specs.Places.{Place}
+use Rattle.plans.specs.Placing.{Placing, InOrder, Fits, Demand3}
+use Rattle.plans.specs.PlanBlock.{planKindAt}
+use Rattle.plans.specs.Plan.{Model, planAt, openRule, setTuning, setTuningOfPitches}
+use Rattle.plans.specs.Plan as M
+use Rattle.channels.specs.TuningValue.{sentAs}
+use Rattle.channels.specs.declared.tuning_value.TuningKind.{TuningKind}
+use Rattle.plans.specs.declared.block.GroupBy.{GroupBy}
+use Rattle.plans.specs.declared.block.GroupBy.the-variants.{Channel}
 use Rattle.senders.specs.Message.{Message}
 use Rattle.senders.specs.Midi.{bytesOf}
 use Rattle.senders.specs.Lent.{Effect, Answer, sent}

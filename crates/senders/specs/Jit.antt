@@ -6,16 +6,16 @@ use mathlib.Core.Option.{Option, some, none}
 use Prim.Native.Nat.{ℕ}
 use lib.Ieee.{Float}
 use lib.ListN.{length}
-use Rattle.models.specs.Outcome.{Outcome, value, refused, refuse_unless_then_}
-use Rattle.models.specs.Refusal.{dataByteOver127}
-use Rattle.models.specs.ChannelList.{channelsAnswer}
-use Rattle.models.specs.Places.{Place}
-use Rattle.models.specs.Pool.{State, Held, Press, accepted, rejected, found, released, registerRule, repitchRule, openRule, heldKeys, stopped}
-use Rattle.models.specs.Block.{stateOf, kindAt}
-use Rattle.models.specs.Steps.{sentAs}
-use Rattle.models.specs.declared.steps.TuningKind.{TuningKind}
-use Rattle.models.specs.declared.block.PoolingMode.{PoolingMode}
-use Rattle.models.specs.declared.block.PoolGroupBy.the-variants.{Channel}
+use Rattle.channels.specs.Outcome.{Outcome, value, refused, refuse_unless_then_}
+use Rattle.channels.specs.Refusal.{dataByteOver127}
+use Rattle.channels.specs.ChannelList.{channelsAnswer}
+use Rattle.channels.specs.Places.{Place}
+use Rattle.pools.specs.Pool.{State, Held, Press, accepted, rejected, found, released, registerRule, repitchRule, openRule, heldKeys, stopped}
+use Rattle.pools.specs.Block.{stateOf, kindAt}
+use Rattle.channels.specs.TuningValue.{sentAs}
+use Rattle.channels.specs.declared.tuning_value.TuningKind.{TuningKind}
+use Rattle.pools.specs.declared.block.PoolingMode.{PoolingMode}
+use Rattle.pools.specs.declared.block.PoolGroupBy.the-variants.{Channel}
 use Rattle.senders.specs.Message.{Message, isData}
 use Rattle.senders.specs.Midi.{bytesOf}
 use Rattle.senders.specs.Lent.{Effect, sends, Answer, sent}

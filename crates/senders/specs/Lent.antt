@@ -5,8 +5,8 @@ use mathlib.Core.List.{List, _++_}
 use Prim.Native.Nat.{ℕ, _+_}
 use lib.Dec.{leb}
 use lib.ListN.{length, take, drop}
-use Rattle.models.specs.Outcome.{Outcome, value, refused, refuse_unless_then_}
-use Rattle.models.specs.Refusal.{bufferTooShort}
+use Rattle.channels.specs.Outcome.{Outcome, value, refused, refuse_unless_then_}
+use Rattle.channels.specs.Refusal.{bufferTooShort}
 
 -- What a call that is not refused does: what it answers, the bytes it sends, and the state it goes on to, as its view.
 pub record Effect (R S : Type 0) : Type 0 where

@@ -3,8 +3,8 @@ use mathlib.Core.List.{List, [], _∷_, _++_}
 use Prim.Native.Nat.{ℕ, _+_, _-_, _*_, _%_}
 use lib.IntN.{ℤ, pos, negsuc, natAbs, _+ℤ_}
 use lib.Signed.{shrZ}
-use Rattle.models.specs.Outcome.{Outcome, refuse_unless_then_}
-use Rattle.models.specs.Refusal.{channelOver15, dataByteOver127, bendOutOfRange}
+use Rattle.channels.specs.Outcome.{Outcome, refuse_unless_then_}
+use Rattle.channels.specs.Refusal.{channelOver15, dataByteOver127, bendOutOfRange}
 use Rattle.senders.specs.Lent.{Answer, sent}
 use Rattle.senders.specs.Message.{Message, noteOff, noteOn, keyPressure, control, program, channelPressure, bend, isChannel, isData, isBend}
 use Rattle.senders.specs.declared.midi.ChannelMessageType.{ChannelMessageType}

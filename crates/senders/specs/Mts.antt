@@ -2,15 +2,15 @@
 use mathlib.Core.List.{List, [], _∷_}
 use Prim.Native.Nat.{ℕ, _/_, _%_}
 use lib.Ieee.{Float}
-use Rattle.models.specs.Outcome.{Outcome, value, refused, refuse_unless_then_}
-use Rattle.models.specs.Refusal.{channelOver15}
-use Rattle.models.specs.Steps.{tuningRule}
-use Rattle.models.specs.declared.steps.TuningKind.{TuningKind}
+use Rattle.channels.specs.Outcome.{Outcome, value, refused, refuse_unless_then_}
+use Rattle.channels.specs.Refusal.{channelOver15}
+use Rattle.channels.specs.TuningValue.{tuningRule}
+use Rattle.channels.specs.declared.tuning_value.TuningKind.{TuningKind}
 use Rattle.senders.specs.Lent.{Answer, sent}
 use Rattle.senders.specs.Message.{Message, control, bend, isChannel}
 use Rattle.senders.specs.Midi.{bytesOf}
-use Rattle.models.specs.declared.steps.Tuning.{Tuning}
-use Rattle.models.specs.declared.steps.Tuning.the-variants.{Fine, Bend}
+use Rattle.channels.specs.declared.tuning_value.Tuning.{Tuning}
+use Rattle.channels.specs.declared.tuning_value.Tuning.the-variants.{Fine, Bend}
 
 -- a fine value is "sent as controllers 65 00, 64 01, 06 (value/128), 26 (remainder), hexadecimal", a bend value as a bend
 abbrev pub tuningMessages : ℕ → Tuning → List Message

@@ -5,18 +5,18 @@ use mathlib.Core.List.{List, [], _∷_, _++_}
 use Prim.Native.Nat.{ℕ}
 use lib.IntN.{ℤ, pos, negsuc}
 use lib.ListN.{getElem?}
-use Rattle.models.specs.Outcome.{refuse_unless_then_}
-use Rattle.models.specs.Refusal.{dataByteOver127}
-use Rattle.models.specs.Places.{Place}
+use Rattle.channels.specs.Outcome.{refuse_unless_then_}
+use Rattle.channels.specs.Refusal.{dataByteOver127}
+use Rattle.channels.specs.Places.{Place}
 use Rattle.senders.specs.Lent.{Answer, sent}
 use Rattle.senders.specs.Message.{Message, isData}
 use Rattle.senders.specs.Midi.{bytesOf, checked, meant}
 use Rattle.senders.specs.Mts.{tuningMessages}
 use Rattle.senders.specs.declared.midi.ChannelMessageType.{ChannelMessageType}
 use Rattle.senders.specs.declared.midi.ChannelMessageType.the-variants.{NoteOff, NoteOn, PolyphonicKeyPressure, ControlChange, ProgramChange, ChannelPressure, PitchBendChange}
-use Rattle.models.specs.declared.steps.Tuning.{Tuning}
-use Rattle.models.specs.declared.steps.TuningKind.{TuningKind}
-use Rattle.models.specs.declared.steps.TuningKind.the-variants.{FineTuning, Bend}
+use Rattle.channels.specs.declared.tuning_value.Tuning.{Tuning}
+use Rattle.channels.specs.declared.tuning_value.TuningKind.{TuningKind}
+use Rattle.channels.specs.declared.tuning_value.TuningKind.the-variants.{FineTuning, Bend}
 use Rattle.senders.specs.declared.tuner.NoteMessage.{NoteMessage}
 use Rattle.senders.specs.declared.tuner.NoteMessage.the-variants.{Off, On, Pressure}
 

@@ -1,8 +1,8 @@
 // The plan tuner by value: a plan model whose tunings are sent when it is tuned, so that its keys then send notes alone.
 
 ghost use mathlib.Core.Path.{_≡_};
-ghost use Rattle.models.specs.Plan.{accessAnswer};
-ghost use Rattle.models.specs.PlanLists.{noteLists, pitchLists};
+ghost use Rattle.plans.specs.Plan.{accessAnswer};
+ghost use Rattle.plans.specs.PlanLists.{noteLists, pitchLists};
 ghost use Rattle.senders.specs.Lent.{Answers, Steps};
 ghost use Rattle.senders.specs.Answers.{sentAnswer, planSent};
 ghost use Rattle.senders.specs.Aot.{tuner, opened, startRule, setTuningRule, setTuningOfPitchesRule, Smallest, noteOnRule, noteOffRule, noteAttrRule, globalAttrRule, stopRule};
@@ -15,16 +15,16 @@ use crate::plan_block::note_on;
 use crate::plan_block::set_tuning;
 use crate::plan_block::set_tuning_of_pitches;
 use crate::plan_block::stop;
-use models::plan_block::GroupBy;
-use models::channels::ChannelList;
-use models::channels::ChannelsAnswer;
-use models::channels::present;
-use models::keys::AccessKeyResult;
-use models::plan_block::access_key;
-use models::plan_block::open;
-use models::plan_block::tuned;
-use models::plan_cells::PLAN_CELLS;
-use models::steps::TuningKind;
+use plans::block::GroupBy;
+use channels::list::ChannelList;
+use channels::list::ChannelsAnswer;
+use channels::list::present;
+use channels::keys::AccessKeyResult;
+use plans::block::access_key;
+use plans::block::open;
+use plans::block::tuned;
+use plans::cells::PLAN_CELLS;
+use channels::tuning_value::TuningKind;
 
 pub struct AotTuner {
     cells: [u64; PLAN_CELLS],

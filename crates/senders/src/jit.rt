@@ -1,8 +1,8 @@
 // The pool tuner by value: a pool model whose presses, releases and repitches are sent as they happen.
 
 ghost use mathlib.Core.Path.{_≡_};
-ghost use Rattle.models.specs.Pool.{found};
-ghost use Rattle.models.specs.Places.{place};
+ghost use Rattle.pools.specs.Pool.{found};
+ghost use Rattle.channels.specs.Places.{place};
 ghost use Rattle.senders.specs.Lent.{Answers, Steps};
 ghost use Rattle.senders.specs.Answers.{sentAnswer, pressAnswer};
 ghost use Rattle.senders.specs.Jit.{tuner, opened, startRule, noteOnRule, noteOffRule, notePitchRule, noteAttrRule, globalAttrRule, stopRule};
@@ -14,17 +14,17 @@ use crate::block::note_pitch;
 use crate::block::stop;
 use crate::midi::ChannelMessageType;
 use crate::midi::Sent;
-use models::Pitch;
-use models::block::access_key;
-use models::block::open;
-use models::cells::CELLS;
-use models::channels::ChannelList;
-use models::channels::ChannelsAnswer;
-use models::channels::present;
-use models::block::PoolGroupBy;
-use models::block::PoolingMode;
-use models::keys::AccessKeyResult;
-use models::steps::TuningKind;
+use channels::Pitch;
+use pools::block::access_key;
+use pools::block::open;
+use pools::cells::CELLS;
+use channels::list::ChannelList;
+use channels::list::ChannelsAnswer;
+use channels::list::present;
+use pools::block::PoolGroupBy;
+use pools::block::PoolingMode;
+use channels::keys::AccessKeyResult;
+use channels::tuning_value::TuningKind;
 
 pub struct JitTuner {
     cells: [u16; CELLS],

@@ -5,15 +5,15 @@ ghost use mathlib.Core.Bool.{true};
 ghost use mathlib.Core.List.{[], _∷_};
 ghost use Prim.Native.Nat.{_+_, _/_, _%_, _≤_, _<_};
 ghost use lib.ListN.{length};
-ghost use Rattle.models.specs.Outcome.{value};
+ghost use Rattle.channels.specs.Outcome.{value};
 ghost use Rattle.senders.specs.Lent.{Put, Answers};
 ghost use Rattle.senders.specs.Answers.{sentAnswer, checkAnswer};
 ghost use Rattle.senders.specs.Message.{Valid, isBend};
 ghost use Rattle.senders.specs.Midi.{status, bendLow, bendHigh, bytes, meant, checked, messageRule};
-use models::refusal::BEND_OUT_OF_RANGE;
-use models::refusal::BUFFER_TOO_SHORT;
-use models::refusal::CHANNEL_OVER_15;
-use models::refusal::DATA_BYTE_OVER_127;
+use channels::refusal::BEND_OUT_OF_RANGE;
+use channels::refusal::BUFFER_TOO_SHORT;
+use channels::refusal::CHANNEL_OVER_15;
+use channels::refusal::DATA_BYTE_OVER_127;
 
 // The kinds: the high four bits of a status byte.
 const NOTE_OFF: u8 = 0x8;

@@ -3,10 +3,10 @@
 ghost use mathlib.Core.Path.{_≡_};
 ghost use Prim.Native.Nat.{_+_, _≤_};
 ghost use lib.ListN.{length};
-ghost use Rattle.models.specs.Plan.{detuningAnswer, planAnswer, planAt};
-ghost use Rattle.models.specs.PlanBlock.{planKindAt};
-ghost use Rattle.models.specs.ChannelList.{channelsAnswer, entries};
-ghost use Rattle.models.specs.PlanLists.{noteLists, pitchLists};
+ghost use Rattle.plans.specs.Plan.{detuningAnswer, planAnswer, planAt};
+ghost use Rattle.plans.specs.PlanBlock.{planKindAt};
+ghost use Rattle.channels.specs.ChannelList.{channelsAnswer, entries};
+ghost use Rattle.plans.specs.PlanLists.{noteLists, pitchLists};
 ghost use Rattle.senders.specs.Lent.{Put, Answers, Steps};
 ghost use Rattle.senders.specs.Answers.{sentAnswer, planSent};
 ghost use Rattle.senders.specs.Midi.{bytesOf};
@@ -21,21 +21,21 @@ use crate::tuner::NoteMessage;
 use crate::tuner::send_checked_key;
 use crate::tuner::send_checked_to_all;
 use crate::tuner::sent_as;
-use models::plan_block::DetuningAnswer;
-use models::plan_block::GroupBy;
-use models::plan_block::PlanAnswer;
-use models::channels::ChannelList;
-use models::channels::ChannelsAnswer;
-use models::channels::EntryAnswer;
-use models::plan_block::access_key;
-use models::plan_block::channel_list;
-use models::plan_block::detuning;
-use models::plan_block::num_channels;
-use models::plan_block::open;
-use models::plan_block::tuning_kind;
-use models::plan_cells::PLAN_CELLS;
-use models::refusal::BUFFER_TOO_SHORT;
-use models::steps::TuningKind;
+use plans::block::DetuningAnswer;
+use plans::block::GroupBy;
+use plans::block::PlanAnswer;
+use channels::list::ChannelList;
+use channels::list::ChannelsAnswer;
+use channels::list::EntryAnswer;
+use plans::block::access_key;
+use plans::block::channel_list;
+use plans::block::detuning;
+use plans::block::num_channels;
+use plans::block::open;
+use plans::block::tuning_kind;
+use plans::cells::PLAN_CELLS;
+use channels::refusal::BUFFER_TOO_SHORT;
+use channels::tuning_value::TuningKind;
 
 // A plan that is tuned uses so many channels at most.
 const MOST_CHANNELS: usize = 16;
@@ -71,7 +71,7 @@ pub fn set_tuning(
         (planSent r) (view (now (cells .exit))) ⌝ }
 {
     let mut next = *cells;
-    let answer = models::plan_block::set_tuning(&mut next, keys, notes, detunings);
+    let answer = plans::block::set_tuning(&mut next, keys, notes, detunings);
     send(cells, &next, answer, out)
 }
 
@@ -88,7 +88,7 @@ pub fn set_tuning_of_pitches(
         (planSent r) (view (now (cells .exit))) ⌝ }
 {
     let mut next = *cells;
-    let answer = models::plan_block::set_tuning_of_pitches(&mut next, keys, pitches);
+    let answer = plans::block::set_tuning_of_pitches(&mut next, keys, pitches);
     send(cells, &next, answer, out)
 }
 

@@ -12,7 +12,7 @@ use lib.Dec.{leb, T, leb→le}
 use lib.Signed.{ltZ, leZ}
 use borrow.Author.Tests.{ltb-true}
 use Rattle.io.specs.Counts.{clamped}
-use Rattle.models.specs.Outcome.{value, refused}
+use Rattle.channels.specs.Outcome.{value, refused}
 use Rattle.senders.specs.Lent.{Answers, written, fitted, left}
 use Rattle.lines.specs.Session.{session, Stepped, stepRule, finish, finishRule}
 use Rattle.lines.specs.declared.step.Step.{Step}

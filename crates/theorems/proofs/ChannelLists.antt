@@ -8,11 +8,11 @@ use native.Mathlib.Omega.{arith}
 use lib.Dec.{T, eqb, eqb→eq, eqb-refl}
 use lib.ListN.{length, getD}
 use Rattle.arithmetic.specs.Outcome.{Outcome, value, refused}
-use Rattle.models.specs.ChannelList.{listRule, present}
-use Rattle.models.specs.Lists.{member, Distinct}
-use Rattle.models.proofs.ListLaws.{outcome, passed, failed, true→T, false→T, not-false}
-use Rattle.models.proofs.Pigeonhole.{Fresh, member-self, member-other}
-use Rattle.models.proofs.ChannelLists.{Offends, over, twice, Offence, fine-listed, offence-refused, Verdict, listed, offended, verdict, listed-channels, channels-fresh, channels-low, channels-few}
+use Rattle.channels.specs.ChannelList.{listRule, present}
+use Rattle.channels.specs.Lists.{member, Distinct}
+use Rattle.channels.proofs.ListLaws.{outcome, passed, failed, true→T, false→T, not-false}
+use Rattle.channels.proofs.Pigeonhole.{Fresh, member-self, member-other}
+use Rattle.channels.proofs.ChannelLists.{Offends, over, twice, Offence, fine-listed, offence-refused, Verdict, listed, offended, verdict, listed-channels, channels-fresh, channels-low, channels-few}
 
 -- Refused exactly by the first offence, listed exactly without one.
 pub refused-offence : (cs : List ℕ) (n : ℕ) → listRule cs ≡ refused n → Offence [] cs n

@@ -10,10 +10,10 @@ use Rattle.arithmetic.specs.Division.{remainder}
 use Rattle.arithmetic.specs.Measure.{square, digit, next, digits, first32, measure, measureRule}
 use Rattle.arithmetic.specs.Pitch.{isPitch, octavePitch, significands, factor, pitchOf, detuningOf}
 use Rattle.arithmetic.specs.Nearest.{semitones, overA4, nearestNote, nearestRule}
-use Rattle.models.specs.Outcome.{value}
-use Rattle.models.specs.Steps.{clamp, fineStep, fineValue, bendStep, bendValue, tuningOf, sentAs, tuningRule}
-use Rattle.models.specs.declared.steps.TuningKind.the-variants.{FineTuning, Bend}
-use Rattle.models.specs.declared.steps.Tuning.the-variants.{Fine, Bend as Bent}
+use Rattle.channels.specs.Outcome.{value}
+use Rattle.channels.specs.TuningValue.{clamp, fineStep, fineValue, bendStep, bendValue, tuningOf, sentAs, tuningRule}
+use Rattle.channels.specs.declared.tuning_value.TuningKind.the-variants.{FineTuning, Bend}
+use Rattle.channels.specs.declared.tuning_value.Tuning.the-variants.{Fine, Bend as Bent}
 use Rattle.theorems.proofs.Plans.Examples.{f64, Nine, Ten, example-9-10}
 use Rattle.theorems.proofs.Pools.Examples.{Eleven, Twelve, example-11, example-12}
 use Rattle.senders.specs.Lent.{sent}

@@ -12,14 +12,14 @@ use lib.ListN.{length}
 use native.Mathlib.Omega.{arith}
 use borrow.Author.Tests.{ne-eqb, leb-true}
 use Rattle.arithmetic.specs.Outcome.{Outcome, value, refused}
-use Rattle.models.specs.Lists.{Each, member}
-use Rattle.models.specs.Line.{Line}
-use Rattle.models.specs.ChannelList.{listRule}
-use Rattle.models.specs.PlanLists.{noteLists, pitchLists}
-use Rattle.models.specs.Pool as Pools
-use Rattle.models.specs.Plan as M
+use Rattle.channels.specs.Lists.{Each, member}
+use Rattle.plans.specs.Line.{Line}
+use Rattle.channels.specs.ChannelList.{listRule}
+use Rattle.plans.specs.PlanLists.{noteLists, pitchLists}
+use Rattle.pools.specs.Pool as Pools
+use Rattle.plans.specs.Plan as M
 use Rattle.theorems.proofs.ChannelLists.{refused-numbers}
-use Rattle.models.proofs.ListLaws.{or-cases}
+use Rattle.channels.proofs.ListLaws.{or-cases}
 use Rattle.theorems.proofs.Plans.Refusals.{note-lists-numbers, pitch-lists-numbers, refused-leaves}
 use Rattle.senders.specs.Lent.{Effect, fitted, told, left}
 use Rattle.senders.specs.Midi.{messageRule}

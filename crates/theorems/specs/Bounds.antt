@@ -7,11 +7,11 @@ use lib.Ieee.Positive.{num, den, positive}
 use Rattle.arithmetic.specs.Powers.{AtLeast, Below}
 use Rattle.arithmetic.specs.Outcome.{value}
 use mathlib.Core.Logic.{_⊎_}
-use Rattle.models.specs.declared.steps.TuningKind.{TuningKind}
-use Rattle.models.specs.declared.steps.TuningKind.the-variants.{FineTuning, Bend}
-use Rattle.models.specs.declared.steps.Tuning.{Tuning}
-use Rattle.models.specs.declared.steps.Tuning.the-variants.{Fine, Bend as Bent}
-use Rattle.models.specs.Steps.{fineStep, bendStep}
+use Rattle.channels.specs.declared.tuning_value.TuningKind.{TuningKind}
+use Rattle.channels.specs.declared.tuning_value.TuningKind.the-variants.{FineTuning, Bend}
+use Rattle.channels.specs.declared.tuning_value.Tuning.{Tuning}
+use Rattle.channels.specs.declared.tuning_value.Tuning.the-variants.{Fine, Bend as Bent}
+use Rattle.channels.specs.TuningValue.{fineStep, bendStep}
 
 -- 2 ^ k < v ^ n
 abbrev pub Above : ℤ → Float → ℕ → Type 0

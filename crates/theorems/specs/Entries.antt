@@ -4,9 +4,9 @@ use mathlib.Core.List.{List, [], _∷_}
 use Prim.Native.Nat.{ℕ}
 use lib.IntN.{ℤ}
 use lib.Ieee.{Float}
-use Rattle.models.specs.Outcome.{Outcome}
-use Rattle.models.specs.declared.steps.TuningKind.{TuningKind}
-use Rattle.models.specs.declared.block.PoolingMode.{PoolingMode}
+use Rattle.channels.specs.Outcome.{Outcome}
+use Rattle.channels.specs.declared.tuning_value.TuningKind.{TuningKind}
+use Rattle.pools.specs.declared.block.PoolingMode.{PoolingMode}
 use Rattle.senders.specs.Lent.{fitted}
 use Rattle.senders.specs.Midi.{messageRule}
 use Rattle.senders.specs.Mts.{channelTuningRule}

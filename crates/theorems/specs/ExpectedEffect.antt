@@ -7,16 +7,16 @@ use lib.Dec.{ltb}
 use lib.IntN.{ℤ, pos, negsuc, _-ℤ_}
 use lib.Ieee.{Float}
 use lib.ListN.{getElem?}
-use Rattle.models.specs.Plan.{Model}
-use Rattle.models.specs.Lists.{upward}
-use Rattle.models.specs.Places.{Place}
-use Rattle.models.specs.Steps.{sentAs}
+use Rattle.plans.specs.Plan.{Model}
+use Rattle.channels.specs.Lists.{upward}
+use Rattle.channels.specs.Places.{Place}
+use Rattle.channels.specs.TuningValue.{sentAs}
 use Rattle.senders.specs.Message.{isData}
 use Rattle.theorems.specs.Receiver.{Channel, Receiver, on, withChoice, withFine, withBend, withNote, parameter, fineShift, bendShift, sensitivityCents}
-use Rattle.models.specs.declared.steps.TuningKind.{TuningKind}
-use Rattle.models.specs.declared.steps.TuningKind.the-variants.{FineTuning, Bend as ByBend}
-use Rattle.models.specs.declared.steps.Tuning.{Tuning}
-use Rattle.models.specs.declared.steps.Tuning.the-variants.{Fine, Bend}
+use Rattle.channels.specs.declared.tuning_value.TuningKind.{TuningKind}
+use Rattle.channels.specs.declared.tuning_value.TuningKind.the-variants.{FineTuning, Bend as ByBend}
+use Rattle.channels.specs.declared.tuning_value.Tuning.{Tuning}
+use Rattle.channels.specs.declared.tuning_value.Tuning.the-variants.{Fine, Bend}
 use Rattle.senders.specs.declared.tuner.NoteMessage.{NoteMessage}
 use Rattle.senders.specs.declared.tuner.NoteMessage.the-variants.{Off, On, Pressure}
 

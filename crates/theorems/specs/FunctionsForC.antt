@@ -7,12 +7,12 @@ use lib.Dec.{eqb}
 use lib.IntN.{ℤ}
 use lib.Ieee.{Float}
 use lib.ListN.{length}
-use Rattle.models.specs.Pool as Pools
-use Rattle.models.specs.Plan.{openRule, setTuning, setTuningOfPitches}
-use Rattle.models.specs.declared.plan_block.GroupBy.{GroupBy}
-use Rattle.models.specs.declared.block.PoolGroupBy.{PoolGroupBy}
-use Rattle.models.specs.declared.block.PoolingMode.{PoolingMode}
-use Rattle.models.specs.declared.steps.TuningKind.{TuningKind}
+use Rattle.pools.specs.Pool as Pools
+use Rattle.plans.specs.Plan.{openRule, setTuning, setTuningOfPitches}
+use Rattle.plans.specs.declared.block.GroupBy.{GroupBy}
+use Rattle.pools.specs.declared.block.PoolGroupBy.{PoolGroupBy}
+use Rattle.pools.specs.declared.block.PoolingMode.{PoolingMode}
+use Rattle.channels.specs.declared.tuning_value.TuningKind.{TuningKind}
 use Rattle.senders.specs.Lent.{fitted, told}
 use Rattle.senders.specs.Midi.{messageRule}
 use Rattle.senders.specs.Mts.{channelTuningRule}

@@ -4,10 +4,10 @@ use Prim.Native.Nat.{ℕ, _<_}
 use lib.Dec.{T}
 use lib.IntN.{ℤ}
 use lib.Ieee.{Float, binary64, fits}
-use Rattle.models.specs.Outcome.{Outcome}
-use Rattle.models.specs.Lists.{Each}
-use Rattle.models.specs.Line.{Line}
-use Rattle.models.specs.PlanLists.{keyCount, noteLists, pitchLists}
+use Rattle.channels.specs.Outcome.{Outcome}
+use Rattle.channels.specs.Lists.{Each}
+use Rattle.plans.specs.Line.{Line}
+use Rattle.plans.specs.PlanLists.{keyCount, noteLists, pitchLists}
 use Rattle.senders.specs.Lent.{Effect, fitted, settled}
 use Rattle.senders.specs.Aot.{Tuner, Planned, setTuningRule, setTuningOfPitchesRule}
 

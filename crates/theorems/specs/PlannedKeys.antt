@@ -7,11 +7,11 @@ use Prim.Native.Nat.{ℕ, _<_}
 use lib.Dec.{eqb}
 use lib.IntN.{ℤ}
 use lib.Ieee.{Float}
-use Rattle.models.specs.declared.plan_block.GroupBy.{GroupBy}
-use Rattle.models.specs.Lists.{keep}
-use Rattle.models.specs.Line.{Line, group, ofGroup, rising}
-use Rattle.models.specs.Placing.{Joined}
-use Rattle.models.specs.Plan.{Model}
+use Rattle.plans.specs.declared.block.GroupBy.{GroupBy}
+use Rattle.channels.specs.Lists.{keep}
+use Rattle.plans.specs.Line.{Line, group, ofGroup, rising}
+use Rattle.plans.specs.Placing.{Joined}
+use Rattle.plans.specs.Plan.{Model}
 
 -- a key that is found on channel c
 abbrev pub isOn : ℕ → Option (ℕ × ℤ) → Bool

@@ -6,9 +6,9 @@ use mathlib.Core.Option.{Option, some, none}
 use lib.Dec.{eqb}
 use lib.IntN.{ℤ}
 use lib.Ieee.{Float}
-use Rattle.models.specs.Places.{Place}
-use Rattle.models.specs.Pool.{keyCount, Pool, State, found, released, registerRule, replied, stopped}
-use Rattle.models.specs.Block.{registerNoteRule}
+use Rattle.channels.specs.Places.{Place}
+use Rattle.pools.specs.Pool.{keyCount, Pool, State, found, released, registerRule, replied, stopped}
+use Rattle.pools.specs.Block.{registerNoteRule}
 
 -- A call, with any key there is and any f64; presses and repitches may be refused, presses rejected. A press may also be for any note and detuning, as in place.
 pub data Call : Type 0 where

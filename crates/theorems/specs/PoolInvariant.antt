@@ -3,9 +3,9 @@ use Prim.Native.Nat.{ℕ, _+_, _<_, _≤_}
 use mathlib.Core.Path.{_≡_}
 use mathlib.Core.Option.{some}
 use lib.ListN.{length, getD}
-use Rattle.models.specs.Lists.{upward}
-use Rattle.models.specs.Places.{Place}
-use Rattle.models.specs.Pool.{keyCount, Pool, State, emptyPool, poolCount, poolOf, pool, found}
+use Rattle.channels.specs.Lists.{upward}
+use Rattle.channels.specs.Places.{Place}
+use Rattle.pools.specs.Pool.{keyCount, Pool, State, emptyPool, poolCount, poolOf, pool, found}
 use Rattle.theorems.specs.PoolCalls.{times, standing}
 
 -- A key is found on a note of the pool i.

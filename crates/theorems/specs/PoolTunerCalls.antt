@@ -3,8 +3,8 @@
 use mathlib.Core.List.{List, [], _∷_}
 use Prim.Native.Nat.{ℕ, _<_}
 use lib.Ieee.{Float}
-use Rattle.models.specs.Outcome.{refused}
-use Rattle.models.specs.Pool.{keyCount}
+use Rattle.channels.specs.Outcome.{refused}
+use Rattle.pools.specs.Pool.{keyCount}
 use Rattle.theorems.specs.PoolCalls.{Call as Pool·Call, after as Pool·after}
 use Rattle.senders.specs.Lent.{fitted, settled}
 use Rattle.senders.specs.Jit.{Tuner, withPool, noteOnRule, noteOffRule, stopRule}

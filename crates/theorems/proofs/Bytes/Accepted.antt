@@ -7,8 +7,8 @@ use lib.Dec.{leb}
 use lib.ListN.{length, take, drop}
 use lib.Seq.{take-at}
 use mathlib.Core.Bool.{Bool, true, false, cond}
-use Rattle.models.specs.Outcome.{Outcome, value, refused}
-use Rattle.models.specs.Refusal.{bufferTooShort}
+use Rattle.channels.specs.Outcome.{Outcome, value, refused}
+use Rattle.channels.specs.Refusal.{bufferTooShort}
 use Rattle.senders.specs.Lent.{Effect, sends, sent, fitted, told, Moved, left, written, Steps}
 
 -- ---- what a call that was accepted did

@@ -6,7 +6,7 @@ use Prim.Native.Nat.{ℕ}
 use lib.Dec.{ltb}
 use lib.ListN.{take}
 use borrow.Author.Tests.{ltb-true}
-use Rattle.models.specs.Outcome.{Outcome, value}
+use Rattle.channels.specs.Outcome.{Outcome, value}
 use Rattle.senders.specs.Lent.{Effect, sent, sends, Steps, Answers}
 use Rattle.senders.specs.Message.{Message, Valid, AllValid}
 use Rattle.senders.specs.Midi.{bytes, bytesOf, meant, checked, messageRule}

@@ -10,7 +10,7 @@ use lib.ListN.{length, length-append}
 use lib.Dec.{eqb, leb}
 use borrow.Author.Tests.{eqb-true, leb-true}
 use Rattle.lines.specs.Split.{into, split}
-use Rattle.models.specs.Outcome.{value, refused}
+use Rattle.channels.specs.Outcome.{value, refused}
 use Rattle.lines.specs.Grammar.{word, digits, decimal, allowed}
 use Rattle.theorems.specs.Grammar.{Spells, Means}
 use Rattle.lines.specs.Line.{event, same, kindOf, number, eventOf, ofFields, meaning, meant}

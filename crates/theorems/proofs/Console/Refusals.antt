@@ -11,9 +11,9 @@ use lib.Dec.{eqb, leb}
 use lib.Ieee.{Float}
 use lib.ListN.{length}
 use borrow.Author.Tests.{eqb-true}
-use Rattle.models.specs.Outcome.{Outcome, value, refused}
-use Rattle.models.specs.Places.{Place}
-use Rattle.models.specs.Pool.{State, Press, registerRule, repitchRule}
+use Rattle.channels.specs.Outcome.{Outcome, value, refused}
+use Rattle.channels.specs.Places.{Place}
+use Rattle.pools.specs.Pool.{State, Press, registerRule, repitchRule}
 use Rattle.theorems.proofs.Pools.Refusals.{register-refused, repitch-refused}
 use Rattle.senders.specs.Lent.{Effect, Answer}
 use Rattle.senders.specs.Message.{isData}

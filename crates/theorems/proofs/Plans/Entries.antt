@@ -14,22 +14,22 @@ use lib.Ieee.{Float}
 use lib.Ieee.Positive.{positive}
 use lib.ListN.{length}
 use Rattle.arithmetic.specs.Outcome.{value}
-use Rattle.models.specs.declared.plan_block.GroupBy.{GroupBy}
-use Rattle.models.specs.declared.plan_block.GroupBy.the-variants.{Channel}
-use Rattle.models.specs.Lists.{Each, keep, member}
-use Rattle.models.specs.Line.{Line, group, ofGroup, rising}
-use Rattle.models.specs.PlanLists.{keys}
-use Rattle.models.specs.Walk.{count, seat, entry}
-use Rattle.models.specs.Plan.{Model, Answer, tuned, untuned, holding, empty, planned}
-use Rattle.models.specs.PlanInternal.{Accepted}
-use Rattle.models.proofs.ListLaws.{outcome, passed, failed, true→T, or-cases, Each-map}
-use Rattle.models.proofs.Rising.{rising-Each}
-use Rattle.models.proofs.Plan.{channel, below-count, used}
-use Rattle.models.proofs.Seats.{seated-lines, unseated}
-use Rattle.models.proofs.SortedKeys.{others-of}
-use Rattle.models.proofs.Held.{at-key, of-kept, zip}
-use Rattle.models.proofs.Carried.{lastOf, heard, entry-is}
-use Rattle.models.proofs.PlanEntries.{entry-each}
+use Rattle.plans.specs.declared.block.GroupBy.{GroupBy}
+use Rattle.plans.specs.declared.block.GroupBy.the-variants.{Channel}
+use Rattle.channels.specs.Lists.{Each, keep, member}
+use Rattle.plans.specs.Line.{Line, group, ofGroup, rising}
+use Rattle.plans.specs.PlanLists.{keys}
+use Rattle.plans.specs.Walk.{count, seat, entry}
+use Rattle.plans.specs.Plan.{Model, Answer, tuned, untuned, holding, empty, planned}
+use Rattle.plans.specs.PlanInternal.{Accepted}
+use Rattle.channels.proofs.ListLaws.{outcome, passed, failed, true→T, or-cases, Each-map}
+use Rattle.plans.proofs.Rising.{rising-Each}
+use Rattle.plans.proofs.Plan.{channel, below-count, used}
+use Rattle.plans.proofs.Seats.{seated-lines, unseated}
+use Rattle.plans.proofs.SortedKeys.{others-of}
+use Rattle.plans.proofs.Held.{at-key, of-kept, zip}
+use Rattle.plans.proofs.Carried.{lastOf, heard, entry-is}
+use Rattle.plans.proofs.PlanEntries.{entry-each}
 
 module _ (kind : GroupBy) (lines : List Line) (ok : Accepted lines) where
   -- each entry is finite and above zero

@@ -7,11 +7,11 @@ use Prim.Native.Nat.{ℕ}
 use lib.IntN.{pos}
 use lib.Ieee.{Float, binary64, round, div, le, lt}
 use Rattle.arithmetic.specs.Pitch.{negligible, negligibleFrom, negligibleBelow}
-use Rattle.models.specs.declared.plan_block.GroupBy.the-variants.{Channel}
-use Rattle.models.specs.Line.{group, ofGroup, insert, rising, joins}
-use Rattle.models.specs.Walk.{latest, accepts, takes, next, here, later, channels, walk, count, noteOf, seatFrom, seat, replaced, entryFrom, entry}
-use Rattle.models.specs.PlanLists.{isPlanned, noteLine, noteLines, lineByLine, noteLists}
-use Rattle.models.specs.Plan.{Model, Answer, tuned, empty, planned, setTuning}
+use Rattle.plans.specs.declared.block.GroupBy.the-variants.{Channel}
+use Rattle.plans.specs.Line.{group, ofGroup, insert, rising, joins}
+use Rattle.plans.specs.Walk.{latest, accepts, takes, next, here, later, channels, walk, count, noteOf, seatFrom, seat, replaced, entryFrom, entry}
+use Rattle.plans.specs.PlanLists.{isPlanned, noteLine, noteLines, lineByLine, noteLists}
+use Rattle.plans.specs.Plan.{Model, Answer, tuned, empty, planned, setTuning}
 
 -- "Decimal fractions in all these papers mean the nearest f64": that of n / d
 abbrev pub f64 : ℕ → ℕ → Float

@@ -13,18 +13,18 @@ use Rattle.arithmetic.specs.Pitch.{isPitch, detuningOf}
 use Rattle.arithmetic.specs.Nearest.{nearestNote, nearestRule}
 use Rattle.theorems.proofs.Numbers.NearestDetuning.{closeFrom, closeTo, nearest-close}
 use Rattle.arithmetic.proofs.Nearest.{nearest-detuning}
-use Rattle.models.specs.Lists.{Each, member}
-use Rattle.models.specs.Line.{Line}
-use Rattle.models.specs.PlanLists.{keys, pitchLine, pitchLines, lineByLine, pitchLists}
-use Rattle.models.specs.PlanInternal.{Accepted}
-use Rattle.models.specs.Plan.{Model, planned}
-use Rattle.models.specs.Steps.{sentAs}
+use Rattle.channels.specs.Lists.{Each, member}
+use Rattle.plans.specs.Line.{Line}
+use Rattle.plans.specs.PlanLists.{keys, pitchLine, pitchLines, lineByLine, pitchLists}
+use Rattle.plans.specs.PlanInternal.{Accepted}
+use Rattle.plans.specs.Plan.{Model, planned}
+use Rattle.channels.specs.TuningValue.{sentAs}
 use Rattle.theorems.specs.Bounds.{valueOf, StepBound}
-use Rattle.models.specs.declared.steps.TuningKind.{TuningKind}
-use Rattle.models.proofs.ListLaws.{outcome, passed, failed}
-use Rattle.models.proofs.Accepted.{never, of-equal}
-use Rattle.models.proofs.SortedKeys.{Each-snoc}
-use Rattle.models.proofs.PlanEntries.{planned-each}
+use Rattle.channels.specs.declared.tuning_value.TuningKind.{TuningKind}
+use Rattle.channels.proofs.ListLaws.{outcome, passed, failed}
+use Rattle.plans.proofs.Accepted.{never, of-equal}
+use Rattle.plans.proofs.SortedKeys.{Each-snoc}
+use Rattle.plans.proofs.PlanEntries.{planned-each}
 use Rattle.theorems.proofs.Values.Bounds.{sent-law}
 
 abbrev Close : Float → Type 0

@@ -10,24 +10,24 @@ use lib.Dec.{leb, eqb, eqb-refl}
 use lib.IntN.{ℤ}
 use lib.Ieee.{Float}
 use lib.ListN.{length, getD}
-use Rattle.models.specs.declared.plan_block.GroupBy.{GroupBy}
-use Rattle.models.specs.Lists.{Each, keep}
-use Rattle.models.specs.Line.{Line, ofGroup, rising, group}
-use Rattle.models.specs.PlanLists.{keys}
-use Rattle.models.specs.Walk.{takes, next, channels, walk, count, replaced, entryFrom, entry, seat}
-use Rattle.models.specs.PlanInternal.{Accepted}
-use Rattle.models.proofs.ListLaws.{T→true, Each-map, keep-same}
-use Rattle.models.proofs.Rising.{rising-Each}
-use Rattle.models.proofs.Sweep.{own-group}
-use Rattle.models.proofs.Plan.{channel, walk-best, below-count, together-is, number-is}
-use Rattle.models.proofs.Seats.{seated-lines}
-use Rattle.models.proofs.Carried.{lastOf, replaced-is}
+use Rattle.plans.specs.declared.block.GroupBy.{GroupBy}
+use Rattle.channels.specs.Lists.{Each, keep}
+use Rattle.plans.specs.Line.{Line, ofGroup, rising, group}
+use Rattle.plans.specs.PlanLists.{keys}
+use Rattle.plans.specs.Walk.{takes, next, channels, walk, count, replaced, entryFrom, entry, seat}
+use Rattle.plans.specs.PlanInternal.{Accepted}
+use Rattle.channels.proofs.ListLaws.{T→true, Each-map, keep-same}
+use Rattle.plans.proofs.Rising.{rising-Each}
+use Rattle.plans.proofs.Sweep.{own-group}
+use Rattle.plans.proofs.Plan.{channel, walk-best, below-count, together-is, number-is}
+use Rattle.plans.proofs.Seats.{seated-lines}
+use Rattle.plans.proofs.Carried.{lastOf, replaced-is}
 use borrow.Author.Tests.{leb-true}
 use Rattle.arithmetic.specs.Outcome.{value}
-use Rattle.models.specs.Placing.{Joined, together}
+use Rattle.plans.specs.Placing.{Joined, together}
 use Rattle.theorems.specs.PlannedKeys.{isOn, row, lastDetuning, JoinChain, Placed}
-use Rattle.models.specs.Plan.{Model, Answer, tuned, untuned, holding, empty, planned}
-use Rattle.models.proofs.Held.{of-kept, zip}
+use Rattle.plans.specs.Plan.{Model, Answer, tuned, untuned, holding, empty, planned}
+use Rattle.plans.proofs.Held.{of-kept, zip}
 
 -- ---- a channel takes the keys of a group that come first
 module _ (kind : GroupBy) (g : ℤ) where

@@ -14,13 +14,13 @@ use Rattle.arithmetic.specs.Outcome.{Outcome, value, refused}
 use Rattle.arithmetic.specs.Note.{isNote}
 use Rattle.arithmetic.specs.Nearest.{nearestRule}
 use Rattle.arithmetic.proofs.Outcomes.{no-value, refused-by, refuses-twice}
-use Rattle.models.specs.Lists.{Each, member}
-use Rattle.models.specs.Line.{Line}
-use Rattle.models.specs.PlanLists.{isPlanned, keys, withKey, noteLine, noteLines, pitchLine, pitchLines, lineByLine, noteLists, pitchLists}
-use Rattle.models.specs.Walk.{count}
-use Rattle.models.specs.Plan as M
-use Rattle.models.proofs.ListLaws.{outcome, passed, failed}
-use Rattle.models.proofs.Lines.{nearest-refused}
+use Rattle.channels.specs.Lists.{Each, member}
+use Rattle.plans.specs.Line.{Line}
+use Rattle.plans.specs.PlanLists.{isPlanned, keys, withKey, noteLine, noteLines, pitchLine, pitchLines, lineByLine, noteLists, pitchLists}
+use Rattle.plans.specs.Walk.{count}
+use Rattle.plans.specs.Plan as M
+use Rattle.channels.proofs.ListLaws.{outcome, passed, failed}
+use Rattle.plans.proofs.Lines.{nearest-refused}
 
 -- ---- the first line that is refused decides
 

@@ -6,10 +6,10 @@ use mathlib.Core.List.{List, [], _∷_}
 use lib.Dec.{T}
 use lib.Ieee.{le}
 use lib.Ieee.Positive.{le-trans-positive}
-use Rattle.models.specs.Lists.{Each, keep}
-use Rattle.models.specs.Line.{Line, rising}
-use Rattle.models.proofs.ListLaws.{outcome, passed, failed, true→T}
-use Rattle.models.proofs.Rising.{UpTo, Sorted, Positive, rising-keep, rising-of-sorted}
+use Rattle.channels.specs.Lists.{Each, keep}
+use Rattle.plans.specs.Line.{Line, rising}
+use Rattle.channels.proofs.ListLaws.{outcome, passed, failed, true→T}
+use Rattle.plans.proofs.Rising.{UpTo, Sorted, Positive, rising-keep, rising-of-sorted}
 
 -- ---- equal detunings stay in list order
 

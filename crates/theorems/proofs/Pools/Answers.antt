@@ -15,22 +15,22 @@ use lib.Seq.{getD-set-same}
 use Rattle.arithmetic.specs.Outcome.{value}
 use Rattle.arithmetic.specs.Pitch.{isPitch, detuningOf}
 use Rattle.arithmetic.specs.Nearest.{nearestNote}
-use Rattle.models.specs.declared.block.PoolGroupBy.{PoolGroupBy}
-use Rattle.models.specs.declared.block.PoolingMode.{PoolingMode}
-use Rattle.models.specs.declared.block.PoolingMode.the-variants.{Block, Stop, Ignore}
-use Rattle.models.specs.Lists.{member, without, first}
-use Rattle.models.specs.ChannelList.{listRule, present}
-use Rattle.models.specs.Places.{Place, isHeld}
-use Rattle.models.specs.Pool.{State, Held, emptyPool, poolOf, pool, found, withPool, withKey, behind, freedIn, freed, forgotten, heldAt, oldestOf, oldest, room, madeRoom, roomBy, roomFor, Press, accepted, rejected, pressedOn, pressed, unlessHeld, registerRule}
+use Rattle.pools.specs.declared.block.PoolGroupBy.{PoolGroupBy}
+use Rattle.pools.specs.declared.block.PoolingMode.{PoolingMode}
+use Rattle.pools.specs.declared.block.PoolingMode.the-variants.{Block, Stop, Ignore}
+use Rattle.channels.specs.Lists.{member, without, first}
+use Rattle.channels.specs.ChannelList.{listRule, present}
+use Rattle.channels.specs.Places.{Place, isHeld}
+use Rattle.pools.specs.Pool.{State, Held, emptyPool, poolOf, pool, found, withPool, withKey, behind, freedIn, freed, forgotten, heldAt, oldestOf, oldest, room, madeRoom, roomBy, roomFor, Press, accepted, rejected, pressedOn, pressed, unlessHeld, registerRule}
 use Rattle.theorems.specs.PoolCalls.{Call, times}
-use Rattle.models.proofs.Pools.{pool-small, released-found, made-none, pressed-free, pressed-none}
+use Rattle.pools.proofs.Pools.{pool-small, released-found, made-none, pressed-free, pressed-none}
 use Rattle.theorems.proofs.Pools.Occurrences.{times-cons, times-same}
 use Rattle.theorems.proofs.Pools.Settings.{mode-kept}
 use Rattle.theorems.specs.PoolInvariant.{Ok}
 use Rattle.theorems.proofs.Pools.OnePool.{pool-ok, free-low}
 use Rattle.theorems.proofs.Pools.Changes.{room-ok}
 use Rattle.theorems.proofs.Pools.Invariant.{model, model-ok}
-use Rattle.models.proofs.ListLaws.{first-rest, first-none}
+use Rattle.channels.proofs.ListLaws.{first-rest, first-none}
 
 -- an accepted press is no rejected one
 clash : {X : Type 0} {c : ℕ} {st : Option ℤ} {z : ℤ} {d : Float} → accepted c st z d ≡ rejected → X

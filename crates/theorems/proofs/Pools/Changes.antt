@@ -10,16 +10,16 @@ use lib.IntN.{ℤ}
 use lib.Ieee.{Float}
 use lib.ListN.{length, getD, set, drop, length-set, length-append}
 use lib.Seq.{getD-set-same, getD-set-other}
-use Rattle.models.specs.declared.block.PoolingMode.{PoolingMode}
-use Rattle.models.specs.declared.block.PoolingMode.the-variants.{Block, Stop, Ignore}
-use Rattle.models.specs.Lists.{member, without, first}
-use Rattle.models.specs.Places.{Place}
-use Rattle.models.specs.Pool.{keyCount, Pool, State, Held, poolOf, pool, found, withPool, withKey, behind, takenIn, taken, freedIn, freed, forgotten, released, oldest, madeRoom, roomBy, roomFor, pressedOn, pressed}
+use Rattle.pools.specs.declared.block.PoolingMode.{PoolingMode}
+use Rattle.pools.specs.declared.block.PoolingMode.the-variants.{Block, Stop, Ignore}
+use Rattle.channels.specs.Lists.{member, without, first}
+use Rattle.channels.specs.Places.{Place}
+use Rattle.pools.specs.Pool.{keyCount, Pool, State, Held, poolOf, pool, found, withPool, withKey, behind, takenIn, taken, freedIn, freed, forgotten, released, oldest, madeRoom, roomBy, roomFor, pressedOn, pressed}
 use Rattle.theorems.specs.PoolCalls.{press, release, times, keysOn, standing}
-use Rattle.models.proofs.Queues.{behind-room}
-use Rattle.models.proofs.Pools.{pool-small, oldest-is, released-found, released-none, released-other}
+use Rattle.pools.proofs.Queues.{behind-room}
+use Rattle.pools.proofs.Pools.{pool-small, oldest-is, released-found, released-none, released-other}
 use Rattle.theorems.proofs.Pools.Occurrences.{times-cons, times-same, either, member-times, member-not, sum-without, times-append, times-without, length-without}
-use Rattle.models.proofs.ListLaws.{first-rest}
+use Rattle.channels.proofs.ListLaws.{first-rest}
 use Rattle.theorems.specs.PoolInvariant.{Holds, Ok, PoolOk}
 use Rattle.theorems.proofs.Pools.OnePool.{absent, anew, apart, frame, free-low, keys-cons, keys-found, keys-none, keys-same, moved, one-pool, pool-ok, seated}
 

@@ -9,12 +9,12 @@ use lib.Ieee.{Float}
 use Rattle.arithmetic.specs.Outcome.{Outcome, value}
 use Rattle.arithmetic.specs.Pitch.{isPitch, detuningOf}
 use Rattle.arithmetic.specs.Nearest.{nearestNote}
-use Rattle.models.specs.declared.block.PoolGroupBy.the-variants.{Channel}
-use Rattle.models.specs.declared.block.PoolingMode.{PoolingMode}
-use Rattle.models.specs.declared.block.PoolingMode.the-variants.{Stop}
-use Rattle.models.specs.Lists.{without, upward, first}
-use Rattle.models.specs.ChannelList.{listFrom, listRule}
-use Rattle.models.specs.Pool.{State, poolCount, poolOf, pool, found, fresh, openRule, withPool, withKey, behind, takenIn, taken, freedIn, freed, forgotten, released, releasedFrom, heldAt, oldestOf, oldest, madeRoom, roomBy, roomFor, Press, accepted, pressedOn, pressed, registerRule, replied}
+use Rattle.pools.specs.declared.block.PoolGroupBy.the-variants.{Channel}
+use Rattle.pools.specs.declared.block.PoolingMode.{PoolingMode}
+use Rattle.pools.specs.declared.block.PoolingMode.the-variants.{Stop}
+use Rattle.channels.specs.Lists.{without, upward, first}
+use Rattle.channels.specs.ChannelList.{listFrom, listRule}
+use Rattle.pools.specs.Pool.{State, poolCount, poolOf, pool, found, fresh, openRule, withPool, withKey, behind, takenIn, taken, freedIn, freed, forgotten, released, releasedFrom, heldAt, oldestOf, oldest, madeRoom, roomBy, roomFor, Press, accepted, pressedOn, pressed, registerRule, replied}
 use Rattle.theorems.proofs.Pools.Answers.{register-pressed}
 
 -- a model with two channels, and what a press answers there and leaves

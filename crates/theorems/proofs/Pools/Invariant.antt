@@ -13,15 +13,15 @@ use Rattle.arithmetic.specs.Outcome.{value, refuse_unless_then_}
 use Rattle.arithmetic.specs.Note.{isNote}
 use Rattle.arithmetic.specs.Pitch.{isPitch, detuningOf}
 use Rattle.arithmetic.specs.Nearest.{nearestNote}
-use Rattle.models.specs.declared.block.PoolGroupBy.{PoolGroupBy}
-use Rattle.models.specs.declared.block.PoolingMode.{PoolingMode}
-use Rattle.models.specs.Lists.{upward}
-use Rattle.models.specs.ChannelList.{listRule, present}
-use Rattle.models.specs.Places.{Place, isHeld}
-use Rattle.models.specs.Pool.{keyCount, Pool, State, Held, emptyPool, poolCount, pool, found, fresh, openRule, released, releasedAll, stopped, pressed, unlessHeld, registerRule, replied}
-use Rattle.models.specs.Block.{registerNoteRule}
+use Rattle.pools.specs.declared.block.PoolGroupBy.{PoolGroupBy}
+use Rattle.pools.specs.declared.block.PoolingMode.{PoolingMode}
+use Rattle.channels.specs.Lists.{upward}
+use Rattle.channels.specs.ChannelList.{listRule, present}
+use Rattle.channels.specs.Places.{Place, isHeld}
+use Rattle.pools.specs.Pool.{keyCount, Pool, State, Held, emptyPool, poolCount, pool, found, fresh, openRule, released, releasedAll, stopped, pressed, unlessHeld, registerRule, replied}
+use Rattle.pools.specs.Block.{registerNoteRule}
 use Rattle.theorems.specs.PoolCalls.{Call, press, release, lookup, repitch, pressNote, stop, after, played, standing}
-use Rattle.models.proofs.ChannelLists.{Verdict, listed, offended, verdict, fine-listed, offence-refused, channels-few}
+use Rattle.channels.proofs.ChannelLists.{Verdict, listed, offended, verdict, fine-listed, offence-refused, channels-few}
 use Rattle.theorems.proofs.Pools.Occurrences.{times-none, times-range, times-past, length-range}
 use Rattle.theorems.specs.PoolInvariant.{Ok, PoolOk}
 use Rattle.theorems.proofs.Pools.OnePool.{keys-none}

@@ -9,7 +9,7 @@ use native.Mathlib.Omega.{arith}
 use lib.ListN.{length}
 use lib.Dec.{eqb}
 use borrow.Author.Tests.{eqb-true, eqb-false, eq-eqb, ne-eqb}
-use Rattle.models.specs.Lists.{member, upward, without}
+use Rattle.channels.specs.Lists.{member, upward, without}
 use Rattle.theorems.specs.PoolCalls.{times}
 
 -- ---- one number

@@ -11,15 +11,15 @@ use lib.ListN.{length, getD, set, drop, length-set, length-append}
 use lib.Seq.{getD-set-same, getD-set-other}
 use lib.Dec.{leb}
 use borrow.Author.Tests.{leb-true, leb-false}
-use Rattle.models.specs.declared.block.PoolGroupBy.{PoolGroupBy}
-use Rattle.models.specs.Lists.{upward, first}
-use Rattle.models.specs.Places.{Place}
-use Rattle.models.specs.Pool.{keyCount, Pool, State, emptyPool, poolCount, poolOf, pool, found, behind}
+use Rattle.pools.specs.declared.block.PoolGroupBy.{PoolGroupBy}
+use Rattle.channels.specs.Lists.{upward, first}
+use Rattle.channels.specs.Places.{Place}
+use Rattle.pools.specs.Pool.{keyCount, Pool, State, emptyPool, poolCount, poolOf, pool, found, behind}
 use Rattle.theorems.specs.PoolCalls.{times, channelAt, keysOn, standing}
-use Rattle.models.proofs.Queues.{behind-room}
-use Rattle.models.proofs.Pools.{pool-small}
+use Rattle.pools.proofs.Queues.{behind-room}
+use Rattle.pools.proofs.Pools.{pool-small}
 use Rattle.theorems.proofs.Pools.Occurrences.{times-cons, times-same, times-other, times-one, either, sum-append, times-append, times-past}
-use Rattle.models.proofs.ListLaws.{first-rest}
+use Rattle.channels.proofs.ListLaws.{first-rest}
 use Rattle.theorems.specs.PoolInvariant.{Holds, Ok, PoolOk}
 
 -- ---- the keys on a channel

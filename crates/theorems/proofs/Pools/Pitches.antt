@@ -11,13 +11,13 @@ use Rattle.arithmetic.specs.Pitch.{isPitch, detuningOf}
 use Rattle.arithmetic.specs.Nearest.{nearestNote}
 use Rattle.theorems.proofs.Numbers.NearestDetuning.{nearest-close}
 use Rattle.arithmetic.proofs.Nearest.{nearest-detuning}
-use Rattle.models.specs.Places.{isHeld}
-use Rattle.models.specs.Pool.{State, Press, accepted, found, pressed, unlessHeld, registerRule}
-use Rattle.models.specs.Steps.{sentAs}
+use Rattle.channels.specs.Places.{isHeld}
+use Rattle.pools.specs.Pool.{State, Press, accepted, found, pressed, unlessHeld, registerRule}
+use Rattle.channels.specs.TuningValue.{sentAs}
 use Rattle.theorems.specs.Bounds.{valueOf, StepBound}
-use Rattle.models.specs.declared.steps.TuningKind.{TuningKind}
-use Rattle.models.proofs.PoolPresses.{made-with}
-use Rattle.models.proofs.Pools.{value-by}
+use Rattle.channels.specs.declared.tuning_value.TuningKind.{TuningKind}
+use Rattle.pools.proofs.PoolPresses.{made-with}
+use Rattle.pools.proofs.Pools.{value-by}
 use Rattle.theorems.proofs.Values.Bounds.{sent-law}
 
 module _

@@ -11,14 +11,14 @@ use lib.Ieee.{Float}
 use Rattle.arithmetic.specs.Outcome.{value}
 use Rattle.arithmetic.specs.Pitch.{isPitch, detuningOf}
 use Rattle.arithmetic.specs.Nearest.{nearestNote}
-use Rattle.models.specs.Places.{Place, isHeld}
-use Rattle.models.specs.Pool.{State, Press, accepted, found, pressed, unlessHeld, registerRule, tuning, repitchRule}
+use Rattle.channels.specs.Places.{Place, isHeld}
+use Rattle.pools.specs.Pool.{State, Press, accepted, found, pressed, unlessHeld, registerRule, tuning, repitchRule}
 use Rattle.theorems.specs.PoolCalls.{Call}
-use Rattle.models.specs.declared.block.PoolGroupBy.{PoolGroupBy}
-use Rattle.models.specs.declared.block.PoolingMode.{PoolingMode}
+use Rattle.pools.specs.declared.block.PoolGroupBy.{PoolGroupBy}
+use Rattle.pools.specs.declared.block.PoolingMode.{PoolingMode}
 use Rattle.theorems.proofs.Pools.Invariant.{model}
 use Rattle.theorems.proofs.Pools.Answers.{accepted-channel}
-use Rattle.models.proofs.Pools.{value-by}
+use Rattle.pools.proofs.Pools.{value-by}
 
 -- a key that is not held is not found
 not-held : (o : Option Place) → not (isHeld o) ≡ true → o ≡ none

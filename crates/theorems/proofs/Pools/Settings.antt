@@ -10,14 +10,14 @@ use Rattle.arithmetic.specs.Outcome.{value, refuse_unless_then_}
 use Rattle.arithmetic.specs.Note.{isNote}
 use Rattle.arithmetic.specs.Pitch.{isPitch, detuningOf}
 use Rattle.arithmetic.specs.Nearest.{nearestNote}
-use Rattle.models.specs.declared.block.PoolGroupBy.{PoolGroupBy}
-use Rattle.models.specs.declared.block.PoolingMode.{PoolingMode}
-use Rattle.models.specs.declared.block.PoolingMode.the-variants.{Block, Stop, Ignore}
-use Rattle.models.specs.Lists.{first}
-use Rattle.models.specs.ChannelList.{listRule, present}
-use Rattle.models.specs.Places.{Place, isHeld}
-use Rattle.models.specs.Pool.{State, Held, pool, found, fresh, openRule, withPool, withKey, taken, freed, forgotten, released, releasedFrom, releasedAll, stopped, oldest, Room, madeRoom, roomBy, roomFor, pressedOn, pressed, unlessHeld, registerRule, replied}
-use Rattle.models.specs.Block.{registerNoteRule}
+use Rattle.pools.specs.declared.block.PoolGroupBy.{PoolGroupBy}
+use Rattle.pools.specs.declared.block.PoolingMode.{PoolingMode}
+use Rattle.pools.specs.declared.block.PoolingMode.the-variants.{Block, Stop, Ignore}
+use Rattle.channels.specs.Lists.{first}
+use Rattle.channels.specs.ChannelList.{listRule, present}
+use Rattle.channels.specs.Places.{Place, isHeld}
+use Rattle.pools.specs.Pool.{State, Held, pool, found, fresh, openRule, withPool, withKey, taken, freed, forgotten, released, releasedFrom, releasedAll, stopped, oldest, Room, madeRoom, roomBy, roomFor, pressedOn, pressed, unlessHeld, registerRule, replied}
+use Rattle.pools.specs.Block.{registerNoteRule}
 use Rattle.theorems.specs.PoolCalls.{Call, press, release, lookup, repitch, pressNote, stop, after, played}
 
 pub record Same (s t : State) : Type 0 where

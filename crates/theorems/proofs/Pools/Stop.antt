@@ -6,13 +6,13 @@ use mathlib.Core.Option.{Option, some, none}
 use native.Mathlib.Omega.{arith}
 use native.Mathlib.Nat.{sub-zero}
 use lib.ListN.{length, getD}
-use Rattle.models.specs.declared.block.PoolGroupBy.{PoolGroupBy}
-use Rattle.models.specs.declared.block.PoolingMode.{PoolingMode}
-use Rattle.models.specs.Places.{Place}
-use Rattle.models.specs.Pool.{Pool, State, Held, emptyPool, poolCount, found, withPool, withKey, freed, forgotten, released, releasedAll, heldFrom, heldKeys, stopped}
+use Rattle.pools.specs.declared.block.PoolGroupBy.{PoolGroupBy}
+use Rattle.pools.specs.declared.block.PoolingMode.{PoolingMode}
+use Rattle.channels.specs.Places.{Place}
+use Rattle.pools.specs.Pool.{Pool, State, Held, emptyPool, poolCount, found, withPool, withKey, freed, forgotten, released, releasedAll, heldFrom, heldKeys, stopped}
 use Rattle.theorems.specs.PoolCalls.{Call, times, keysOn, standing, stop, after}
 use Rattle.theorems.proofs.Pools.Occurrences.{times-cons, times-same, times-range, either}
-use Rattle.models.proofs.Pools.{released-found, released-none, released-other}
+use Rattle.pools.proofs.Pools.{released-found, released-none, released-other}
 use Rattle.theorems.proofs.Pools.Changes.{set-none}
 use Rattle.theorems.proofs.Pools.Invariant.{after-ok, model, model-ok}
 

@@ -9,11 +9,11 @@ use native.Mathlib.Omega.{arith}
 use lib.Dec.{ltb}
 use lib.ListN.{take, getElem?}
 use borrow.Author.Tests.{lt-ltb, ltb-true}
-use Rattle.models.specs.Outcome.{value}
-use Rattle.models.specs.ChannelList.{entries}
-use Rattle.models.specs.Places.{Place}
-use Rattle.models.specs.declared.channels.ChannelList.{ChannelList}
-use Rattle.models.specs.declared.steps.TuningKind.{TuningKind}
+use Rattle.channels.specs.Outcome.{value}
+use Rattle.channels.specs.ChannelList.{entries}
+use Rattle.channels.specs.Places.{Place}
+use Rattle.channels.specs.declared.list.ChannelList.{ChannelList}
+use Rattle.channels.specs.declared.tuning_value.TuningKind.{TuningKind}
 use Rattle.senders.specs.Lent.{Answers, sent}
 use Rattle.senders.specs.Message.{Message, Valid, AllValid}
 use Rattle.senders.specs.Midi.{bytesOf, meant}

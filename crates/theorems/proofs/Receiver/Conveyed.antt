@@ -7,14 +7,14 @@ use Prim.Native.Nat.{ℕ, suc, _<_}
 use native.Mathlib.Omega.{arith}
 use lib.IntN.{ℤ}
 use lib.ListN.{length, take, getD, getElem?}
-use Rattle.models.specs.Outcome.{Outcome, value}
-use Rattle.models.specs.ChannelList.{entries}
-use Rattle.models.specs.Places.{Place}
-use Rattle.models.specs.Steps.{InSteps}
-use Rattle.models.specs.declared.channels.ChannelList.{ChannelList}
-use Rattle.models.specs.declared.steps.Tuning.{Tuning}
-use Rattle.models.specs.declared.steps.TuningKind.{TuningKind}
-use Rattle.models.proofs.ChannelLists.{entries-low}
+use Rattle.channels.specs.Outcome.{Outcome, value}
+use Rattle.channels.specs.ChannelList.{entries}
+use Rattle.channels.specs.Places.{Place}
+use Rattle.channels.specs.TuningValue.{InSteps}
+use Rattle.channels.specs.declared.list.ChannelList.{ChannelList}
+use Rattle.channels.specs.declared.tuning_value.Tuning.{Tuning}
+use Rattle.channels.specs.declared.tuning_value.TuningKind.{TuningKind}
+use Rattle.channels.proofs.ChannelLists.{entries-low}
 use Rattle.senders.specs.Lent.{Effect, sends, Steps}
 use Rattle.senders.specs.Message.{Message, noteOff, noteOn, keyPressure, control, program, channelPressure, bend, Valid, AllValid}
 use Rattle.senders.specs.Midi.{bytesOf, meant}
@@ -29,7 +29,7 @@ use Rattle.senders.specs.declared.tuner.NoteMessage.{NoteMessage}
 use Rattle.theorems.proofs.Bytes.Read.{Plain, plain-append}
 use Rattle.senders.proofs.Channels.{entry-low, valid-on}
 use Rattle.theorems.proofs.Receiver.Each.{each-valid}
-use Rattle.models.specs.Lists.{Each}
+use Rattle.channels.specs.Lists.{Each}
 use Rattle.theorems.proofs.Receiver.Hearing.{hear-append, tuning-heard, note-heard, press-heard, tuning-plain, note-plain, press-plain}
 use Rattle.theorems.proofs.Receiver.Received.{sent-heard}
 

@@ -13,7 +13,7 @@ use Rattle.theorems.specs.ExpectedEffect.{onEach}
 use Rattle.theorems.proofs.Bytes.Read.{valid-append, Plain, plain-append}
 use Rattle.theorems.proofs.Receiver.Hearing.{hear-append, on-here, on-elsewhere}
 use Rattle.theorems.proofs.Receiver.Received.{plain-received}
-use Rattle.models.specs.Lists.{Each}
+use Rattle.channels.specs.Lists.{Each}
 
 module _ {A : Type 0} (messages : A → List Message) where
   -- ---- read and received

@@ -10,13 +10,13 @@ use lib.IntN.{ℤ, pos, negsuc}
 use borrow.Author.Tests.{ltb-true, eq-eqb}
 use Rattle.senders.specs.Message.{Message}
 use Rattle.senders.specs.Midi.{meant}
-use Rattle.models.specs.Steps.{InSteps}
+use Rattle.channels.specs.TuningValue.{InSteps}
 use Rattle.senders.specs.Mts.{tuningMessages}
 use Rattle.senders.specs.Tuner.{numbered, noteType, noteMessages, stopMessages, pressMessages}
 use Rattle.theorems.specs.Receiver.{Channel, Receiver, Other, on, controlled, withNote, withFine, withChoice, parameter, hear, hearAll}
 use Rattle.theorems.specs.ExpectedEffect.{tuned, noteMeant, stopped, pressed}
-use Rattle.models.specs.declared.steps.Tuning.{Tuning}
-use Rattle.models.specs.declared.steps.Tuning.the-variants.{Fine, Bend}
+use Rattle.channels.specs.declared.tuning_value.Tuning.{Tuning}
+use Rattle.channels.specs.declared.tuning_value.Tuning.the-variants.{Fine, Bend}
 use Rattle.senders.specs.declared.tuner.NoteMessage.{NoteMessage}
 use Rattle.senders.specs.declared.tuner.NoteMessage.the-variants.{Off, On, Pressure}
 use Rattle.theorems.proofs.Bytes.Read.{Plain, plain-append}

@@ -13,22 +13,22 @@ use lib.Ieee.{Float}
 use lib.ListN.{length, take, drop, getElem?}
 use lib.Seq.{take-at}
 use borrow.Author.Tests.{eq-eqb}
-use Rattle.models.specs.Outcome.{Outcome, value, refused}
-use Rattle.models.specs.ChannelList.{entries, listRule, present}
-use Rattle.models.specs.Lists.{member, upward}
-use Rattle.models.specs.Line.{Line}
-use Rattle.models.specs.Refusal.{bufferTooShort}
-use Rattle.models.specs.Walk.{count}
-use Rattle.models.specs.Plan as M
-use Rattle.models.specs.Plan.{Model, planned, openRule}
+use Rattle.channels.specs.Outcome.{Outcome, value, refused}
+use Rattle.channels.specs.ChannelList.{entries, listRule, present}
+use Rattle.channels.specs.Lists.{member, upward}
+use Rattle.plans.specs.Line.{Line}
+use Rattle.channels.specs.Refusal.{bufferTooShort}
+use Rattle.plans.specs.Walk.{count}
+use Rattle.plans.specs.Plan as M
+use Rattle.plans.specs.Plan.{Model, planned, openRule}
 use Rattle.models.specs.AotModel.{modelOf}
-use Rattle.models.specs.Steps.{sentAs}
-use Rattle.models.specs.declared.channels.ChannelList.{ChannelList}
-use Rattle.models.specs.declared.steps.TuningKind.{TuningKind}
-use Rattle.models.proofs.ChannelLists.{Channels, listed-channels}
-use Rattle.models.proofs.ListLaws.{true→T}
-use Rattle.models.proofs.Pigeonhole.{member-self, member-other}
-use Rattle.models.proofs.Values.{sent-in-steps}
+use Rattle.channels.specs.TuningValue.{sentAs}
+use Rattle.channels.specs.declared.list.ChannelList.{ChannelList}
+use Rattle.channels.specs.declared.tuning_value.TuningKind.{TuningKind}
+use Rattle.channels.proofs.ChannelLists.{Channels, listed-channels}
+use Rattle.channels.proofs.ListLaws.{true→T}
+use Rattle.channels.proofs.Pigeonhole.{member-self, member-other}
+use Rattle.channels.proofs.Values.{sent-in-steps}
 use Rattle.senders.specs.Lent.{Effect, fitted, Moved, Steps, written}
 use Rattle.senders.specs.Message.{Message}
 use Rattle.senders.specs.Midi.{bytesOf}

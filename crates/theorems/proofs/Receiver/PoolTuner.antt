@@ -14,17 +14,17 @@ use lib.Seq.{take-at}
 use borrow.Author.Tests.{lt-ltb, ltb-true, eq-eqb}
 use Rattle.arithmetic.specs.Nearest.{nearestNote}
 use Rattle.arithmetic.specs.Pitch.{detuningOf}
-use Rattle.models.specs.Outcome.{Outcome, value}
-use Rattle.models.specs.Places.{Place, channelOf}
-use Rattle.models.specs.Pool.{State as Pools, Held, accepted, found, registerRule, repitchRule, heldFrom, heldKeys}
-use Rattle.models.specs.Steps.{sentAs}
+use Rattle.channels.specs.Outcome.{Outcome, value}
+use Rattle.channels.specs.Places.{Place, channelOf}
+use Rattle.pools.specs.Pool.{State as Pools, Held, accepted, found, registerRule, repitchRule, heldFrom, heldKeys}
+use Rattle.channels.specs.TuningValue.{sentAs}
 use Rattle.theorems.specs.Bounds.{valueOf, StepBound}
-use Rattle.models.specs.ChannelList.{entries}
-use Rattle.models.specs.Block.{settings, queueOf, queueAt, channelsAt, stateOf, stateWith}
-use Rattle.models.specs.declared.channels.ChannelList.{ChannelList}
-use Rattle.models.proofs.ChannelLists.{number, Low, digits-number}
+use Rattle.channels.specs.ChannelList.{entries}
+use Rattle.pools.specs.Block.{settings, queueOf, queueAt, channelsAt, stateOf, stateWith}
+use Rattle.channels.specs.declared.list.ChannelList.{ChannelList}
+use Rattle.channels.proofs.ChannelLists.{number, Low, digits-number}
 use Rattle.theorems.proofs.Pools.Pitches.{press-pitch, press-law}
-use Rattle.models.proofs.Values.{sent-in-steps}
+use Rattle.channels.proofs.Values.{sent-in-steps}
 use Rattle.senders.specs.Lent.{Effect, sent, Steps, Answers, written}
 use Rattle.senders.specs.Message.{Message}
 use Rattle.senders.specs.Midi.{bytesOf}

@@ -10,14 +10,14 @@ use lib.Dec.{ltb, leb}
 use lib.IntN.{ℤ}
 use lib.Ieee.{Float}
 use lib.ListN.{length, getElem?}
-use Rattle.models.specs.Outcome.{Outcome, value, refused}
-use Rattle.models.specs.ChannelList.{listRule, present}
-use Rattle.models.specs.Places.{Place}
-use Rattle.models.specs.Pool.{keyCount, State, Press, accepted, found, stopped, registerRule, replied}
+use Rattle.channels.specs.Outcome.{Outcome, value, refused}
+use Rattle.channels.specs.ChannelList.{listRule, present}
+use Rattle.channels.specs.Places.{Place}
+use Rattle.pools.specs.Pool.{keyCount, State, Press, accepted, found, stopped, registerRule, replied}
 use Rattle.theorems.specs.PoolCalls as recital
-use Rattle.models.specs.declared.steps.TuningKind.{TuningKind}
-use Rattle.models.specs.declared.block.PoolingMode.{PoolingMode}
-use Rattle.models.specs.declared.block.PoolGroupBy.the-variants.{Channel}
+use Rattle.channels.specs.declared.tuning_value.TuningKind.{TuningKind}
+use Rattle.pools.specs.declared.block.PoolingMode.{PoolingMode}
+use Rattle.pools.specs.declared.block.PoolGroupBy.the-variants.{Channel}
 use Rattle.theorems.specs.PoolInvariant.{Ok}
 use Rattle.theorems.proofs.Pools.Invariant.{model, model-ok}
 use Rattle.theorems.proofs.Pools.Presses.{press-channel}

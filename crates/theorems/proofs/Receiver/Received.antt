@@ -10,21 +10,21 @@ use lib.IntN.{ℤ, pos, negsuc, _*ℤ_}
 use lib.Ieee.{Float}
 use lib.ListN.{take}
 use borrow.Author.Tests.{lt-ltb, eq-eqb}
-use Rattle.models.specs.Outcome.{Outcome, value}
+use Rattle.channels.specs.Outcome.{Outcome, value}
 use Rattle.senders.specs.Lent.{Effect, sends, Steps}
 use Rattle.senders.specs.Message.{Message, isBend}
 use Rattle.senders.specs.Midi.{bytesOf}
-use Rattle.models.specs.Steps.{tuningOf, sentAs, InSteps}
+use Rattle.channels.specs.TuningValue.{tuningOf, sentAs, InSteps}
 use Rattle.theorems.specs.Bounds.{valueOf}
 use Rattle.senders.specs.Mts.{tuningMessages}
 use Rattle.senders.specs.Tuner.{noteMessages, pressMessages}
 use Rattle.theorems.specs.Reader.{State}
 use Rattle.theorems.specs.Receiver.{Channel, Receiver, Other, on, withFine, withBend, withSensitivity, withNote, parameter, hearAll, hearBytes, usualSensitivity, fineShift, bendShift}
 use Rattle.theorems.specs.ExpectedEffect.{tuned, noted, noteMeant, stopped, pressed, steps, stepSize, shift, valueIn}
-use Rattle.models.specs.declared.steps.TuningKind.{TuningKind}
-use Rattle.models.specs.declared.steps.TuningKind.the-variants.{FineTuning, Bend as ByBend}
-use Rattle.models.specs.declared.steps.Tuning.{Tuning}
-use Rattle.models.specs.declared.steps.Tuning.the-variants.{Fine, Bend}
+use Rattle.channels.specs.declared.tuning_value.TuningKind.{TuningKind}
+use Rattle.channels.specs.declared.tuning_value.TuningKind.the-variants.{FineTuning, Bend as ByBend}
+use Rattle.channels.specs.declared.tuning_value.Tuning.{Tuning}
+use Rattle.channels.specs.declared.tuning_value.Tuning.the-variants.{Fine, Bend}
 use Rattle.senders.specs.declared.tuner.NoteMessage.{NoteMessage}
 use Rattle.senders.specs.declared.tuner.NoteMessage.the-variants.{Off, On, Pressure}
 use Rattle.theorems.proofs.Bytes.Read.{Plain, read-plain, sent-read-plain}

@@ -11,23 +11,23 @@ use lib.Dec.{leb}
 use lib.IntN.{ℤ, pos}
 use lib.Ieee.{Float}
 use lib.ListN.{length, take, getElem?}
-use Rattle.models.specs.Outcome.{Outcome, value, refused}
-use Rattle.models.specs.ChannelList.{listRule, present}
-use Rattle.models.specs.Lists.{Each}
-use Rattle.models.specs.Line.{Line, group}
-use Rattle.models.specs.Places.{Place}
-use Rattle.models.specs.Plan as M
-use Rattle.models.specs.Plan.{Model, planned, openRule}
-use Rattle.models.specs.PlanInternal.{Accepted}
-use Rattle.models.specs.PlanLists.{pitchLists}
-use Rattle.models.specs.Steps.{sentAs}
+use Rattle.channels.specs.Outcome.{Outcome, value, refused}
+use Rattle.channels.specs.ChannelList.{listRule, present}
+use Rattle.channels.specs.Lists.{Each}
+use Rattle.plans.specs.Line.{Line, group}
+use Rattle.channels.specs.Places.{Place}
+use Rattle.plans.specs.Plan as M
+use Rattle.plans.specs.Plan.{Model, planned, openRule}
+use Rattle.plans.specs.PlanInternal.{Accepted}
+use Rattle.plans.specs.PlanLists.{pitchLists}
+use Rattle.channels.specs.TuningValue.{sentAs}
 use Rattle.theorems.specs.Bounds.{valueOf, StepBound}
-use Rattle.models.specs.declared.plan_block.GroupBy.{GroupBy}
-use Rattle.models.specs.declared.plan_block.GroupBy.the-variants.{Channel}
-use Rattle.models.specs.declared.steps.TuningKind.{TuningKind}
-use Rattle.models.proofs.Accepted.{notes-accepted, pitches-accepted}
-use Rattle.models.proofs.ChannelLists.{Channels}
-use Rattle.models.proofs.ListLaws.{Each-map}
+use Rattle.plans.specs.declared.block.GroupBy.{GroupBy}
+use Rattle.plans.specs.declared.block.GroupBy.the-variants.{Channel}
+use Rattle.channels.specs.declared.tuning_value.TuningKind.{TuningKind}
+use Rattle.plans.proofs.Accepted.{notes-accepted, pitches-accepted}
+use Rattle.channels.proofs.ChannelLists.{Channels}
+use Rattle.channels.proofs.ListLaws.{Each-map}
 use Rattle.theorems.proofs.Plans.Entries.{tuned-channels}
 use Rattle.theorems.specs.PlannedKeys.{row, JoinChain, Placed}
 use Rattle.theorems.proofs.Plans.PlannedKeys.{planned-keys}

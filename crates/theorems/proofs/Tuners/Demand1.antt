@@ -8,17 +8,17 @@ use Prim.Native.Nat.{ℕ}
 use native.Mathlib.Omega.{arith}
 use borrow.Author.Tests.{le-leb, eq-eqb}
 use lib.Dec.{T, eqb, eqb→eq, leb}
-use Rattle.models.specs.Outcome.{Outcome, value, refused}
-use Rattle.models.specs.ChannelList.{listRule}
-use Rattle.models.specs.Line.{Line}
-use Rattle.models.specs.Lists.{Each, member}
-use Rattle.models.specs.PlanLists.{noteLists, pitchLists}
-use Rattle.models.specs.Plan as M
-use Rattle.models.specs.Plan.{Model, planned, openRule}
-use Rattle.models.specs.Pool as Pools
-use Rattle.models.specs.Pool.{found}
+use Rattle.channels.specs.Outcome.{Outcome, value, refused}
+use Rattle.channels.specs.ChannelList.{listRule}
+use Rattle.plans.specs.Line.{Line}
+use Rattle.channels.specs.Lists.{Each, member}
+use Rattle.plans.specs.PlanLists.{noteLists, pitchLists}
+use Rattle.plans.specs.Plan as M
+use Rattle.plans.specs.Plan.{Model, planned, openRule}
+use Rattle.pools.specs.Pool as Pools
+use Rattle.pools.specs.Pool.{found}
 use Rattle.theorems.proofs.ChannelLists.{refused-numbers}
-use Rattle.models.proofs.ListLaws.{or-cases}
+use Rattle.channels.proofs.ListLaws.{or-cases}
 use Rattle.theorems.proofs.Plans.Refusals.{note-lists-numbers, pitch-lists-numbers, refused-leaves}
 use Rattle.senders.specs.Lent.{fitted}
 use Rattle.senders.specs.Aot as Plan

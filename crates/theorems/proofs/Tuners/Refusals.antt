@@ -12,16 +12,16 @@ use borrow.Author.Tests.{le-ltb, lt-ltb, lt-leb, le-leb, ltb-true, ltb-false, le
 use mathlib.Core.Option.{Option, none}
 use lib.Ieee.{Float}
 use lib.Ieee.Positive.{positive}
-use Rattle.models.specs.Outcome.{Outcome, value, refused, refuse_unless_then_}
-use Rattle.models.specs.Refusal.{channelOver15, bufferTooShort}
-use Rattle.models.specs.Plan.{Model, untuned, planned}
-use Rattle.models.specs.Places.{Place}
-use Rattle.models.specs.Pool.{State, Press, rejected, fresh, found, registerRule, repitchRule}
-use Rattle.models.specs.Steps.{sentAs, tuningRule}
-use Rattle.models.specs.declared.steps.Tuning.{Tuning}
-use Rattle.models.specs.declared.steps.TuningKind.{TuningKind}
-use Rattle.models.specs.declared.block.PoolingMode.{PoolingMode}
-use Rattle.models.specs.declared.block.PoolGroupBy.the-variants.{Channel as PoolGroup}
+use Rattle.channels.specs.Outcome.{Outcome, value, refused, refuse_unless_then_}
+use Rattle.channels.specs.Refusal.{channelOver15, bufferTooShort}
+use Rattle.plans.specs.Plan.{Model, untuned, planned}
+use Rattle.channels.specs.Places.{Place}
+use Rattle.pools.specs.Pool.{State, Press, rejected, fresh, found, registerRule, repitchRule}
+use Rattle.channels.specs.TuningValue.{sentAs, tuningRule}
+use Rattle.channels.specs.declared.tuning_value.Tuning.{Tuning}
+use Rattle.channels.specs.declared.tuning_value.TuningKind.{TuningKind}
+use Rattle.pools.specs.declared.block.PoolingMode.{PoolingMode}
+use Rattle.pools.specs.declared.block.PoolGroupBy.the-variants.{Channel as PoolGroup}
 use Rattle.theorems.proofs.Pools.Presses.{repitch-unknown}
 use Rattle.theorems.proofs.Pools.Refusals.{open-refused, register-refused, repitch-refused}
 use Rattle.senders.specs.Lent.{Effect, sent, fitted, told, Moved, left, Steps}

@@ -17,9 +17,9 @@ use Rattle.arithmetic.specs.Division.{quotient}
 use Rattle.arithmetic.specs.Measure.{measure}
 use Rattle.arithmetic.proofs.Integers.{plus, less, add-parts, mul-parts, neg-parts, one-sided}
 use Rattle.arithmetic.proofs.Outcomes.{refuses-once}
-use Rattle.models.specs.declared.steps.TuningKind.{TuningKind}
-use Rattle.models.specs.declared.steps.TuningKind.the-variants.{FineTuning, Bend}
-use Rattle.models.specs.Steps.{clamp, fineStep, fineValue, bendStep, bendValue, tuningOf, sentAs, tuningRule}
+use Rattle.channels.specs.declared.tuning_value.TuningKind.{TuningKind}
+use Rattle.channels.specs.declared.tuning_value.TuningKind.the-variants.{FineTuning, Bend}
+use Rattle.channels.specs.TuningValue.{clamp, fineStep, fineValue, bendStep, bendValue, tuningOf, sentAs, tuningRule}
 use Rattle.theorems.specs.Bounds.{stepOf, valueOf, FineBound, BendBound, StepBound, TruncationOrLess, Above, AtMost}
 use native.Mathlib.Nat.{le-of-lt, add-mul, one-mul, suc-mul, zero-mul, zero-div, le-of-suc-le-suc, lt-of-not-le, div-mul-le-self, lt-div-mul-add}
 use native.Mathlib.Decide.{decLe, decLt}

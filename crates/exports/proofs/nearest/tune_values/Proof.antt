@@ -7,8 +7,8 @@ use native.Mathlib.Omega.{arith}
 use mir.Facts.{toZ-ofZ}
 use mir.Syntax.{w16}
 use Rattle.exports.specs.Lent.{filled}
-use Rattle.models.specs.Steps.{tuningRule}
-use Rattle.models.specs.declared.steps.TuningKind.the-variants.{FineTuning, Bend}
+use Rattle.channels.specs.TuningValue.{tuningRule}
+use Rattle.channels.specs.declared.tuning_value.TuningKind.the-variants.{FineTuning, Bend}
 use Rattle.exports.specs.Numbers.{refusalOf, fineOf, bendOf, tuningAt}
 use Rattle.exports.proofs.Filled.{filled-turn, filled-all, length-filled}
 use Rattle.exports.proofs.nearest.tune_values.Statement.{statement}

@@ -8,7 +8,7 @@ use mir.Facts.{toZ-ofZ}
 use mir.Syntax.{w32}
 use mir.Val.{toZ, ofZ}
 use Rattle.exports.specs.Lent.{filled, byteAt}
-use Rattle.models.specs.Plan.{nextRule}
+use Rattle.plans.specs.Plan.{nextRule}
 use Rattle.models.specs.AotModel.{modelOf}
 use Rattle.exports.proofs.Filled.{filled-turn, filled-all, length-filled}
 use Rattle.exports.specs.Plans.{entryOf, entryFrom}

@@ -2,8 +2,8 @@
 use mathlib.Core.Path.{_∙_, ap, sym}
 use lib.Dec.{eqb}
 use lib.ListN.{length}
-use Rattle.models.specs.PlanLists.{noteLists}
-use Rattle.models.specs.Plan.{Model, Answer, openRule}
+use Rattle.plans.specs.PlanLists.{noteLists}
+use Rattle.plans.specs.Plan.{Model, Answer, openRule}
 use Rattle.exports.specs.Lent.{filled}
 use Rattle.exports.specs.Plans.{entryFrom}
 use Rattle.exports.proofs.Results.{refused-leaves, writes-from}

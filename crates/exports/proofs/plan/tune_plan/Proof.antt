@@ -1,8 +1,8 @@
 -- `plan::tune_plan` meets its contract: from those of the opening, the plan and what is told of it. Assumes nothing.
 use mathlib.Core.Path.{_∙_, ap}
 use mathlib.Core.Bool.{true}
-use Rattle.models.specs.PlanLists.{noteLists}
-use Rattle.models.specs.Plan.{openRule}
+use Rattle.plans.specs.PlanLists.{noteLists}
+use Rattle.plans.specs.Plan.{openRule}
 use Rattle.exports.proofs.PlanAnswers.{smallest, told-so}
 use borrow.Author.Needs.{needs}
 use Rattle.exports.proofs.plan.tune_plan.Statement.{statement}

@@ -2,7 +2,7 @@
 use mathlib.Core.Path.{sym}
 use borrow.Author.Tests.{eq-eqb, ne-eqb}
 use mir.Facts.{toZ-ofZ}
-use Rattle.models.specs.Plan.{setTuning, setTuningOfPitches}
+use Rattle.plans.specs.Plan.{setTuning, setTuningOfPitches}
 use Rattle.senders.specs.Aot.{tuner}
 use Rattle.exports.specs.PlanTuner.{happens, sendRule}
 use Rattle.exports.proofs.Counts.{plan-call, counted-call, send-counts}

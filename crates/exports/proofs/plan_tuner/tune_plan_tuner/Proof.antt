@@ -2,7 +2,7 @@
 use borrow.Author.Needs.{needs}
 use mathlib.Core.Path.{_∙_, ap, sym}
 use lib.ListN.{length}
-use Rattle.models.specs.PlanLists.{noteLists, pitchLists}
+use Rattle.plans.specs.PlanLists.{noteLists, pitchLists}
 use Rattle.senders.specs.Lent.{written}
 use Rattle.senders.specs.Aot.{Tuner, startRule}
 use Rattle.senders.proofs.PlanCalls.{notes-fine, pitches-fine, rule-smallest}

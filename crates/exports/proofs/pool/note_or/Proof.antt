@@ -1,7 +1,7 @@
 -- `pool::note_or` meets its contract, by the answer's cases. Assumes nothing.
 use mir.Facts.{toZ-ofZ}
 use mir.Syntax.{w32}
-use Rattle.models.specs.PoolAnswers.{stoppedNote}
+use Rattle.pools.specs.PoolAnswers.{stoppedNote}
 use Rattle.exports.specs.Events.{noteOr}
 use borrow.Author.Needs.{needs}
 use Rattle.exports.proofs.pool.note_or.Statement.{statement}

@@ -1,7 +1,7 @@
 -- `pool::place_answer` meets its contract, by the answer's cases. Assumes nothing.
 use mir.Facts.{toZ-ofZ}
 use mir.Syntax.{w32}
-use Rattle.models.specs.Places.{place}
+use Rattle.channels.specs.Places.{place}
 use Rattle.exports.specs.Events.{placeAnswer}
 use borrow.Author.Needs.{needs}
 use Rattle.exports.proofs.pool.place_answer.Statement.{statement}

@@ -2,10 +2,10 @@
 use mathlib.Core.Path.{_≡_, ap, sym, _∙_}
 use borrow.Author.Tests.{eq-eqb, ne-eqb}
 use lib.Ieee.{Float}
-use Rattle.models.specs.Outcome.{Outcome}
-use Rattle.models.specs.Pool.{Press, State, replied, registerRule}
-use Rattle.models.specs.Block.{stateOf}
-use Rattle.models.proofs.Blocks.{moves-state}
+use Rattle.channels.specs.Outcome.{Outcome}
+use Rattle.pools.specs.Pool.{Press, State, replied, registerRule}
+use Rattle.pools.specs.Block.{stateOf}
+use Rattle.pools.proofs.Blocks.{moves-state}
 use Rattle.exports.specs.Events.{happens, pressAnswer}
 use borrow.Author.Needs.{needs}
 use Rattle.exports.proofs.pool.play.Statement.{statement}

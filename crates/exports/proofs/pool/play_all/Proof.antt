@@ -8,8 +8,8 @@ use native.Mathlib.Omega.{arith}
 use mir.Facts.{toZ-ofZ}
 use mir.Syntax.{w32}
 use Rattle.exports.specs.Lent.{filled}
-use Rattle.models.specs.Block.{stateOf}
-use Rattle.models.specs.Pool.{State}
+use Rattle.pools.specs.Block.{stateOf}
+use Rattle.pools.specs.Pool.{State}
 use Rattle.exports.specs.Events.{Events, eventIn, answerTo, stateBefore}
 use Rattle.exports.proofs.Filled.{filled-turn, filled-all, length-filled}
 use Rattle.exports.proofs.pool.play_all.Statement.{statement}

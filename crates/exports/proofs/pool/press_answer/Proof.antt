@@ -1,7 +1,7 @@
 -- `pool::press_answer` meets its contract, by the answer's cases. Assumes nothing.
 use mir.Facts.{toZ-ofZ}
 use mir.Syntax.{w32}
-use Rattle.models.specs.PoolAnswers.{press}
+use Rattle.pools.specs.PoolAnswers.{press}
 use Rattle.exports.specs.Events.{pressAnswer}
 use borrow.Author.Needs.{needs}
 use Rattle.exports.proofs.pool.press_answer.Statement.{statement}

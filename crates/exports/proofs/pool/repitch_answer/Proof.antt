@@ -1,7 +1,7 @@
 -- `pool::repitch_answer` meets its contract, by the answer's cases. Assumes nothing.
 use mir.Facts.{toZ-ofZ}
 use mir.Syntax.{w32}
-use Rattle.models.specs.PoolAnswers.{repitched}
+use Rattle.pools.specs.PoolAnswers.{repitched}
 use Rattle.exports.specs.Events.{repitchAnswer}
 use borrow.Author.Needs.{needs}
 use Rattle.exports.proofs.pool.repitch_answer.Statement.{statement}

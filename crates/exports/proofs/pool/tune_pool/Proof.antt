@@ -4,11 +4,11 @@ use mathlib.Core.Path.{_≡_, _∙_, ap, sym}
 use mathlib.Core.List.{List}
 use Prim.Native.Nat.{ℕ}
 use lib.ListN.{length}
-use Rattle.models.specs.Outcome.{Outcome}
-use Rattle.models.specs.ChannelList.{listRule, present}
-use Rattle.models.specs.Pool.{State, openRule, fresh}
-use Rattle.models.specs.declared.block.PoolGroupBy.{PoolGroupBy}
-use Rattle.models.specs.declared.block.PoolingMode.{PoolingMode}
+use Rattle.channels.specs.Outcome.{Outcome}
+use Rattle.channels.specs.ChannelList.{listRule, present}
+use Rattle.pools.specs.Pool.{State, openRule, fresh}
+use Rattle.pools.specs.declared.block.PoolGroupBy.{PoolGroupBy}
+use Rattle.pools.specs.declared.block.PoolingMode.{PoolingMode}
 use Rattle.exports.specs.Lent.{filled}
 use Rattle.exports.specs.Returned.{listRefusal}
 use Rattle.exports.specs.Events.{Events, equalLists, answerTo, groupOf}

@@ -1,5 +1,5 @@
 -- `returned::list_refusal` meets its contract, by the answer's cases. Assumes nothing.
-use Rattle.models.specs.ChannelList.{channelsAnswer}
+use Rattle.channels.specs.ChannelList.{channelsAnswer}
 use Rattle.exports.specs.Returned.{listRefusal}
 use borrow.Author.Needs.{needs}
 use Rattle.exports.proofs.returned.list_refusal.Statement.{statement}

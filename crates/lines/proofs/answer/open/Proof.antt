@@ -1,6 +1,6 @@
 -- `answer::open` meets its contract: the list is taken, so the tuner is that of the start. Assumes nothing.
-use Rattle.models.specs.Pool.{openRule}
-use Rattle.models.specs.ChannelList.{listRule, listFrom}
+use Rattle.pools.specs.Pool.{openRule}
+use Rattle.channels.specs.ChannelList.{listRule, listFrom}
 use Rattle.lines.specs.Console.{opened}
 use borrow.Author.Needs.{needs}
 use Rattle.lines.proofs.answer.open.Statement.{statement}

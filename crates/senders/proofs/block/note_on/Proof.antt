@@ -8,12 +8,12 @@ use mir.Syntax.{w32}
 use mir.Val.{toZ, ofZ}
 use mir.Facts.{toZ-ofZ}
 use borrow.Author.Tests.{le-ltb}
-use Rattle.models.specs.Outcome.{Outcome, value}
-use Rattle.models.specs.Pool.{State, Press, accepted, registerRule, replied}
-use Rattle.models.specs.Block.{stateOf, kindAt, Moves}
-use Rattle.models.specs.PoolAnswers.{stoppedNote, press}
-use Rattle.models.proofs.PoolPresses.{press-measurable, register-again, rejected-stays}
-use Rattle.models.proofs.Values.{sent-in-steps}
+use Rattle.channels.specs.Outcome.{Outcome, value}
+use Rattle.pools.specs.Pool.{State, Press, accepted, registerRule, replied}
+use Rattle.pools.specs.Block.{stateOf, kindAt, Moves}
+use Rattle.pools.specs.PoolAnswers.{stoppedNote, press}
+use Rattle.pools.proofs.PoolPresses.{press-measurable, register-again, rejected-stays}
+use Rattle.channels.proofs.Values.{sent-in-steps}
 use Rattle.senders.specs.Jit.{view, withPool}
 use Rattle.senders.proofs.Lent.{ends-refused, ends-sent, ends-unwritten, put-none}
 use Rattle.senders.proofs.Calls.{reply-value, reply-refused, view-moved, pressBytes, press-sent, press-rejected, press-refused, ends-sounding}

@@ -6,15 +6,15 @@ use mathlib.Core.Option.{some, none}
 use native.Mathlib.Omega.{arith}
 use types.Run.{OneOf}
 use denote.Enum.Declared.{tagOf}
-use Rattle.models.specs.Outcome.{value}
-use Rattle.models.specs.Pool.{repitchRule}
-use Rattle.models.specs.Block.{stateOf}
-use Rattle.models.specs.PoolAnswers.{repitched}
-use Rattle.models.specs.declared.block.RepitchKeyResult.{RepitchKeyResult}
-use Rattle.models.specs.declared.block.RepitchKeyResult.the-variants.{Found, NotFound, Refused}
-use Rattle.models.proofs.block.RepitchKeyResult.{the-type}
-use Rattle.models.proofs.PoolPresses.{repitch-measurable}
-use Rattle.models.proofs.Values.{sent-in-steps}
+use Rattle.channels.specs.Outcome.{value}
+use Rattle.pools.specs.Pool.{repitchRule}
+use Rattle.pools.specs.Block.{stateOf}
+use Rattle.pools.specs.PoolAnswers.{repitched}
+use Rattle.pools.specs.declared.block.RepitchKeyResult.{RepitchKeyResult}
+use Rattle.pools.specs.declared.block.RepitchKeyResult.the-variants.{Found, NotFound, Refused}
+use Rattle.pools.proofs.block.RepitchKeyResult.{the-type}
+use Rattle.pools.proofs.PoolPresses.{repitch-measurable}
+use Rattle.channels.proofs.Values.{sent-in-steps}
 use Rattle.senders.proofs.Lent.{ends-refused, ends-counted, put-none}
 use borrow.Author.Needs.{needs}
 use Rattle.senders.proofs.block.note_pitch.Statement.{statement}

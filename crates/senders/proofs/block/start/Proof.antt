@@ -1,11 +1,11 @@
 -- `block::start` meets its contract, by the channel list's answer. Assumes nothing.
 use mathlib.Core.Path.{_≡_, refl, sym, ap, _∙_}
-use Rattle.models.specs.Outcome.{value}
-use Rattle.models.specs.ChannelList.{entries, present, channelsAnswer}
-use Rattle.models.specs.Pool.{State, openRule, fresh}
-use Rattle.models.specs.declared.block.PoolGroupBy.the-variants.{Channel}
-use Rattle.models.specs.declared.steps.TuningKind.{TuningKind}
-use Rattle.models.specs.Block.{stateOf, kindAt}
+use Rattle.channels.specs.Outcome.{value}
+use Rattle.channels.specs.ChannelList.{entries, present, channelsAnswer}
+use Rattle.pools.specs.Pool.{State, openRule, fresh}
+use Rattle.pools.specs.declared.block.PoolGroupBy.the-variants.{Channel}
+use Rattle.channels.specs.declared.tuning_value.TuningKind.{TuningKind}
+use Rattle.pools.specs.Block.{stateOf, kindAt}
 use Rattle.senders.specs.Jit.{Tuner}
 use borrow.Author.Needs.{needs}
 use Rattle.senders.proofs.block.start.Statement.{statement}

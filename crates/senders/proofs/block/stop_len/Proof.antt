@@ -8,12 +8,12 @@ use lib.ListN.{length}
 use mir.Syntax.{w32}
 use mir.Val.{toZ, ofZ}
 use mir.Facts.{toZ-ofZ}
-use Rattle.models.specs.Lists.{first}
-use Rattle.models.specs.Pool.{Held, keyCount, heldKeys}
-use Rattle.models.specs.Block.{stateOf}
-use Rattle.models.specs.PoolAnswers.{nextHeld}
-use Rattle.models.proofs.HeldKeys.{Met, next-met}
-use Rattle.models.proofs.Blocks.{keys-few}
+use Rattle.channels.specs.Lists.{first}
+use Rattle.pools.specs.Pool.{Held, keyCount, heldKeys}
+use Rattle.pools.specs.Block.{stateOf}
+use Rattle.pools.specs.PoolAnswers.{nextHeld}
+use Rattle.pools.proofs.HeldKeys.{Met, next-met}
+use Rattle.pools.proofs.Blocks.{keys-few}
 use Rattle.senders.specs.Jit.{view}
 use Rattle.senders.specs.declared.tuner.NoteMessage.the-variants.{Off}
 use Rattle.senders.proofs.Channels.{key-small}

@@ -2,10 +2,10 @@
 use mathlib.Core.Path.{_≡_, sym, ap, _∙_}
 use native.Mathlib.Omega.{arith}
 use borrow.Author.Tests.{le-ltb, lt-ltb}
-use Rattle.models.specs.Outcome.{value}
-use Rattle.models.specs.Answers.{tuningAnswer}
-use Rattle.models.specs.Steps.{tuningRule}
-use Rattle.models.proofs.Values.{value-in-steps}
+use Rattle.channels.specs.Outcome.{value}
+use Rattle.channels.specs.Answers.{tuningAnswer}
+use Rattle.channels.specs.TuningValue.{tuningRule}
+use Rattle.channels.proofs.Values.{value-in-steps}
 use Rattle.senders.proofs.Lent.{ends-refused}
 use borrow.Author.Needs.{needs}
 use Rattle.senders.proofs.mts.channel_tuning.Statement.{statement}

@@ -1,7 +1,7 @@
 -- `senders::plan_block::channel_len` meets its contract: the channel has a detuning and the list the entry, or not. Assumes nothing.
 use mathlib.Core.Path.{_≡_, refl, sym, ap, _∙_}
-use Rattle.models.specs.ChannelList.{entries, entryAnswer}
-use Rattle.models.specs.Steps.{sentAs}
+use Rattle.channels.specs.ChannelList.{entries, entryAnswer}
+use Rattle.channels.specs.TuningValue.{sentAs}
 use Rattle.senders.proofs.Sizes.{tuning-size}
 use Rattle.senders.proofs.Tunings.{channel-sent, channel-past}
 use borrow.Author.Needs.{needs}

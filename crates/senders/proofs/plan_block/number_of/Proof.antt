@@ -1,6 +1,6 @@
 -- `senders::plan_block::number_of` meets its contract. Assumes nothing.
 use mathlib.Core.Path.{sym, ap, _∙_}
-use Rattle.models.specs.Plan.{detuningAnswer}
+use Rattle.plans.specs.Plan.{detuningAnswer}
 use Rattle.senders.proofs.PlanCalls.{entry-some, entry-none}
 use borrow.Author.Needs.{needs}
 use Rattle.senders.proofs.plan_block.number_of.Statement.{statement}

@@ -2,8 +2,8 @@
 use mathlib.Core.Path.{_≡_, sym, ap, _∙_}
 use mathlib.Core.Option.{some}
 use lib.ListN.{getElem?}
-use Rattle.models.specs.ChannelList.{entries, entryAnswer}
-use Rattle.models.proofs.Values.{sent-in-steps}
+use Rattle.channels.specs.ChannelList.{entries, entryAnswer}
+use Rattle.channels.proofs.Values.{sent-in-steps}
 use Rattle.senders.proofs.Channels.{entry-low}
 use Rattle.senders.proofs.Lent.{put-none}
 use Rattle.senders.proofs.Tunings.{channel-sent, channel-past}

@@ -5,13 +5,13 @@ use Prim.Native.Nat.{ℕ, _+_, _-_, _≤_, _<_}
 use native.Mathlib.Omega.{arith}
 use lib.IntN.{pos}
 use lib.ListN.{length}
-use Rattle.models.specs.Lists.{upward}
-use Rattle.models.specs.Plan.{planAt, detuningAnswer}
-use Rattle.models.specs.PlanBlock.{planKindAt}
+use Rattle.channels.specs.Lists.{upward}
+use Rattle.plans.specs.Plan.{planAt, detuningAnswer}
+use Rattle.plans.specs.PlanBlock.{planKindAt}
 use Rattle.senders.specs.Lent.{Put}
 use Rattle.senders.specs.Message.{Message}
-use Rattle.models.specs.ChannelList.{entries}
-use Rattle.models.specs.declared.steps.TuningKind.{TuningKind}
+use Rattle.channels.specs.ChannelList.{entries}
+use Rattle.channels.specs.declared.tuning_value.TuningKind.{TuningKind}
 use Rattle.senders.specs.Midi.{bytesOf}
 use Rattle.senders.specs.Aot.{channelMessages, Measurable}
 use Rattle.senders.proofs.Lent.{put-none, put-then}

@@ -2,9 +2,9 @@
 use mathlib.Core.Path.{_≡_, refl, ap, subst, _∙_}
 use native.Mathlib.Omega.{arith}
 use lib.ListN.{length}
-use Rattle.models.specs.Plan.{planAt}
-use Rattle.models.specs.PlanBlock.{planKindAt}
-use Rattle.models.specs.declared.steps.TuningKind.{TuningKind}
+use Rattle.plans.specs.Plan.{planAt}
+use Rattle.plans.specs.PlanBlock.{planKindAt}
+use Rattle.channels.specs.declared.tuning_value.TuningKind.{TuningKind}
 use Rattle.senders.specs.Lent.{Put}
 use Rattle.senders.specs.Midi.{bytesOf}
 use Rattle.senders.specs.Aot.{planMessages}

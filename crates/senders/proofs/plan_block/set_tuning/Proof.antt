@@ -1,7 +1,7 @@
 -- `senders::plan_block::set_tuning` meets its contract, demand 3 included: the model's tuning of a copy, and what is then sent. Assumes nothing.
 use native.Mathlib.Omega.{arith}
-use Rattle.models.specs.Plan.{planAt, planAnswer}
-use Rattle.models.specs.PlanLists.{noteLists}
+use Rattle.plans.specs.Plan.{planAt, planAnswer}
+use Rattle.plans.specs.PlanLists.{noteLists}
 use Rattle.senders.proofs.PlanCalls.{notes-fine, ready, answers}
 use borrow.Author.Needs.{needs}
 use Rattle.senders.proofs.plan_block.set_tuning.Statement.{statement}

@@ -1,11 +1,11 @@
 -- `senders::plan_block::start` meets its contract, by the channel list's answer. Assumes nothing.
 use mathlib.Core.Path.{_≡_, refl, sym, ap, _∙_}
-use Rattle.models.specs.Outcome.{value}
-use Rattle.models.specs.ChannelList.{entries, channelsAnswer}
-use Rattle.models.specs.Plan.{Model, openRule, empty}
-use Rattle.models.specs.PlanBlock.{planKindAt}
-use Rattle.models.specs.declared.plan_block.GroupBy.the-variants.{Channel}
-use Rattle.models.specs.declared.steps.TuningKind.{TuningKind}
+use Rattle.channels.specs.Outcome.{value}
+use Rattle.channels.specs.ChannelList.{entries, channelsAnswer}
+use Rattle.plans.specs.Plan.{Model, openRule, empty}
+use Rattle.plans.specs.PlanBlock.{planKindAt}
+use Rattle.plans.specs.declared.block.GroupBy.the-variants.{Channel}
+use Rattle.channels.specs.declared.tuning_value.TuningKind.{TuningKind}
 use Rattle.senders.specs.Aot.{Tuner}
 use borrow.Author.Needs.{needs}
 use Rattle.senders.proofs.plan_block.start.Statement.{statement}

@@ -6,9 +6,9 @@ use native.Mathlib.Omega.{arith}
 use lib.IntN.{pos}
 use lib.Ieee.{nan}
 use lib.ListN.{length, getD, length-append, length-set}
-use Rattle.models.specs.Lists.{upward}
-use Rattle.models.specs.Plan.{planAt, detuningAnswer}
-use Rattle.models.specs.PlanBlock.{planKindAt}
+use Rattle.channels.specs.Lists.{upward}
+use Rattle.plans.specs.Plan.{planAt, detuningAnswer}
+use Rattle.plans.specs.PlanBlock.{planKindAt}
 use Rattle.senders.specs.Message.{Message}
 use Rattle.senders.specs.Midi.{bytesOf}
 use Rattle.senders.specs.Aot.{channelMessages, entryOf}

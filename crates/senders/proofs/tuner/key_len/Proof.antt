@@ -3,7 +3,7 @@ use mathlib.Core.Path.{_≡_, sym, ap, _∙_}
 use mir.Syntax.{w32}
 use mir.Val.{toZ, ofZ}
 use mir.Facts.{toZ-ofZ}
-use Rattle.models.specs.ChannelList.{entries, entryAnswer}
+use Rattle.channels.specs.ChannelList.{entries, entryAnswer}
 use Rattle.senders.specs.Tuner.{noteMessages}
 use Rattle.senders.proofs.Channels.{on-entry, past-entries}
 use Rattle.senders.proofs.Sizes.{note-size}

@@ -4,7 +4,7 @@ use mir.Syntax.{w32}
 use mir.Val.{toZ, ofZ}
 use mir.Facts.{toZ-ofZ}
 use native.Mathlib.Omega.{arith}
-use Rattle.models.specs.PoolAnswers.{stoppedNote}
+use Rattle.pools.specs.PoolAnswers.{stoppedNote}
 use Rattle.senders.specs.declared.tuner.NoteMessage.the-variants.{On}
 use Rattle.senders.proofs.Sizes.{stop-small, tuning-small, note-small, press-parts}
 use borrow.Author.Needs.{needs}

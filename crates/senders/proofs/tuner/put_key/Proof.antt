@@ -7,7 +7,7 @@ use lib.ListN.{getElem?}
 use mathlib.Core.Option.{some}
 use mathlib.Core.List.{List}
 use Prim.Native.Nat.{ℕ}
-use Rattle.models.specs.ChannelList.{entries, entryAnswer}
+use Rattle.channels.specs.ChannelList.{entries, entryAnswer}
 use Rattle.senders.specs.Message.{Message}
 use Rattle.senders.specs.Tuner.{noteMessages}
 use Rattle.senders.proofs.Channels.{entry-low, on-entry, past-entries}

@@ -8,7 +8,7 @@ use Prim.Native.Nat.{_≤_}
 use native.Mathlib.Omega.{arith}
 use lib.ListN.{length}
 use denote.Ref.{now}
-use Rattle.models.specs.PoolAnswers.{stoppedNote}
+use Rattle.pools.specs.PoolAnswers.{stoppedNote}
 use Rattle.senders.specs.Mts.{tuningMessages}
 use Rattle.senders.specs.Tuner.{stopMessages, noteMessages}
 use Rattle.senders.specs.declared.tuner.NoteMessage.the-variants.{On}

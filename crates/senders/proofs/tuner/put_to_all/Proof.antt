@@ -6,7 +6,7 @@ use Prim.Native.Nat.{_-_, _≤_}
 use native.Mathlib.Omega.{arith}
 use lib.ListN.{length, take, getElem?}
 use lib.Seq.{take-all}
-use Rattle.models.specs.ChannelList.{entries, entryAnswer}
+use Rattle.channels.specs.ChannelList.{entries, entryAnswer}
 use Rattle.senders.specs.Lent.{Put}
 use Rattle.senders.specs.Midi.{bytesOf, meant}
 use Rattle.senders.specs.Tuner.{each}

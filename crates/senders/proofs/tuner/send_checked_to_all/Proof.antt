@@ -1,8 +1,8 @@
 -- `senders::tuner::send_checked_to_all` meets its contract: refused by a test of the message, or it goes to all. Assumes nothing.
 use mathlib.Core.Path.{sym, ap, _∙_}
 use native.Mathlib.Omega.{arith}
-use Rattle.models.specs.ChannelList.{entries}
-use Rattle.models.specs.Outcome.{value}
+use Rattle.channels.specs.ChannelList.{entries}
+use Rattle.channels.specs.Outcome.{value}
 use Rattle.senders.specs.Answers.{checkAnswer}
 use Rattle.senders.specs.Lent.{sent}
 use Rattle.senders.specs.Message.{Valid}

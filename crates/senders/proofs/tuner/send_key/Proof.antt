@@ -4,8 +4,8 @@ use mir.Syntax.{w32}
 use mir.Val.{toZ, ofZ}
 use mir.Facts.{toZ-ofZ}
 use native.Mathlib.Omega.{arith}
-use Rattle.models.specs.ChannelList.{entries}
-use Rattle.models.specs.Places.{place}
+use Rattle.channels.specs.ChannelList.{entries}
+use Rattle.channels.specs.Places.{place}
 use Rattle.senders.proofs.Channels.{key-size}
 use Rattle.senders.proofs.Lent.{ends-short, ends-counted, put-none}
 use borrow.Author.Needs.{needs}

@@ -8,8 +8,8 @@ use mathlib.Core.Option.{some}
 use mathlib.Core.List.{List}
 use Prim.Native.Nat.{ℕ}
 use native.Mathlib.Omega.{arith}
-use Rattle.models.specs.ChannelList.{entries, entryAnswer}
-use Rattle.models.specs.PoolAnswers.{stoppedNote}
+use Rattle.channels.specs.ChannelList.{entries, entryAnswer}
+use Rattle.pools.specs.PoolAnswers.{stoppedNote}
 use Rattle.senders.specs.Message.{Message}
 use Rattle.senders.specs.Tuner.{pressMessages}
 use Rattle.senders.proofs.Channels.{entry-low, on-entry, past-entries}

@@ -2,8 +2,8 @@
 use mathlib.Core.Path.{_≡_, refl, sym, _∙_}
 use mathlib.Core.Bool.{false}
 use native.Mathlib.Omega.{arith}
-use Rattle.models.specs.ChannelList.{entries}
-use Rattle.models.proofs.ChannelLists.{entries-few}
+use Rattle.channels.specs.ChannelList.{entries}
+use Rattle.channels.proofs.ChannelLists.{entries-few}
 use Rattle.senders.specs.Midi.{meant}
 use Rattle.senders.specs.Tuner.{isKept}
 use Rattle.senders.proofs.Channels.{all-size}

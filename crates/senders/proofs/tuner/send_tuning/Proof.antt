@@ -3,7 +3,7 @@ use mathlib.Core.Path.{_≡_, refl, sym, ap, _∙_}
 use lib.ListN.{getElem?}
 use mathlib.Core.Option.{some}
 use native.Mathlib.Omega.{arith}
-use Rattle.models.specs.ChannelList.{entries, entryAnswer}
+use Rattle.channels.specs.ChannelList.{entries, entryAnswer}
 use Rattle.senders.specs.Mts.{tuningMessages}
 use Rattle.senders.proofs.Channels.{entry-low, on-entry, past-entries}
 use Rattle.senders.proofs.Lent.{ends-counted, put-none}

@@ -2,9 +2,9 @@
 use mathlib.Core.Path.{_≡_, sym, ap, _∙_}
 use Prim.Native.Nat.{ℕ}
 use native.Mathlib.Omega.{arith}
-use Rattle.models.specs.Answers.{tuningAnswer}
-use Rattle.models.specs.Steps.{tuningRule}
-use Rattle.models.proofs.Values.{sent-value}
+use Rattle.channels.specs.Answers.{tuningAnswer}
+use Rattle.channels.specs.TuningValue.{tuningRule}
+use Rattle.channels.proofs.Values.{sent-value}
 use borrow.Author.Needs.{needs}
 use Rattle.senders.proofs.tuner.sent_as.Statement.{statement}
 use Rattle.senders.proofs.tuner.sent_as.Tie as tie

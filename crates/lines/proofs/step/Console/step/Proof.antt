@@ -8,7 +8,7 @@ use lib.ListN.{length, take, drop, length-map, length-take, length-drop}
 use lib.Seq.{length-take-le, take-length}
 use borrow.Author.Needs.{needs}
 use borrow.Rule.Slice.PartMut.{putMid}
-use Rattle.models.proofs.Arrays.{long-field}
+use Rattle.channels.proofs.Arrays.{long-field}
 use Rattle.senders.specs.Lent.{Steps}
 use Rattle.senders.specs.Answers.{sentAnswer}
 use Rattle.senders.specs.Jit.{Tuner, view}

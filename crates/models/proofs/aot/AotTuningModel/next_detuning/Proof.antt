@@ -1,7 +1,7 @@
--- `models::aot::AotTuningModel::next_detuning` meets its contract: that of the call in place. Assumes nothing.
+-- `aot::AotTuningModel::next_detuning` meets its contract: that of the call in place. Assumes nothing.
 use mathlib.Core.Path.{ap, _∙_}
 use mir.Facts.{toZ-ofZ}
-use Rattle.models.specs.Plan.{nextRule}
+use Rattle.plans.specs.Plan.{nextRule}
 use Rattle.models.specs.AotModel.{modelOf}
 use borrow.Author.Needs.{needs}
 use Rattle.models.proofs.aot.AotTuningModel.next_detuning.Statement.{statement}

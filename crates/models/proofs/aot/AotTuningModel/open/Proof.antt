@@ -1,9 +1,9 @@
--- `models::aot::AotTuningModel::open` meets its contract: the list's answer, and an empty model over its entries. Assumes nothing.
+-- `aot::AotTuningModel::open` meets its contract: the list's answer, and an empty model over its entries. Assumes nothing.
 use mathlib.Core.Path.{ap, _∙_}
 use mathlib.Core.List.{List}
 use Prim.Native.Nat.{ℕ}
-use Rattle.models.specs.Plan.{openRule, empty}
-use Rattle.models.specs.ChannelList.{present}
+use Rattle.plans.specs.Plan.{openRule, empty}
+use Rattle.channels.specs.ChannelList.{present}
 use borrow.Author.Needs.{needs}
 use Rattle.models.proofs.aot.AotTuningModel.open.Statement.{statement}
 use Rattle.models.proofs.aot.AotTuningModel.open.Tie as tie

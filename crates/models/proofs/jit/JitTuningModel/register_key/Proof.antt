@@ -1,10 +1,10 @@
 -- `jit::JitTuningModel::register_key` meets its contract: that of the call in place. Assumes nothing.
 use mathlib.Core.Path.{_≡_, ap, _∙_}
 use Rattle.arithmetic.specs.Outcome.{Outcome}
-use Rattle.models.specs.Pool.{Press, State, registerRule, replied}
-use Rattle.models.specs.Block.{stateOf}
+use Rattle.pools.specs.Pool.{Press, State, registerRule, replied}
+use Rattle.pools.specs.Block.{stateOf}
 use Rattle.models.specs.JitModel.{view, told}
-use Rattle.models.proofs.Blocks.{moves-state}
+use Rattle.pools.proofs.Blocks.{moves-state}
 use borrow.Author.Needs.{needs}
 use Rattle.models.proofs.jit.JitTuningModel.register_key.Statement.{statement}
 use Rattle.models.proofs.jit.JitTuningModel.register_key.Tie as tie

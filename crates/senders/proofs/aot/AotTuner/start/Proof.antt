@@ -1,6 +1,6 @@
 -- `senders::aot::AotTuner::start` meets its contract: the channel list's answer, and a tuner without a plan. Assumes nothing.
 use mathlib.Core.Path.{_≡_, sym, ap, _∙_}
-use Rattle.models.specs.Plan.{openRule}
+use Rattle.plans.specs.Plan.{openRule}
 use borrow.Author.Needs.{needs}
 use Rattle.senders.proofs.aot.AotTuner.start.Statement.{statement}
 use Rattle.senders.proofs.aot.AotTuner.start.Tie as tie

@@ -1,6 +1,6 @@
 -- `jit::JitTuner::start` meets its contract: the channel list's answer, and a tuner in which no key is found. Assumes nothing.
 use mathlib.Core.Path.{_≡_, sym, ap, _∙_}
-use Rattle.models.specs.Pool.{openRule}
+use Rattle.pools.specs.Pool.{openRule}
 use borrow.Author.Needs.{needs}
 use Rattle.senders.proofs.jit.JitTuner.start.Statement.{statement}
 use Rattle.senders.proofs.jit.JitTuner.start.Tie as tie

@@ -3,7 +3,7 @@
 use mathlib.Core.Path.{refl, sym, ap, _∙_}
 use native.Mathlib.Omega.{arith}
 use borrow.Author.Tests.{le-ltb, lt-ltb}
-use Rattle.models.specs.Outcome.{value}
+use Rattle.channels.specs.Outcome.{value}
 use Rattle.senders.specs.Lent.{sent}
 use Rattle.senders.specs.Answers.{checkAnswer}
 use Rattle.senders.specs.Message.{Valid}

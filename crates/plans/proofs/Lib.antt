@@ -1,0 +1,23 @@
+-- Laws of the definitions, and the theorems about them.
+pub mod Joins
+pub mod Unique
+pub mod Rising
+pub mod Sweep
+pub mod Plan
+pub mod OnePass
+pub mod Seats
+pub mod Demand3
+pub mod Carried
+pub mod Insertion
+pub mod SortedKeys
+pub mod Lines
+pub mod Accepted
+pub mod Slots
+pub mod Records
+pub mod Models
+pub mod Pass
+pub mod Held
+pub mod PlanBlocks
+pub mod NextEntry
+pub mod Planned
+pub mod PlanEntries

@@ -1,0 +1,20 @@
+-- `settings::group_by` meets its contract. Assumes nothing.
+use borrow.Author.Tests.{eq-eqb, ne-eqb}
+use Rattle.pools.specs.Block.{groupOf}
+use borrow.Author.Needs.{needs}
+use Rattle.pools.proofs.settings.group_by.Statement.{statement}
+use Rattle.pools.proofs.settings.group_by.Tie as tie
+
+shared-slice-read-if1 : tie.Need-shared-slice-read-if1
+shared-slice-read-if1 c = search needs
+
+returns : tie.Need-returns
+unfolding groupOf
+returns c = rw (eq-eqb _ 1 (c .if1 .taken))
+
+returns-2 : tie.Need-returns-2
+unfolding groupOf
+returns-2 c = rw (ne-eqb _ 1 (c .if1 .left))
+
+pub group-by-spec : {M : Type 1} → statement M
+group-by-spec = tie.close (tie.spec shared-slice-read-if1 returns returns-2)
