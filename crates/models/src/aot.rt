@@ -1,9 +1,10 @@
 // Plans ("ahead of time"): every key gets a channel and a note before anyone plays. Here by value, as `plan_block` has them in place.
 
 ghost use mathlib.Core.Path.{_≡_};
-ghost use Rattle.models.specs.ChannelList.{channelsAnswer, entries};
+ghost use Rattle.models.specs.ChannelList.{entries};
 ghost use Rattle.models.specs.PlanLists.{noteLists, pitchLists};
-ghost use Rattle.models.specs.AotModel.{Smallest, accessAnswer, detuningAnswer, empty, modelOf, nextAnswer, nextRule, openRule, openedOf, setTuning, setTuningOfPitches, outcomeOf};
+ghost use Rattle.models.specs.AotModel.{Smallest, accessAnswer, detuningAnswer, empty, modelOf, nextAnswer, nextRule, openRule, openedOf, setTuning};
+ghost use Rattle.models.specs.AotModel.{setTuningOfPitches, outcomeOf};
 use crate::channels::ChannelList;
 use crate::channels::ChannelsAnswer;
 use crate::channels::present;

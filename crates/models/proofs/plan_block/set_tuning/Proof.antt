@@ -1,8 +1,8 @@
 -- `models::plan_block::set_tuning` meets its contract, demand 3 included: what was planned of the keys in order is the rule's plan. Assumes nothing.
-use mathlib.Core.Path.{_≡_, refl, subst}
+use mathlib.Core.Path.{refl, subst}
 use Rattle.models.specs.declared.aot.GroupBy.{GroupBy}
 use Rattle.models.specs.PlanLists.{noteLists}
-use Rattle.models.specs.AotModel.{Model, planAt}
+use Rattle.models.specs.AotModel.{planAt}
 use Rattle.models.specs.PlanInternal.{Plans}
 use Rattle.models.proofs.SortedKeys.{zeros, holds-none}
 use Rattle.models.proofs.Planned.{plan-smallest}

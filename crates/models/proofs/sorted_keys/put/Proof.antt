@@ -29,8 +29,16 @@ insert-requires : tie.Need-insert-requires
 insert-requires c κs =
     let s = c .before .before .before .before .before .before in
     let a = s .args in
-    let r = s .pre .3 in
-    (s .pre .0, length-set (a .by-key .now) (a .key) (a .detuning) ∙ s .pre .2, r .few, r .bytes, rises-kept (a .records .now) (a .by-key .now) (a .key) 0 (a .detuning) (take (a .n) (a .order .now)) (r .others) (r .rises), s .pre .5)
+    let r = s .pre .3 in (
+      s .pre .0,
+      length-set (a .by-key .now) (a .key) (a .detuning)
+          ∙ s .pre .2,
+      r .few,
+      r .bytes,
+      rises-kept (a .records .now) (a .by-key .now) (a .key) 0 (a .detuning) (take (a .n) (a .order .now)) (r .others)
+          (r .rises),
+      s .pre .5,
+    )
 
 same-length : tie.Need-same-length
 same-length c = search needs
@@ -47,7 +55,8 @@ returns c lines h ok new =
     let a = s .args in
     let cell = c .before .before .before .before .before .record-of in
     let note : toZ w32 (ofZ w32 (a .note)) ≡ a .note = toZ-ofZ (s .fits .note) in
-    holds-more (a .order .now) (c .before .before .insert .last .0) (a .records .now) (a .by-key .now) (a .n) (cell .result) (record { key = a .key; note = a .note; detuning = a .detuning }) lines h ok new
+    holds-more (a .order .now) (c .before .before .insert .last .0) (a .records .now) (a .by-key .now) (a .n) (cell .result)
+    (record { key = a .key; note = a .note; detuning = a .detuning }) lines h ok new
     (s .pre .3 .byte) (s .pre .5) (cell .ensures ∙ ap (λ z. some (record { channel = 0; note = z })) note) (search needs) (c .before .before .insert .ensures)
 
 pub put-spec : {M : Type 1} → statement M

@@ -1,5 +1,4 @@
 -- `senders::aot::AotTuner::start` meets its contract: the channel list's answer, and a tuner without a plan. Assumes nothing.
-use mathlib.Core.Path.{_≡_, sym, ap, _∙_}
 use Rattle.models.specs.AotModel.{openRule}
 use borrow.Author.Needs.{needs}
 use Rattle.senders.proofs.aot.AotTuner.start.Statement.{statement}
