@@ -208,7 +208,12 @@ fn tell_seats(
     kind
 }
 
-fn look_up(cells: &[u64; PLAN_CELLS], asked: &[u8], seat_channels: &mut [u8], seat_notes: &mut [i32])
+fn look_up(
+    cells: &[u64; PLAN_CELLS],
+    asked: &[u8],
+    seat_channels: &mut [u8],
+    seat_notes: &mut [i32],
+)
     ensures { λ r.
         let n = length (now (asked .entry)) in
         ⌜ (now («seat_channels» .exit) ≡ filled (λ i. seatAt (planAt (now (cells .entry))) (now (asked .entry)) i .channel) n (now («seat_channels» .entry)))

@@ -13,7 +13,7 @@ use Rattle.models.specs.Pool.{State, found, released, accepted, rejected, regis
 use Rattle.models.specs.Block.{stateOf, kindAt}
 use Rattle.models.specs.Steps.{sentAs}
 use Rattle.models.specs.declared.steps.TuningKind.{TuningKind}
-use Rattle.senders.specs.Lent.{Effect, sends, sent, fitted, Moved, Answers, Steps}
+use Rattle.senders.specs.Lent.{Effect, sends, sent, Answers, Steps}
 use Rattle.senders.specs.Midi.{bytesOf}
 use Rattle.senders.specs.Tuner.{onChannel, pressMessages, keyMessages}
 use Rattle.senders.specs.Jit.{Tuner, view, tuner, withPool, Pressed, sounds, rejects, noteOnRule, noteOffRule}
