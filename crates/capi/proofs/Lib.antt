@@ -1,0 +1,2 @@
+-- The law of every entry that writes.
+mod Entries
