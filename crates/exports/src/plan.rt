@@ -4,8 +4,9 @@ ghost use mathlib.Core.Path.{_≡_};
 ghost use mathlib.Core.Bool.{true};
 ghost use lib.Dec.{eqb};
 ghost use lib.ListN.{length};
+ghost use Rattle.models.specs.ChannelList.{channelsAnswer};
 ghost use Rattle.models.specs.PlanLists.{noteLists, pitchLists};
-ghost use Rattle.models.specs.AotModel.{openRule, setTuning, setTuningOfPitches, Smallest, modelOf, planAnswer, accessAnswer, nextAnswer};
+ghost use Rattle.models.specs.AotModel.{openRule, setTuning, setTuningOfPitches, Smallest, planAt, planAnswer, accessAnswer, nextAnswer};
 ghost use Rattle.exports.specs.Lent.{filled};
 ghost use Rattle.exports.specs.Returned.{listRefusal, unlessRefused};
 ghost use Rattle.exports.specs.Plans.{groupOf, kindOf, countOf, seatOf, seatAt, Told, entryOf, entryFrom};
@@ -19,11 +20,20 @@ use crate::returned::DONE;
 use crate::returned::UNTUNED;
 use crate::returned::is_result;
 use crate::returned::list_refusal;
-use models::aot::AotTuningModel;
 use models::aot::GroupBy;
 use models::aot::NextAnswer;
 use models::aot::PlanAnswer;
+use models::channels::ChannelList;
+use models::channels::ChannelsAnswer;
+use models::channels::present;
 use models::keys::AccessKeyResult;
+use models::plan_block::access_key;
+use models::plan_block::next_detuning;
+use models::plan_block::open;
+use models::plan_block::set_tuning;
+use models::plan_block::set_tuning_of_pitches;
+use models::plan_cells::PLAN_CELLS;
+use models::steps::TuningKind;
 
 // The kind of an entry, and of none.
 const FOUND: u8 = 0;
@@ -69,17 +79,14 @@ pub extern "C" fn tune_plan(
         ⌜ Smallest fresh (noteLists (now (keys .entry)) (now (notes .entry)) (now (detunings .entry)))
         (setTuning fresh (now (keys .entry)) (now (notes .entry)) (now (detunings .entry))) ⌝ }
 {
-    let opened = AotTuningModel::open(channels, group_of(group_by));
-    let listed = opened.answer;
-    let model = opened.model;
+    let mut cells = [0u64; PLAN_CELLS];
+    let listed = open_plan(&mut cells, channels, group_by);
     let refusal = list_refusal(listed, true);
-    let planned = model.set_tuning(keys, notes, detunings);
-    let answer = planned.answer;
-    let next = planned.model;
+    let answer = set_tuning(&mut cells, keys, notes, detunings);
     tell_seats(
         refusal,
         answer,
-        next,
+        &cells,
         asked,
         count,
         seat_channels,
@@ -108,17 +115,14 @@ pub extern "C" fn tune_plan_of_pitches(
         let fresh = openRule (now (channels .entry)) (groupOf «group_by») .0 in
         ⌜ Smallest fresh (pitchLists (now (keys .entry)) (now (pitches .entry))) (setTuningOfPitches fresh (now (keys .entry)) (now (pitches .entry))) ⌝ }
 {
-    let opened = AotTuningModel::open(channels, group_of(group_by));
-    let listed = opened.answer;
-    let model = opened.model;
+    let mut cells = [0u64; PLAN_CELLS];
+    let listed = open_plan(&mut cells, channels, group_by);
     let refusal = list_refusal(listed, true);
-    let planned = model.set_tuning_of_pitches(keys, pitches);
-    let answer = planned.answer;
-    let next = planned.model;
+    let answer = set_tuning_of_pitches(&mut cells, keys, pitches);
     tell_seats(
         refusal,
         answer,
-        next,
+        &cells,
         asked,
         count,
         seat_channels,
@@ -155,17 +159,14 @@ pub extern "C" fn tune_entries(
         ⌜ Smallest fresh (noteLists (now (keys .entry)) (now (notes .entry)) (now (detunings .entry)))
         (setTuning fresh (now (keys .entry)) (now (notes .entry)) (now (detunings .entry))) ⌝ }
 {
-    let opened = AotTuningModel::open(channels, group_of(group_by));
-    let listed = opened.answer;
-    let model = opened.model;
+    let mut cells = [0u64; PLAN_CELLS];
+    let listed = open_plan(&mut cells, channels, group_by);
     let refusal = list_refusal(listed, asked_groups.len() == asked_channels.len());
-    let planned = model.set_tuning(keys, notes, detunings);
-    let answer = planned.answer;
-    let next = planned.model;
+    let answer = set_tuning(&mut cells, keys, notes, detunings);
     let kind = kind_of(refusal, answer);
     if is_result(kind) {
         list_entries(
-            next,
+            &cells,
             asked_channels,
             asked_groups,
             entry_kinds,
@@ -176,37 +177,47 @@ pub extern "C" fn tune_entries(
     kind
 }
 
+// A plan without keys, for the channels of a list, of which there are none where it is refused.
+fn open_plan(cells: &mut [u64; PLAN_CELLS], channels: &[u8], group_by: u8) -> ChannelsAnswer
+    ensures { λ r. ⌜ (planAt (now (cells .exit)), channelsAnswer r) ≡ openRule (now (channels .entry)) (groupOf «group_by») ⌝ }
+{
+    let answer = ChannelList::of(channels);
+    let list = present(answer);
+    open(cells, list, group_of(group_by), TuningKind::FineTuning);
+    answer
+}
+
 // The answer to a plan, unless lists before it were refused: the count, and the seats of the keys that are asked for.
 fn tell_seats(
     refusal: u8,
     answer: PlanAnswer,
-    model: AotTuningModel,
+    cells: &[u64; PLAN_CELLS],
     asked: &[u8],
     count: &mut [u16],
     seat_channels: &mut [u8],
     seat_notes: &mut [i32],
 ) -> u8
-    ensures { λ r. ⌜ Told refusal (modelOf model, planAnswer answer) (now (asked .entry)) r
+    ensures { λ r. ⌜ Told refusal (planAt (now (cells .entry)), planAnswer answer) (now (asked .entry)) r
         (now (count .entry)) (now (count .exit)) (now («seat_channels» .entry)) (now («seat_channels» .exit)) (now («seat_notes» .entry)) (now («seat_notes» .exit)) ⌝ }
 {
     let kind = kind_of(refusal, answer);
     if is_result(kind) {
         put_short(count, 0, count_of(answer));
-        look_up(model, asked, seat_channels, seat_notes);
+        look_up(cells, asked, seat_channels, seat_notes);
     }
     kind
 }
 
-fn look_up(model: AotTuningModel, asked: &[u8], seat_channels: &mut [u8], seat_notes: &mut [i32])
+fn look_up(cells: &[u64; PLAN_CELLS], asked: &[u8], seat_channels: &mut [u8], seat_notes: &mut [i32])
     ensures { λ r.
         let n = length (now (asked .entry)) in
-        ⌜ (now («seat_channels» .exit) ≡ filled (λ i. seatAt (modelOf model) (now (asked .entry)) i .channel) n (now («seat_channels» .entry)))
-        × (now («seat_notes» .exit) ≡ filled (λ i. seatAt (modelOf model) (now (asked .entry)) i .note) n (now («seat_notes» .entry))) ⌝ }
+        ⌜ (now («seat_channels» .exit) ≡ filled (λ i. seatAt (planAt (now (cells .entry))) (now (asked .entry)) i .channel) n (now («seat_channels» .entry)))
+        × (now («seat_notes» .exit) ≡ filled (λ i. seatAt (planAt (now (cells .entry))) (now (asked .entry)) i .note) n (now («seat_notes» .entry))) ⌝ }
 {
     let n = asked.len();
     let mut i: usize = 0;
     while i < n {
-        let seat = seat_of(model.access_key(byte_at(asked, i)));
+        let seat = seat_of(access_key(cells, byte_at(asked, i)));
         put_byte(seat_channels, i, seat.channel);
         put_number(seat_notes, i, seat.note);
         i += 1;
@@ -214,7 +225,7 @@ fn look_up(model: AotTuningModel, asked: &[u8], seat_channels: &mut [u8], seat_n
 }
 
 fn list_entries(
-    model: AotTuningModel,
+    cells: &[u64; PLAN_CELLS],
     asked_channels: &[u8],
     asked_groups: &[i32],
     entry_kinds: &mut [u8],
@@ -222,7 +233,7 @@ fn list_entries(
     entry_detunings: &mut [f64],
 )
     ensures { λ r.
-        let entry = entryFrom (modelOf model) (now («asked_channels» .entry)) (now («asked_groups» .entry)) in
+        let entry = entryFrom (planAt (now (cells .entry))) (now («asked_channels» .entry)) (now («asked_groups» .entry)) in
         let n = length (now («asked_channels» .entry)) in
         ⌜ (now («entry_kinds» .exit) ≡ filled (λ i. entry i .kind) n (now («entry_kinds» .entry)))
         × (now («entry_groups» .exit) ≡ filled (λ i. entry i .group) n (now («entry_groups» .entry)))
@@ -231,8 +242,9 @@ fn list_entries(
     let n = asked_channels.len();
     let mut i: usize = 0;
     while i < n {
-        let entry = entry_of(model.next_detuning(
-            byte_at(asked_channels, i),
+        let entry = entry_of(next_detuning(
+            cells,
+            byte_at(asked_channels, i) as u16,
             number_at(asked_groups, i),
         ));
         put_byte(entry_kinds, i, entry.kind);

@@ -15,9 +15,9 @@ use Rattle.arithmetic.specs.Nearest.{nearestRule}
 use Rattle.models.specs.Lists.{Each, member}
 use Rattle.models.specs.Line.{Line}
 use Rattle.models.specs.PlanLists.{keyCount, isPlanned, keys, withKey, noteLine, noteLines, pitchLine, pitchLines, lineByLine, noteLists, pitchLists}
-use Rattle.models.specs.PlanInside.{Accepted}
+use Rattle.models.specs.PlanInternal.{Accepted}
 use Rattle.models.proofs.ListLaws.{outcome, passed, failed}
-use Rattle.models.proofs.Waits.{accepted-snoc, accepted-nil}
+use Rattle.models.proofs.SortedKeys.{accepted-snoc, accepted-nil}
 use Rattle.models.proofs.Lines.{Sound, planned-positive, nearest-sound}
 
 -- no refusal is a value

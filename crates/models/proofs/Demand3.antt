@@ -12,7 +12,7 @@ use Rattle.models.specs.Line.{Line}
 use Rattle.models.specs.Walk.{count, seat}
 use Rattle.models.specs.Placing.{Demand3}
 use Rattle.models.specs.AotModel.{Model, tuned, untuned, holding, empty, planned, Smallest}
-use Rattle.models.specs.PlanInside.{Accepted}
+use Rattle.models.specs.PlanInternal.{Accepted}
 use Rattle.models.proofs.Plan.{channel, walk-best, more-than-present}
 use Rattle.models.proofs.Seats.{seated-lines}
 

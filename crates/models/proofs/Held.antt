@@ -21,14 +21,14 @@ use Rattle.models.specs.Line.{Line, group, same, ofGroup, rising}
 use Rattle.models.specs.PlanLists.{keyCount, keys}
 use Rattle.models.specs.Walk.{count, seat, entry}
 use Rattle.models.specs.AotModel.{KeyRecord, nobody, isIn, keyIn, larger, counts, highest}
-use Rattle.models.specs.PlanInside.{Accepted, Seats}
+use Rattle.models.specs.PlanInternal.{Accepted, Seats}
 use Rattle.models.proofs.ListLaws.{outcome, passed, failed, T→true, true→T, not-false, or-cases, Each-map, Each-keep, Pairwise, Pairwise-keep}
 use mathlib.Core.Logic.{inl, inr}
 use Rattle.models.proofs.Joins.{le-total}
 use Rattle.models.proofs.Rising.{UpTo, Each-rising, rising-Each}
 use Rattle.models.proofs.Plan.{channel, sorted, below-count}
 use Rattle.models.proofs.Seats.{kept, seated-lines, unseated}
-use Rattle.models.proofs.Waits.{others-of}
+use Rattle.models.proofs.SortedKeys.{others-of}
 use Rattle.models.proofs.Records.{each-at, at-each}
 use Rattle.models.proofs.Models.{out-counts}
 use Rattle.models.proofs.Unique.{le-antisym}

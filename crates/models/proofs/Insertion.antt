@@ -11,7 +11,7 @@ use lib.Ieee.Positive.{positive, le-trans-positive}
 use lib.ListN.{length, getD, take, drop, set, length-take, length-set}
 use lib.Seq.{take-take, take-set-le, take-set-lt, drop-set-lt, getD-take, getD-set-same, split-at}
 use Rattle.models.specs.Lists.{Each}
-use Rattle.models.specs.PlanInside.{Rises, before, putIn}
+use Rattle.models.specs.PlanInternal.{Rises, before, putIn}
 use Rattle.models.proofs.ListLaws.{outcome, passed, failed, T→true}
 use Rattle.models.proofs.Joins.{lt-not-le}
 use Rattle.models.proofs.Records.{at-each}

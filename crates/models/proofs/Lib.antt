@@ -25,7 +25,7 @@ pub mod Seats
 pub mod Demand3
 pub mod Carried
 pub mod Insertion
-pub mod Waits
+pub mod SortedKeys
 pub mod Lines
 pub mod Accepted
 pub mod Slots
@@ -33,6 +33,7 @@ pub mod Records
 pub mod Models
 pub mod Pass
 pub mod Held
+pub mod PlanBlocks
 pub mod NextEntry
 pub mod Planned
 pub mod PlanEntries

@@ -24,9 +24,9 @@ use Rattle.models.specs.Line.{Line}
 use Rattle.models.specs.PlanLists.{keyCount, isPlanned, noteLine, pitchLine, noteLines, pitchLines, keys, lineByLine, noteLists, pitchLists}
 use Rattle.models.specs.Pool.{isHeld}
 use Rattle.models.specs.Block.{placeOf}
-use Rattle.models.specs.PlanInside.{Accepted, Adds, Checked, Holds, Room}
+use Rattle.models.specs.PlanInternal.{Accepted, Adds, Checked, Holds, Room}
 use Rattle.models.proofs.ListLaws.{true→T, outcome, passed, failed}
-use Rattle.models.proofs.Waits.{accepted-snoc, accepted-few, accepted-nil, room-for}
+use Rattle.models.proofs.SortedKeys.{accepted-snoc, accepted-few, accepted-nil, room-for}
 
 -- ---- a turn of a check: the lines so far are held and were accepted, and the lines that are left decide
 pub record Turn (o : Outcome (List Line)) (order cells : List ℕ) (ds : List Float) (n : ℕ) (rest : List (Outcome Line)) : Type 0 where

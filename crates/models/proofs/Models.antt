@@ -16,7 +16,7 @@ use Rattle.models.specs.Walk.{count}
 use Rattle.models.specs.AotModel.{KeyRecord, Model, tuned, untuned, empty, holding, planned, isIn, recordsOf, keyIn, counts, highest}
 use Rattle.models.specs.Lists.{Each}
 use Rattle.models.specs.Block.{noteOf}
-use Rattle.models.proofs.Waits.{zeros}
+use Rattle.models.proofs.SortedKeys.{zeros}
 
 pub same-model : (m n : Model) → m .channels ≡ n .channels → m .groupBy ≡ n .groupBy → m .tuned ≡ n .tuned → m .numChannels ≡ n .numChannels
     → ((k : ℕ) → m .keys k ≡ n .keys k) → ((c : ℕ) (g : ℤ) → m .detunings c g ≡ n .detunings c g) → m ≡ n

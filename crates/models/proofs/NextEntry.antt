@@ -21,7 +21,7 @@ use Rattle.models.specs.declared.aot.GroupBy.the-variants.{Note, NoteLet
 use Rattle.models.specs.Lists.{Each}
 use Rattle.models.specs.Line.{group, same}
 use Rattle.models.specs.AotModel.{KeyRecord, isIn, counts, highest, larger, numbersFrom, groups, firstEntry}
-use Rattle.models.specs.PlanInside.{lower, leastFrom}
+use Rattle.models.specs.PlanInternal.{lower, leastFrom}
 use Rattle.models.proofs.ListLaws.{outcome, passed, failed, T→true, true→T, not-false}
 use Rattle.models.proofs.Sweep.{same-eq}
 use Rattle.models.proofs.Records.{counts-not, counts-other, counts-own, in-note}

@@ -19,7 +19,7 @@ use Rattle.models.proofs.ListLaws.{outcome, passed, failed, T→true, t
 use Rattle.models.specs.PlanLists.{keys}
 use Rattle.models.proofs.Rising.{UpTo, Sorted, Other, absent}
 use Rattle.models.proofs.Sweep.{numberOf, beyond, takes-is, latest-other, latest-taken, latest-left, here-yes, here-no, later-yes, later-no, Each-here, both-Each, Pairwise-later, fewer}
-use Rattle.models.specs.PlanInside.{Accepted}
+use Rattle.models.specs.PlanInternal.{Accepted}
 use Rattle.models.proofs.Plan.{channel, sorted, different, enough, below-count, used}
 
 -- ---- the pass

@@ -20,7 +20,7 @@ use Rattle.models.specs.Pool.{Place}
 use Rattle.models.specs.Block.{noteOf, channelOf, placeOf}
 use Rattle.models.specs.Walk.{count, seat}
 use Rattle.models.specs.AotModel.{KeyRecord, nobody, isIn, recordsOf}
-use Rattle.models.specs.PlanInside.{Accepted, Placed, Seats, channelsWith, lineAt, slotOf}
+use Rattle.models.specs.PlanInternal.{Accepted, Placed, Seats, channelsWith, lineAt, slotOf}
 use Rattle.models.proofs.ListLaws.{outcome, passed, failed, T→true, true→T, not-false, Each-map, Each-all, Pairwise, own-image}
 use Rattle.models.proofs.Rising.{Other, other-sym, distinct-apart, rising-Each}
 use Rattle.models.proofs.RecordNumbers.{place-parts}

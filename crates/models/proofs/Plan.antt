@@ -14,7 +14,7 @@ use Rattle.models.specs.Lists.{Each, keep, member, once}
 use Rattle.models.specs.declared.aot.GroupBy.{GroupBy}
 use Rattle.models.specs.Line.{Line, ofGroup, joins, rising}
 use Rattle.models.specs.Walk.{walk, count, channels}
-use Rattle.models.specs.PlanInside.{Accepted}
+use Rattle.models.specs.PlanInternal.{Accepted}
 use Rattle.models.specs.Placing.{Placing, together, Joined, InOrder, uses, Best, NoneFits}
 use Rattle.models.proofs.ListLaws.{outcome, passed, failed, T→true, true→T, not-false, Each-map, Each-keep, Each-image, own-image, map-same, within, once-within, once-new, once-cons, once-exact, Pairwise, Pairwise-keep, keep-yes, keep-no, keep-same, keep-keep, keep-swap}
 use Rattle.models.proofs.Joins.{joins-mono}

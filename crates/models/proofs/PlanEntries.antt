@@ -18,7 +18,7 @@ use Rattle.models.specs.Lists.{Each, keep}
 use Rattle.models.specs.Line.{Line, ofGroup, rising}
 use Rattle.models.specs.Walk.{count, entry}
 use Rattle.models.specs.AotModel.{Model, Answer, tuned, untuned, holding, empty, planned}
-use Rattle.models.specs.PlanInside.{Accepted}
+use Rattle.models.specs.PlanInternal.{Accepted}
 use Rattle.models.proofs.ListLaws.{outcome, passed, failed, Each-keep, Pairwise, Pairwise-keep}
 use Rattle.models.proofs.Rising.{UpTo, Each-rising}
 use Rattle.models.proofs.Plan.{channel, sorted}

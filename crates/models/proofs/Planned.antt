@@ -16,13 +16,14 @@ use Rattle.models.specs.Lists.{Each, Distinct, member}
 use Rattle.models.specs.Line.{Line, rising}
 use Rattle.models.specs.PlanLists.{keyCount, keys}
 use Rattle.models.specs.Walk.{walk, count, seat, seatFrom, entry, channels}
-use Rattle.models.specs.PlanInside.{Accepted, Checked, Holds, Ready, linesOf}
-use Rattle.models.specs.AotModel.{Model, Answer, tuned, untuned, empty, holding, planned, Smallest}
+use Rattle.models.specs.PlanInternal.{Accepted, Checked, Holds, Plans, Ready, Seats, linesOf}
+use Rattle.models.specs.declared.placing.Planning.{Planning}
+use Rattle.models.specs.AotModel.{Model, Answer, tuned, untuned, empty, holding, planned, Smallest, recordsOf}
 use Rattle.models.proofs.ListLaws.{Pairwise, false→T}
 use Rattle.models.proofs.Rising.{Other, Each-rising, rising-Each, length-rising, rising-sorted, rising-of-sorted, absent}
 use Rattle.models.proofs.Plan.{different}
 use Rattle.models.proofs.RecordNumbers.{place-held}
-use Rattle.models.proofs.Waits.{accepted-few}
+use Rattle.models.proofs.SortedKeys.{accepted-few}
 use Rattle.models.proofs.Models.{same-model}
 use Rattle.models.proofs.Demand3.{demand-3}
 
@@ -86,29 +87,34 @@ planned-rising m lines ok =
     let h = same-model (holding m (rising lines)) (holding m lines) refl refl refl n (seat-rising lines ok k) (entry-rising lines ok k) in
     λ i. cond (leb (n i) (length (m .channels))) (h i, tuned (n i)) (empty (m .channels) (m .groupBy), untuned (n i))
 
--- what the answer of the check says
-module _ (o : Outcome (List Line)) (answer : ℕ) (order cells : List ℕ) (ds : List Float) (n : ℕ) where
-  pub answered : Checked o answer order cells ds n → answer ≡ 0 → (lines : List Line) × (o ≡ value lines) × Accepted lines × Holds order cells ds n lines
-  answered c e = go o refl c
-    where
-      go : (p : Outcome (List Line)) → o ≡ p → Checked p answer order cells ds n → (lines : List Line) × (o ≡ value lines) × Accepted lines × Holds order cells ds n lines
-      go (value lines) q c = (lines, q, c .1, c .2)
-      go (Outcome.refused k) q c = absurd (c .1 (sym (c .0) ∙ e))
+-- ---- the check of the lists, and the pass behind it
 
-  pub refused-so : Checked o answer order cells ds n → (answer ≡ 0 → ⊥) → o ≡ Outcome.refused answer
-  refused-so c ne = go o refl c
-    where
-      go : (p : Outcome (List Line)) → o ≡ p → Checked p answer order cells ds n → o ≡ Outcome.refused answer
-      go (value lines) q c = absurd (ne (c .0))
-      go (Outcome.refused k) q c = q ∙ ap (λ (j : ℕ). Outcome.refused j) (sym (c .0))
+pub ready-if : (by : GroupBy) (o : Outcome (List Line)) (answer : ℕ) (order cells : List ℕ) (ds : List Float) (n : ℕ) → Checked o answer order cells ds n → answer ≡ 0
+    → Ready order cells ds n
+ready-if by (value lines) answer order cells ds n c e = ready by order cells ds n lines (c .1) (c .2)
+ready-if by (Outcome.refused k) answer order cells ds n c e = absurd (c .1 (sym (c .0) ∙ e))
 
--- What the code answers is the rule's answer, and meets demand 3.
-module _ (m : Model) (o : Outcome (List Line)) (r : Model × Answer) where
-  pub meets-refused : (n : ℕ) → o ≡ Outcome.refused n → r ≡ planned m (Outcome.refused n) → (r ≡ planned m o) × Smallest m o r
-  meets-refused n e a = rw e (a, tt)
+pub plans : (by : GroupBy) (o : Outcome (List Line)) (answer : ℕ) (order cells : List ℕ) (ds : List Float) (n : ℕ) (p : Planning) (seated : List ℕ)
+    → Checked o answer order cells ds n → p .refusal ≡ answer → (answer ≡ 0 → Seats by (linesOf order cells ds n) (recordsOf seated ds) (p .count)) → Plans by o p seated ds
+plans by (value lines) answer order cells ds n p seated c e s =
+    (e ∙ c .0, c .1, subst (λ (l : List Line). Seats by l (recordsOf seated ds) (p .count)) (c .2 .ordered) (s (c .0)))
+plans by (Outcome.refused k) answer order cells ds n p seated c e s = (e ∙ c .0, c .1)
 
-  pub meets-planned : (order cells : List ℕ) (ds : List Float) (n : ℕ) (lines : List Line) → o ≡ value lines → Accepted lines → Holds order cells ds n lines
-      → r ≡ planned m (value (linesOf order cells ds n)) → (r ≡ planned m o) × Smallest m o r
-  meets-planned order cells ds n lines e ok h a =
-      let b : r ≡ planned m o = a ∙ ap (λ (l : List Line). planned m (value l)) (h .ordered) ∙ planned-rising m lines ok ∙ ap (planned m) (sym e) in
-      (b, subst (Smallest m o) (sym b) (demand-3 m o (λ l u. let q : value l ≡ value lines = sym u ∙ e in let p : l ≡ lines = cc in subst Accepted (sym p) ok)))
+-- ---- what the planning of lists comes to is what the rule says, and meets demand 3
+module _ (m : Model) (by : GroupBy) (p : Planning) (cells : List ℕ) (ds : List Float) where
+  pub plan-refused : (o : Outcome (List Line)) → Plans by o p cells ds → (p .refusal ≡ 0 → ⊥) → (m, Answer.refused (p .refusal)) ≡ planned m o
+  unfolding planned
+  plan-refused (value lines) h ne = absurd (ne (h .0))
+  plan-refused (Outcome.refused k) h ne = ap (λ (j : ℕ). (m, Answer.refused j)) (h .0)
+
+  pub plan-accepted : (o : Outcome (List Line)) → Plans by o p cells ds → p .refusal ≡ 0
+      → (lines : List Line) × Accepted lines × Seats by lines (recordsOf cells ds) (p .count) × (planned m (value lines) ≡ planned m o)
+  plan-accepted (value lines) h e = (rising lines, rising-accepted lines (h .1) by, h .2, planned-rising m lines (h .1))
+  plan-accepted (Outcome.refused k) h e = absurd (h .1 (sym (h .0) ∙ e))
+
+  accepted-lines : (o : Outcome (List Line)) → Plans by o p cells ds → (lines : List Line) → o ≡ value lines → Accepted lines
+  accepted-lines (value lines) h l e = let q : lines ≡ l = cc in subst Accepted q (h .1)
+  accepted-lines (Outcome.refused k) h l e = absurd (let z : _≡_ {A = ℕ} 0 1 = cc in omega arith)
+
+  pub plan-smallest : (o : Outcome (List Line)) (r : Model × Answer) → Plans by o p cells ds → r ≡ planned m o → Smallest m o r
+  plan-smallest o r h e = subst (Smallest m o) (sym e) (demand-3 m o (accepted-lines o h))

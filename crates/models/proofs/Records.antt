@@ -23,7 +23,7 @@ use Rattle.models.specs.JitModel.{place}
 use Rattle.models.specs.Block.{noteOf, channelOf, placeOf}
 use Rattle.models.specs.declared.keys.AccessKeyResult as AccessKeyResult
 use Rattle.models.specs.declared.keys.AccessKeyResult.{AccessKeyResult}
-use Rattle.models.specs.PlanInside.{lower, leastFrom}
+use Rattle.models.specs.PlanInternal.{lower, leastFrom}
 use Rattle.models.proofs.ListLaws.{outcome, passed, failed, T→true, true→T}
 use Rattle.models.proofs.Sweep.{same-eq, same-refl}
 
@@ -66,9 +66,9 @@ pair-of-place cell d = go (isNote (noteOf cell))
     go true = refl
     go false = refl
 
-pub key-looked-up : (cells : List ℕ) (ds : List Float) (k : ℕ) → length cells ≡ length ds → (r : AccessKeyResult) → place r ≡ placeOf (getD cells k 0) → accessAnswer r ≡ keyIn (recordsOf cells ds) k
+pub key-looked-up : (rs : List KeyRecord) (k cell : ℕ) (d : Float) → getD rs k nobody ≡ recordOf cell d → (r : AccessKeyResult) → place r ≡ placeOf cell → accessAnswer r ≡ keyIn rs k
 unfolding keyIn place
-key-looked-up cells ds k l r e = answer r ∙ ap pairOf e ∙ pair-of-place (getD cells k 0) (getD ds k nan) ∙ rw (records-at cells ds k l)
+key-looked-up rs k cell d l r e = answer r ∙ ap pairOf e ∙ pair-of-place cell d ∙ rw l
   where
     answer : (r : AccessKeyResult) → accessAnswer r ≡ pairOf (place r)
     answer (AccessKeyResult.the-variants.Found c n) = unfold place in refl

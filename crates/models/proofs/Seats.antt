@@ -17,7 +17,7 @@ use Rattle.models.specs.Placing.{Found}
 use Rattle.models.proofs.ListLaws.{outcome, passed, failed, T→true, T→false, true→T, not-false, or-left, Each-map, Pairwise, Pairwise-keep, own-image}
 use Rattle.models.proofs.Rising.{Other, Each-rising, rising-Each}
 use Rattle.models.proofs.Sweep.{numberOf, here-is, later-is, fewer, both-Each, Each-here, Each-later, Pairwise-later}
-use Rattle.models.specs.PlanInside.{Accepted}
+use Rattle.models.specs.PlanInternal.{Accepted}
 use Rattle.models.proofs.Plan.{channel, different, enough}
 
 -- ---- in one list

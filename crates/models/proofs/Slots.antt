@@ -12,7 +12,7 @@ use Rattle.arithmetic.proofs.Notes.{bounds, within, letter-below}
 use Rattle.models.specs.declared.aot.GroupBy.{GroupBy}
 use Rattle.models.specs.declared.aot.GroupBy.the-variants.{Note, NoteLetter, Channel}
 use Rattle.models.specs.Line.{group}
-use Rattle.models.specs.PlanInside.{slotOf}
+use Rattle.models.specs.PlanInternal.{slotOf}
 
 -- a note's group is a number among those of the notes
 pub group-note : (by : GroupBy) (n : ℤ) → isNote n ≡ true → isNote (group by n) ≡ true

@@ -1,9 +1,10 @@
 -- A model of planned tunings as its calls see it (document 01, "aot.rs"), and the rule of each call. Assumes nothing.
+use mathlib.Core.Path.{_≡_}
 use mathlib.Core.Bool.{Bool, true, false, cond, _&&_}
-use mathlib.Core.List.{List, [], _∷_}
+use mathlib.Core.List.{List, [], _∷_, map}
 use mathlib.Core.Option.{Option, none, some}
-use Prim.Native.Nat.{ℕ, zero, suc, _/_}
-use lib.Dec.{leb, ltb}
+use Prim.Native.Nat.{ℕ, zero, suc, _+_, _/_, _%_}
+use lib.Dec.{leb, ltb, eqb}
 use lib.IntN.{ℤ, pos, _+ℤ_}
 use lib.Signed.{leZ}
 use lib.Ieee.{Float, nan, le}
@@ -19,8 +20,11 @@ use Rattle.models.specs.declared.aot.DetuningAnswer as D
 use Rattle.models.specs.declared.aot.NextAnswer as N
 use Rattle.models.specs.declared.aot.SetTuning.{SetTuning}
 use Rattle.models.specs.declared.aot.Opened.{Opened}
-use Rattle.models.specs.ChannelList.{entries, listRule, present, channelsAnswer}
+use Rattle.models.specs.Keys.{keyCount}
+use Rattle.models.specs.Lists.{upward}
+use Rattle.models.specs.ChannelList.{listRule, present, channelsAnswer}
 use Rattle.models.specs.Block.{noteOf, channelOf}
+use Rattle.models.specs.PlanBlock.{planSettings, detuningOf, listAt, groupByAt, planKindAt}
 use Rattle.models.specs.Line.{Line, group, same}
 use Rattle.models.specs.Walk.{count, seat, entry}
 use Rattle.models.specs.Placing.{Demand3}
@@ -111,7 +115,7 @@ firstEntry from f (g ∷ gs) = let r = firstEntry from f gs in cond (leZ from g)
 unfoldable pub nextRule : Model → ℕ → ℤ → Option (ℤ × Float)
 nextRule m c from = firstEntry from (m .detunings c) (groups (m .groupBy))
 
--- ---- how a model's fields are read
+-- ---- records of keys
 
 -- What a model has of a key. A key that is not in the plan has no note.
 pub record KeyRecord : Type 0 where
@@ -151,18 +155,39 @@ unfoldable pub highest : GroupBy → ℕ → ℤ → List KeyRecord → Option F
 highest by c g [] = none
 highest by c g (r ∷ rs) = let h = highest by c g rs in cond (counts by c g r) (larger (r .detuning) h) h
 
-unfoldable pub detuningIn : AotTuningModel → ℕ → ℤ → Option Float
-detuningIn s c g = cond (ltb c (s .«num_channels»)) (highest (s .«group_by») c g (recordsOf (s .records) (s .detunings))) none
+-- ---- a block of numbers as a model
+
+unfoldable pub recordAt : List ℕ → ℕ → KeyRecord
+recordAt l key = recordOf (getD l key 0 % 65536) (detuningOf (getD l (keyCount + key) 0))
+
+unfoldable pub recordsAt : List ℕ → List KeyRecord
+recordsAt l = map (recordAt l) (upward 0 keyCount)
+
+-- channels beyond the plan's have no entry
+unfoldable pub detuningIn : GroupBy → ℕ → List KeyRecord → ℕ → ℤ → Option Float
+detuningIn by n rs c g = cond (ltb c n) (highest by c g rs) none
+
+-- of its settings and its records
+abbrev pub modelWith : List ℕ → GroupBy → Bool → ℕ → List KeyRecord → Model
+modelWith cs by planned n rs = record { channels = cs; groupBy = by; tuned = planned; numChannels = n; keys = keyIn rs; detunings = detuningIn by n rs }
+
+abbrev pub planAt : List ℕ → Model
+planAt l = modelWith (listAt l) (groupByAt l) (eqb (getD l (planSettings + 4) 0) 1) (getD l (planSettings + 3) 0 % 65536) (recordsAt l)
 
 abbrev pub modelOf : AotTuningModel → Model
-modelOf s = record {
-  channels = entries (s .channels);
-  groupBy = s .«group_by»;
-  tuned = s .tuned;
-  numChannels = s .«num_channels»;
-  keys = keyIn (recordsOf (s .records) (s .detunings));
-  detunings = detuningIn s;
-}
+modelOf s = planAt (s .cells)
+
+-- ---- calls in place
+
+-- a refusal leaves the block as it was
+abbrev pub KeptIfRefused : Answer → List ℕ → List ℕ → Type 0
+KeptIfRefused (refused n) old new = new ≡ old
+KeptIfRefused (tuned n) old new = Unit {0}
+KeptIfRefused (untuned n) old new = Unit {0}
+
+-- A tuning of a block follows the rule: its model and its answer, and the tuning kind that it had; the very same block where it is refused.
+abbrev pub Tunes : Model × Answer → List ℕ → List ℕ → Answer → Type 0
+Tunes rule old new answer = ((planAt new, answer) ≡ rule) × (planKindAt new ≡ planKindAt old) × KeptIfRefused answer old new
 
 -- ---- the code's answers in these words
 

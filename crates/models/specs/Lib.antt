@@ -14,5 +14,6 @@ pub mod Line
 pub mod Walk
 pub mod Placing
 pub mod PlanLists
+pub mod PlanBlock
 pub mod AotModel
-pub mod PlanInside
+pub mod PlanInternal

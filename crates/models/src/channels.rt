@@ -2,7 +2,7 @@
 
 ghost use mathlib.Core.Path.{_≡_};
 ghost use mathlib.Core.List.{[], map};
-ghost use Prim.Native.Nat.{ℕ, _+_, _≤_, _<_};
+ghost use Prim.Native.Nat.{ℕ, _+_, _≤_, _<_, min};
 ghost use lib.ListN.{length, take, drop, getD, getElem?};
 ghost use Rattle.models.specs.ChannelList.{entries, listRule, present, channelsAnswer, entryAnswer, digits};
 ghost use Rattle.models.specs.Block.{channelOf, queueAt};
@@ -101,6 +101,13 @@ impl ChannelList {
         EntryAnswer::NoEntry
     }
 
+    // The entries as one number, entry 0 the lowest digit to base 16.
+    pub(crate) fn digits(self) -> u64
+        ensures { λ r. ⌜ r ≡ self .digits ⌝ }
+    {
+        self.digits
+    }
+
     // Puts the entries into the queue at a place of a block.
     pub(crate) fn put(self, cells: &mut [u16], at: usize)
         requires { ⌜ at + 17 ≤ length (now cells) ⌝ }
@@ -109,6 +116,22 @@ impl ChannelList {
         let n = self.len();
         put_digits(cells, at + 1, n as usize, self.digits);
         cells[at] = n as u16;
+    }
+}
+
+// The list of so many digits of a number, at most sixteen.
+pub(crate) fn stored_list(count: u64, number: u64) -> ChannelList
+    ensures { λ r. ⌜ entries r ≡ digits (min count 16) number ⌝ }
+{
+    if count < 16 {
+        return ChannelList {
+            digits: number,
+            count: count as u8,
+        };
+    }
+    ChannelList {
+        digits: number,
+        count: MOST_ENTRIES,
     }
 }
 

@@ -4,15 +4,20 @@ pub mod aot;
 pub mod block;
 pub mod cells;
 pub mod channels;
+mod entries;
 pub mod jit;
 pub mod keys;
 mod lists;
+mod placing;
+pub mod plan_block;
+pub mod plan_cells;
+mod plan_state;
 mod pool;
 mod queue;
 mod settings;
+mod sorted_keys;
 mod state;
 pub mod steps;
-mod waiting;
 
 // What the crates above need of arithmetic, passed on.
 pub use arithmetic::pitch::Pitch;

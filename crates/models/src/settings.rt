@@ -94,7 +94,7 @@ fn mode_number(mode: PoolingMode) -> u16
     }
 }
 
-fn kind_number(kind: TuningKind) -> u16
+pub(crate) fn kind_number(kind: TuningKind) -> u16
     ensures { λ r. ⌜ kindOf r ≡ kind ⌝ }
 {
     match kind {

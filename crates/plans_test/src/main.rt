@@ -82,7 +82,7 @@ fn key(model: AotTuningModel, key: u8) {
 }
 
 // The first entry of a channel from a group on.
-fn entry(model: AotTuningModel, channel: u8, from: i32) {
+fn entry(model: AotTuningModel, channel: u16, from: i32) {
     match model.next_detuning(channel, from) {
         NextAnswer::Entry(group, detuning) => {
             signed(group);
@@ -95,7 +95,7 @@ fn entry(model: AotTuningModel, channel: u8, from: i32) {
 }
 
 // One entry of a channel.
-fn at(model: AotTuningModel, channel: u8, group: i32) {
+fn at(model: AotTuningModel, channel: u16, group: i32) {
     word(b"  at");
     number(channel as u64);
     signed(group);
@@ -109,7 +109,7 @@ fn at(model: AotTuningModel, channel: u8, group: i32) {
 }
 
 // Entries of a channel: the first, and those from 1, 61, 62 and 73 on.
-fn entries(model: AotTuningModel, channel: u8) {
+fn entries(model: AotTuningModel, channel: u16) {
     word(b"  channel");
     number(channel as u64);
     entry(model, channel, -300);

@@ -1,5 +1,5 @@
 -- What the calls of a pool tuner come to: a press by the model's answer, and a release. Assumes nothing.
-use mathlib.Core.Path.{_≡_, sym, ap, _∙_}
+use mathlib.Core.Path.{_≡_, refl, sym, ap, _∙_}
 use mathlib.Core.Option.{Option}
 use mathlib.Core.List.{List, []}
 use Prim.Native.Nat.{ℕ, _<_}
@@ -19,7 +19,7 @@ use Rattle.senders.specs.Tuner.{onChannel, pressMessages, keyMessages}
 use Rattle.senders.specs.Jit.{Tuner, view, tuner, withPool, Pressed, sounds, rejects, noteOnRule, noteOffRule}
 use Rattle.senders.specs.declared.tuner.NoteMessage.the-variants.{Off}
 use Rattle.senders.specs.declared.jit.JitTuner.{JitTuner}
-use Rattle.senders.proofs.Lent.{counted, ends-written}
+use Rattle.senders.proofs.Lent.{counted, ends-written, steps-held}
 
 -- ---- the model's reply
 
@@ -81,9 +81,4 @@ release-sent t key v low = rw (lt-ltb v 128 low)
 pub by-value :
     {R : Type 0} {rule : Outcome (Effect R Tuner)} {old new : List ℕ} {answer : Outcome R} (t : JitTuner) (cells : List ℕ)
     → Steps view rule (t .cells) old answer cells new → Steps tuner rule t old answer (record { cells = cells }) new
-by-value {R} {rule} {old} {new} {answer} t cells s =
-    record { told-is = s .told-is; moved-is = moved (fitted (length old) rule) (s .moved-is); left-is = s .left-is }
-  where
-    moved : (o : Outcome (Effect R Tuner)) → Moved view o (t .cells) cells → Moved tuner o t (record { cells = cells })
-    moved (value e) h = h
-    moved (refused n) h = ap (λ (l : List ℕ). let u : JitTuner = record { cells = l } in u) h
+by-value t cells s = steps-held (λ l. record { cells = l }) (t .cells) cells refl s

@@ -153,3 +153,14 @@ handed-back {R} {S} {view = view} {rule = rule} {s = s} {back = back} {old = old
     go : (f : Outcome (Effect R S)) → Moved view f s back → view back ≡ settled (view s) f
     go (value e) m = m
     go (refused n) m = ap view m
+
+-- a call on a state, and the same call on what holds that state
+pub steps-held :
+    {R S T U : Type 0} {view : T → S} {seen : U → S} {rule : Outcome (Effect R S)} {old new : List ℕ} {answer : Outcome R} (hold : T → U) (s back : T)
+    → seen (hold back) ≡ view back → Steps view rule s old answer back new → Steps seen rule (hold s) old answer (hold back) new
+steps-held {R} {S} {view = view} {seen = seen} {rule = rule} {old = old} hold s back e p =
+    record { told-is = p .told-is; moved-is = moved (fitted (length old) rule) (p .moved-is); left-is = p .left-is }
+  where
+    moved : (o : Outcome (Effect R S)) → Moved view o s back → Moved seen o (hold s) (hold back)
+    moved (value f) h = e ∙ h
+    moved (refused n) h = ap hold h

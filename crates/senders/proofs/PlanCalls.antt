@@ -3,36 +3,44 @@ use mathlib.Core.Path.{_≡_, refl, sym, ap, _∙_, subst}
 use mathlib.Core.Bool.{Bool, true, false, cond}
 use mathlib.Core.Option.{Option, some, none}
 use mathlib.Core.List.{List, [], _∷_}
-use Prim.Native.Nat.{ℕ, zero, suc, _≤_, _<_}
+use Prim.Native.Nat.{ℕ, zero, suc, _+_, _≤_, _<_, min}
 use native.Mathlib.Nat.{zero-add}
 use native.Mathlib.Omega.{arith}
 use borrow.Author.Tests.{le-leb, leb-true, leb-false}
-use lib.Dec.{T, leb}
+use lib.Dec.{T, leb, eqb, eqb→eq}
 use lib.IntN.{ℤ, pos}
-use lib.Ieee.{Float, nan, binary64, fits}
-use lib.ListN.{length, getD}
+use lib.Ieee.{Float, nan, binary64, fits, ofBits, lt}
+use lib.Ieee.Positive.{positive}
+use lib.ListN.{length, getD, set}
+use lib.Seq.{getD-set-same, getD-set-other}
 use Rattle.models.specs.Outcome.{Outcome, value, refused}
 use Rattle.models.specs.Refusal.{bufferTooShort}
 use Rattle.models.specs.Lists.{Each}
 use Rattle.models.specs.Line.{Line}
 use Rattle.models.specs.Placing.{Demand3}
 use Rattle.models.specs.AotModel as M
-use Rattle.models.specs.AotModel.{Model, planned, accessAnswer}
+use Rattle.models.specs.AotModel.{Model, planned, planAt, accessAnswer}
+use Rattle.models.specs.PlanBlock.{planSettings, listAt, planKindAt}
+use Rattle.models.specs.Walk.{count}
+use Rattle.models.specs.declared.steps.TuningKind.{TuningKind}
 use Rattle.models.specs.JitModel.{place}
-use Rattle.models.specs.PlanInside.{Fine}
+use Rattle.models.specs.PlanInternal.{Fine}
 use Rattle.models.specs.PlanLists.{keyCount, noteLists, pitchLists}
 use Rattle.models.specs.declared.aot.GroupBy.{GroupBy}
 use Rattle.models.specs.declared.keys.AccessKeyResult.{AccessKeyResult}
 use Rattle.models.specs.declared.keys.AccessKeyResult.the-variants.{Found, NotFound}
 use Rattle.models.proofs.Accepted.{notes-accepted, pitches-accepted}
 use Rattle.models.proofs.Demand3.{demand-3}
-use Rattle.models.proofs.ListLaws.{T→true}
+use Rattle.models.proofs.ChannelLists.{length-digits}
+use Rattle.models.proofs.ListLaws.{T→true, true→T, outcome, passed, failed}
+use Rattle.models.proofs.SortedKeys.{differs}
+use Rattle.models.proofs.PlanBlocks.{zero-below}
 use Rattle.models.proofs.PlanEntries.{planned-positive}
 use Rattle.senders.specs.Midi.{bytesOf}
 use Rattle.senders.specs.Lent.{Effect, fitted, told, Steps, Put, settled}
-use Rattle.senders.specs.Aot.{Tuner, tuner, withPlan, Planned, tunes, cannot, planMessages, planEffect, SomeFits, Smallest, Measurable, Ready, placed}
+use Rattle.senders.specs.Aot.{Tuner, view, tuner, withPlan, Planned, tunes, cannot, planMessages, planEffect, SomeFits, Smallest, Measurable, Ready, entryOf, placed}
 use Rattle.senders.specs.declared.aot.AotTuner.{AotTuner}
-use Rattle.senders.proofs.Lent.{ends-sent, handed-back}
+use Rattle.senders.proofs.Lent.{ends-sent, handed-back, steps-held}
 
 -- where a key is, in the words of a pool
 pub key-found : (r : AccessKeyResult) {o : Option (ℕ × ℤ)} → accessAnswer r ≡ o → place r ≡ placed o
@@ -64,15 +72,33 @@ pitches-fine ks hzs b = by (pitchLists ks hzs) refl
     by (value lines) e = pitches-accepted ks hzs lines (each-at (λ (k : ℕ). k < keyCount) 0 ks b) e
     by (refused n) e = tt
 
-pub ready : (m : Model) (o : Outcome (List Line)) (r : Model × M.Answer) → Fine o → r ≡ planned m o → Ready r
+-- a plan uses no more channels than there are
+planned-few : (m : Model) (lines : List Line) → planned m (value lines) .0 .numChannels ≤ length (m .channels)
 unfolding planned
-ready m o (n, M.untuned k) f e = tt
-ready m o (n, M.refused k) f e = tt
-ready m (refused j) (n, M.tuned k) f e = let q = ap (λ (x : Model × M.Answer). x .1) e in let z : _≡_ {A = ℕ} 0 1 = cc in absurd (omega arith)
-ready m (value lines) (n, M.tuned k) f e = λ i. by i (n .detunings i (pos 0)) refl
+planned-few m lines = go (leb (count (m .groupBy) lines) (length (m .channels))) refl
+  where
+    go : (b : Bool) → leb (count (m .groupBy) lines) (length (m .channels)) ≡ b
+        → cond {A = Model × M.Answer} b (M.holding m lines, M.tuned (count (m .groupBy) lines)) (M.empty (m .channels) (m .groupBy), M.untuned (count (m .groupBy) lines)) .0 .numChannels
+        ≤ length (m .channels)
+    go true e = leb-true (count (m .groupBy) lines) (length (m .channels)) e
+    go false e = omega arith
+
+-- and a block's channel list has sixteen entries at most
+list-few : (l : List ℕ) → length (planAt l .channels) ≤ 16
+unfolding listAt
+list-few l = omega (arith, length-digits (min (getD l planSettings 0) 16) (getD l (planSettings + 1) 0))
+
+pub ready : (l : List ℕ) (o : Outcome (List Line)) (r : Model × M.Answer) → Fine o → r ≡ planned (planAt l) o → Ready r
+ready l o (n, M.untuned k) f e = tt
+ready l o (n, M.refused k) f e = tt
+ready l (refused j) (n, M.tuned k) f e = unfold planned in (let q = ap (λ (x : Model × M.Answer). x .1) e in let z : _≡_ {A = ℕ} 0 1 = cc in absurd (omega arith))
+ready l (value lines) (n, M.tuned k) f e = (
+  λ i. by i (n .detunings i (pos 0)) refl,
+  omega (arith, planned-few (planAt l) lines, ap (λ (x : Model × M.Answer). x .0 .numChannels) e, list-few l),
+)
   where
     by : (i : ℕ) (o : Option Float) → n .detunings i (pos 0) ≡ o → Measurable o
-    by i (some d) q = T→true _ (planned-positive m lines f i (pos 0) d (ap (λ (x : Model × M.Answer). x .0 .detunings i (pos 0)) (sym e) ∙ q))
+    by i (some d) q = T→true _ (planned-positive (planAt l) lines f i (pos 0) d (ap (λ (x : Model × M.Answer). x .0 .detunings i (pos 0)) (sym e) ∙ q))
     by i none q = tt
 
 -- a plan whose tunings were put
@@ -120,11 +146,40 @@ module _ (t : Tuner) (room : ℕ) where
 
 -- A tuning follows its rule, with demand 3, where the model did so.
 pub answers :
-    (s back : AotTuner) (old new : List ℕ) (answer : Outcome Planned) (lines : Outcome (List Line)) (r : Model × M.Answer)
-    → r ≡ planned (tuner s .plan) lines → M.Smallest (tuner s .plan) lines r → Steps tuner (planEffect (tuner s) r) s old answer back new
-    → Steps tuner (planEffect (tuner s) (planned (tuner s .plan) lines)) s old answer back new × Smallest (tuner s) lines answer (tuner back)
+    (s back old new : List ℕ) (answer : Outcome Planned) (lines : Outcome (List Line)) (r : Model × M.Answer)
+    → r ≡ planned (planAt s) lines → M.Smallest (planAt s) lines r → Steps view (planEffect (view s) r) s old answer back new
+    → Steps view (planEffect (view s) (planned (planAt s) lines)) s old answer back new × Smallest (view s) lines answer (view back)
 answers s back old new answer lines r e d p = (
-  subst (λ (x : Model × M.Answer). Steps tuner (planEffect (tuner s) x) s old answer back new) e p,
-  subst (λ (x : Outcome Planned). Smallest (tuner s) lines x (tuner back)) (sym (p .told-is))
-      (subst (λ (x : Tuner). Smallest (tuner s) lines (told (fitted (length old) (planEffect (tuner s) r))) x) (sym (handed-back p)) (smallest (tuner s) (length old) lines r d)),
+  subst (λ (x : Model × M.Answer). Steps view (planEffect (view s) x) s old answer back new) e p,
+  subst (λ (x : Outcome Planned). Smallest (view s) lines x (view back)) (sym (p .told-is))
+      (subst (λ (x : Tuner). Smallest (view s) lines (told (fitted (length old) (planEffect (view s) r))) x) (sym (handed-back p)) (smallest (view s) (length old) lines r d)),
 )
+
+-- the tuner of a block with another plan
+pub view-planned : (l m : List ℕ) → planKindAt m ≡ planKindAt l → view m ≡ withPlan (view l) (planAt m)
+view-planned l m k = ap (λ (d : TuningKind). record { plan = planAt m; kind = d }) k
+
+-- a call in place, and the call by value made of it
+pub by-value :
+    {rule : Outcome (Effect Planned Tuner)} {old new : List ℕ} {answer : Outcome Planned} (t : AotTuner) (cells : List ℕ)
+    → Steps view rule (t .cells) old answer cells new → Steps tuner rule t old answer (record { cells = cells }) new
+by-value t cells s = steps-held (λ l. record { cells = l }) (t .cells) cells refl s
+
+-- ---- a channel's detuning as a number
+
+pub entry-some : (d : Float) → positive d ≡ true → entryOf d ≡ some d
+unfolding entryOf
+entry-some d p = rw (zero-below d (true→T p))
+
+pub entry-none : entryOf (ofBits binary64 0) ≡ none
+unfolding entryOf ofBits lt
+entry-none = refl
+
+-- one channel more
+pub entries-more :
+    (f : ℕ → Option Float) (ds : List Float) (i : ℕ) (d : Float) → i < length ds → entryOf d ≡ f i → ((k : ℕ) → k < i → entryOf (getD ds k nan) ≡ f k)
+    → (k : ℕ) → k < i + 1 → entryOf (getD (set ds i d) k nan) ≡ f k
+entries-more f ds i d h e all k p = elim (outcome (eqb k i)) [
+  | passed u ↦ let q : k ≡ i = eqb→eq k i (true→T u) in rw q (ap entryOf (getD-set-same ds i d nan h) ∙ e)
+  | failed u ↦ ap entryOf (getD-set-other ds i k d nan (differs k i u)) ∙ all k (omega (arith, differs k i u))
+]

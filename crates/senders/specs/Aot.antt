@@ -1,14 +1,14 @@
 -- The plan tuner (document 01, "midi.rs under tuner" over "aot.rs"): the rule of each call, over what the tuner holds. `fitted` adds 10 to each.
 -- Assumes nothing.
 use mathlib.Core.Path.{_≡_}
-use mathlib.Core.Bool.{true, false}
+use mathlib.Core.Bool.{true, false, cond}
 use mathlib.Core.List.{List, []}
 use mathlib.Core.Option.{Option, some, none}
-use Prim.Native.Nat.{ℕ}
+use Prim.Native.Nat.{ℕ, _≤_, _<_}
 use lib.IntN.{ℤ, pos}
-use lib.Ieee.{Float}
+use lib.Ieee.{Float, nan, binary64, ofBits, lt}
 use lib.Ieee.Positive.{positive}
-use lib.ListN.{length}
+use lib.ListN.{length, getD}
 use Rattle.models.specs.Outcome.{Outcome, value, refused}
 use Rattle.models.specs.Refusal.{bufferTooShort}
 use Rattle.models.specs.ChannelList.{channelsAnswer}
@@ -16,7 +16,8 @@ use Rattle.models.specs.Lists.{upward}
 use Rattle.models.specs.Line.{Line}
 use Rattle.models.specs.Pool.{Place}
 use Rattle.models.specs.Placing.{Placing, InOrder, Fits, Demand3}
-use Rattle.models.specs.AotModel.{Model, modelOf, openRule, setTuning, setTuningOfPitches}
+use Rattle.models.specs.PlanBlock.{planKindAt}
+use Rattle.models.specs.AotModel.{Model, planAt, openRule, setTuning, setTuningOfPitches}
 use Rattle.models.specs.AotModel as M
 use Rattle.models.specs.Steps.{sentAs}
 use Rattle.models.specs.declared.steps.TuningKind.{TuningKind}
@@ -37,8 +38,12 @@ pub record Tuner : Type 0 where
   pub plan : Model
   pub kind : TuningKind
 
+-- the tuner of a block
+abbrev pub view : List ℕ → Tuner
+view l = record { plan = planAt l; kind = planKindAt l }
+
 abbrev pub tuner : AotTuner → Tuner
-tuner t = record { plan = modelOf (t .model); kind = t .kind }
+tuner t = view (t .cells)
 
 abbrev pub withPlan : Tuner → Model → Tuner
 withPlan t m = record { plan = m; kind = t .kind }
@@ -47,6 +52,11 @@ withPlan t m = record { plan = m; kind = t .kind }
 
 abbrev pub startRule : List ℕ → TuningKind → Outcome (List ℕ) × Tuner
 startRule channels kind = let o = openRule channels Channel in (o .1, record { plan = o .0; kind = kind })
+
+-- a block after a start in place: a refused list leaves it as it was
+abbrev pub Starts : Outcome (List ℕ) → Tuner → List ℕ → List ℕ → Type 0
+Starts (value cs) t old new = view new ≡ t
+Starts (refused n) t old new = new ≡ old
 
 abbrev pub opened : Opened → Outcome (List ℕ) × Tuner
 opened o = (channelsAnswer (o .answer), tuner (o .tuner))
@@ -126,12 +136,20 @@ abbrev pub Measurable : Option Float → Type 0
 Measurable (some d) = positive d ≡ true
 Measurable none = Unit {0}
 
--- the detuning of each channel can be measured
+-- the detuning of each channel can be measured, and there are no more channels than MIDI has
 abbrev pub Sendable : Model → Type 0
-Sendable m = (i : ℕ) → Measurable (m .detunings i (pos 0))
+Sendable m = ((i : ℕ) → Measurable (m .detunings i (pos 0))) × (m .numChannels ≤ 16)
 
 -- so it is of a plan
 abbrev pub Ready : Model × M.Answer → Type 0
 Ready (m, M.tuned n) = Sendable m
 Ready (m, M.untuned n) = Unit {0}
 Ready (m, M.refused n) = Unit {0}
+
+-- a channel's detuning of a number, 0 for none
+unfoldable pub entryOf : Float → Option Float
+entryOf d = cond (lt (ofBits binary64 0) d) (some d) none
+
+-- the numbers are the detunings of a plan's channels
+abbrev pub Entries : Model → List Float → Type 0
+Entries m ds = (i : ℕ) → i < m .numChannels → entryOf (getD ds i nan) ≡ m .detunings i (pos 0)

@@ -4,4 +4,5 @@ pub mod block;
 pub mod jit;
 pub mod midi;
 pub mod mts;
+pub mod plan_block;
 pub mod tuner;

@@ -21,12 +21,12 @@ use Rattle.models.specs.Line.{Line, group, ofGroup, rising}
 use Rattle.models.specs.PlanLists.{keys}
 use Rattle.models.specs.Walk.{count, seat, entry}
 use Rattle.models.specs.AotModel.{Model, Answer, tuned, untuned, holding, empty, planned}
-use Rattle.models.specs.PlanInside.{Accepted}
+use Rattle.models.specs.PlanInternal.{Accepted}
 use Rattle.models.proofs.ListLaws.{outcome, passed, failed, true→T, or-cases, Each-map}
 use Rattle.models.proofs.Rising.{rising-Each}
 use Rattle.models.proofs.Plan.{channel, below-count, used}
 use Rattle.models.proofs.Seats.{seated-lines, unseated}
-use Rattle.models.proofs.Waits.{others-of}
+use Rattle.models.proofs.SortedKeys.{others-of}
 use Rattle.models.proofs.Held.{at-key, of-kept, zip}
 use Rattle.models.proofs.Carried.{lastOf, heard, entry-is}
 use Rattle.models.proofs.PlanEntries.{entry-each}

@@ -16,14 +16,14 @@ use Rattle.arithmetic.proofs.Nearest.{nearest-detuning}
 use Rattle.models.specs.Lists.{Each, member}
 use Rattle.models.specs.Line.{Line}
 use Rattle.models.specs.PlanLists.{keys, pitchLine, pitchLines, lineByLine, pitchLists}
-use Rattle.models.specs.PlanInside.{Accepted}
+use Rattle.models.specs.PlanInternal.{Accepted}
 use Rattle.models.specs.AotModel.{Model, planned}
 use Rattle.models.specs.Steps.{sentAs}
 use Rattle.theorems.specs.Bounds.{valueOf, StepBound}
 use Rattle.models.specs.declared.steps.TuningKind.{TuningKind}
 use Rattle.models.proofs.ListLaws.{outcome, passed, failed}
 use Rattle.models.proofs.Accepted.{never, of-equal}
-use Rattle.models.proofs.Waits.{Each-snoc}
+use Rattle.models.proofs.SortedKeys.{Each-snoc}
 use Rattle.models.proofs.PlanEntries.{planned-each}
 use Rattle.theorems.proofs.Values.Bounds.{sent-law}
 

@@ -15,7 +15,7 @@ use Rattle.models.specs.Lists.{Each, keep}
 use Rattle.models.specs.Line.{Line, ofGroup, rising, group}
 use Rattle.models.specs.PlanLists.{keys}
 use Rattle.models.specs.Walk.{takes, next, channels, walk, count, replaced, entryFrom, entry, seat}
-use Rattle.models.specs.PlanInside.{Accepted}
+use Rattle.models.specs.PlanInternal.{Accepted}
 use Rattle.models.proofs.ListLaws.{T→true, Each-map, keep-same}
 use Rattle.models.proofs.Rising.{rising-Each}
 use Rattle.models.proofs.Sweep.{own-group}

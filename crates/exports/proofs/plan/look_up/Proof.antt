@@ -7,20 +7,20 @@ use native.Mathlib.Omega.{arith}
 use mir.Facts.{toZ-ofZ}
 use mir.Syntax.{w32}
 use Rattle.exports.specs.Lent.{filled}
-use Rattle.models.specs.AotModel.{modelOf}
+use Rattle.models.specs.AotModel.{planAt}
 use Rattle.exports.proofs.Filled.{filled-turn, filled-all, length-filled}
 use Rattle.exports.specs.Plans.{seatOf, seatAt}
 use Rattle.exports.proofs.plan.look_up.Statement.{statement}
 use Rattle.exports.proofs.plan.look_up.Tie as tie
 
 abbrev Inv-loop : tie.InvT-loop
-Inv-loop model asked seat-channels₀ seat-notes₀ n i₀ seat-channels seat-notes i =
+Inv-loop cells asked seat-channels₀ seat-notes₀ n i₀ seat-channels seat-notes i =
     (i ≤ n)
-    × (seat-channels ≡ filled (λ k. seatAt (modelOf model) asked k .channel) i seat-channels₀)
-    × (seat-notes ≡ filled (λ k. seatAt (modelOf model) asked k .note) i seat-notes₀)
+    × (seat-channels ≡ filled (λ k. seatAt (planAt cells) asked k .channel) i seat-channels₀)
+    × (seat-notes ≡ filled (λ k. seatAt (planAt cells) asked k .note) i seat-notes₀)
 
 abbrev μ-loop : tie.MeasureT-loop
-μ-loop model asked seat-channels₀ seat-notes₀ n i₀ seat-channels seat-notes i = n - i
+μ-loop cells asked seat-channels₀ seat-notes₀ n i₀ seat-channels seat-notes i = n - i
 
 loop-holds : tie.Need-loop-holds Inv-loop μ-loop
 unfolding filled
@@ -52,11 +52,11 @@ loop-again c =
     let start = c .before .before .before .before .before .before .before .before .before .before .before .before .before .before .before .args in
     let i = c .before .before .before .before .before .before .before .before .before .before .before .before .loop .i in
     let inv = c .before .before .before .before .before .before .before .before .before .before .before .before .loop .inv in
-    let told = c .before .before .before .before .before .before .before .before .seat-of .ensures ∙ ap seatOf (c .before .before .before .before .before .before .before .before .before .access-key .ensures ∙ ap (modelOf (start .model) .keys) (c .before .before .before .before .before .before .before .before .before .before .byte-at .ensures)) in
+    let told = c .before .before .before .before .before .before .before .before .seat-of .ensures ∙ ap seatOf (c .before .before .before .before .before .before .before .before .before .access-key .ensures ∙ ap (planAt (start .cells .now) .keys) (c .before .before .before .before .before .before .before .before .before .before .byte-at .ensures)) in
     let note = toZ-ofZ {w = w32} {z = c .before .before .before .before .before .before .before .before .seat-of .result .note} (record { sfits = c .before .before .struct-told .given .1 .0 .1 }) in (
       omega arith,
-      filled-turn (λ k. seatAt (modelOf (start .model)) (start .asked .now) k .channel) (start .seat-channels .now) i _ _ _ (c .before .before .before .before .before .before .put-byte .ensures) (inv .1) (ap (λ r. r .channel) told),
-      filled-turn (λ k. seatAt (modelOf (start .model)) (start .asked .now) k .note) (start .seat-notes .now) i _ _ _ (c .before .put-number .ensures) (inv .2) (note ∙ ap (λ r. r .note) told),
+      filled-turn (λ k. seatAt (planAt (start .cells .now)) (start .asked .now) k .channel) (start .seat-channels .now) i _ _ _ (c .before .before .before .before .before .before .put-byte .ensures) (inv .1) (ap (λ r. r .channel) told),
+      filled-turn (λ k. seatAt (planAt (start .cells .now)) (start .asked .now) k .note) (start .seat-notes .now) i _ _ _ (c .before .put-number .ensures) (inv .2) (note ∙ ap (λ r. r .note) told),
     )
 
 same-length : tie.Need-same-length Inv-loop μ-loop
@@ -70,8 +70,8 @@ returns c =
     let start = c .before .before .before .before .args in
     let l = c .before .loop in
     let all : l .i ≡ length (start .asked .now) = omega arith in (
-      filled-all (λ k. seatAt (modelOf (start .model)) (start .asked .now) k .channel) (start .seat-channels .now) _ _ _ (l .inv .1) all,
-      filled-all (λ k. seatAt (modelOf (start .model)) (start .asked .now) k .note) (start .seat-notes .now) _ _ _ (l .inv .2) all,
+      filled-all (λ k. seatAt (planAt (start .cells .now)) (start .asked .now) k .channel) (start .seat-channels .now) _ _ _ (l .inv .1) all,
+      filled-all (λ k. seatAt (planAt (start .cells .now)) (start .asked .now) k .note) (start .seat-notes .now) _ _ _ (l .inv .2) all,
     )
 
 pub look-up-spec : {M : Type 1} → statement M

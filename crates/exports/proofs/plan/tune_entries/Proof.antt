@@ -1,9 +1,9 @@
 -- `plan::tune_entries` meets its contract: from those of the opening, the plan and the list of entries. Assumes nothing.
-use mathlib.Core.Path.{_∙_, ap, sym}
+use mathlib.Core.Path.{_∙_, sym}
 use lib.Dec.{eqb}
 use lib.ListN.{length}
 use Rattle.models.specs.PlanLists.{noteLists}
-use Rattle.models.specs.AotModel.{Model, Answer, openRule}
+use Rattle.models.specs.AotModel.{Model, Answer}
 use Rattle.exports.specs.Lent.{filled}
 use Rattle.exports.specs.Plans.{entryFrom}
 use Rattle.exports.proofs.Results.{refused-leaves, writes-from}
@@ -12,11 +12,8 @@ use borrow.Author.Needs.{needs}
 use Rattle.exports.proofs.plan.tune_entries.Statement.{statement}
 use Rattle.exports.proofs.plan.tune_entries.Tie as tie
 
-group-of-requires : tie.Need-group-of-requires
-group-of-requires c κs = search needs
-
-open-requires : tie.Need-open-requires
-open-requires c κs = search needs
+open-plan-requires : tie.Need-open-plan-requires
+open-plan-requires c κs = search needs
 
 list-refusal-requires : tie.Need-list-refusal-requires
 list-refusal-requires c κs = search needs
@@ -44,39 +41,46 @@ same-length-3 c = search needs
 
 returns : tie.Need-returns
 returns c =
-    let a = c .before .before .before .before .before .before .before .before .before .before .before .before .before .before .before .before .before .before .before .before .before .before .before .before .args in
+    let e = c .before .before .before .before .before in
+    let i = e .before .before .before .before .before in
+    let p = i .before .before .before in
+    let o = p .before .before .before in
+    let a = o .before .before .before .before .before .before .before .before .args in
     let n = length (a .asked-channels .now) in
-    let fresh = c .before .before .before .before .before .before .before .before .before .before .before .before .before .before .before .before .«open» .ensures ∙ ap (openRule (a .channels .now)) (c .before .before .before .before .before .before .before .before .before .before .before .before .before .before .before .before .before .group-of .ensures) in
-    let plan = c .before .before .before .before .before .before .before .before .before .before .before .before .before .set-tuning .ensures in
+    let fresh = o .open-plan .ensures in
+    let plan = p .set-tuning .ensures in
     let lines = noteLists (a .keys .now) (a .notes .now) (a .detunings .now) in
-    let kind = kind-is lines fresh (plan .0) (eqb (length (a .asked-groups .now)) (length (a .asked-channels .now))) (c .before .before .before .before .before .before .before .before .before .before .before .before .before .before .list-refusal .ensures) (c .before .before .before .before .before .before .before .before .before .before .before .kind-of .ensures) in
-    let told = plan-is lines fresh (plan .0) in
-    let yes = sym (c .before .before .before .before .before .before .before .before .before .before .is-result .ensures) ∙ c .before .before .before .before .before .before .before .before .before .if1 .taken in (
+    let equal = eqb (length (a .asked-groups .now)) (length (a .asked-channels .now)) in
+    let kind = kind-is lines fresh (plan .0 .0) equal (p .before .before .list-refusal .ensures) (i .before .before .kind-of .ensures) in
+    let told = plan-is lines fresh (plan .0 .0) in
+    let yes = sym (i .before .is-result .ensures) ∙ i .if1 .taken in (
       (
         kind,
-        writes-from _ (λ (p : Model × Answer). filled (λ i. entryFrom (p .0) (a .asked-channels .now) (a .asked-groups .now) i .kind) n) _ told yes (c .before .before .before .before .before .list-entries .ensures .0),
-        writes-from _ (λ (p : Model × Answer). filled (λ i. entryFrom (p .0) (a .asked-channels .now) (a .asked-groups .now) i .group) n) _ told yes (c .before .before .before .before .before .list-entries .ensures .1),
-        writes-from _ (λ (p : Model × Answer). filled (λ i. entryFrom (p .0) (a .asked-channels .now) (a .asked-groups .now) i .detuning) n) _ told yes (c .before .before .before .before .before .list-entries .ensures .2),
+        writes-from _ (λ (q : Model × Answer). filled (λ k. entryFrom (q .0) (a .asked-channels .now) (a .asked-groups .now) k .kind) n) _ told yes (e .list-entries .ensures .0),
+        writes-from _ (λ (q : Model × Answer). filled (λ k. entryFrom (q .0) (a .asked-channels .now) (a .asked-groups .now) k .group) n) _ told yes (e .list-entries .ensures .1),
+        writes-from _ (λ (q : Model × Answer). filled (λ k. entryFrom (q .0) (a .asked-channels .now) (a .asked-groups .now) k .detuning) n) _ told yes (e .list-entries .ensures .2),
       ),
-      smallest lines fresh (plan .0) (plan .1),
+      smallest lines fresh (plan .0 .0) (plan .1),
     )
 
 returns-2 : tie.Need-returns-2
 returns-2 c =
-    let a = c .before .before .before .before .before .before .before .before .before .before .before .before .before .before .before .args in
-    let fresh = c .before .before .before .before .before .before .before .«open» .ensures ∙ ap (openRule (a .channels .now)) (c .before .before .before .before .before .before .before .before .group-of .ensures) in
-    let plan = c .before .before .before .before .set-tuning .ensures in
+    let p = c .before .before .before in
+    let o = p .before .before .before in
+    let a = o .before .before .before .before .before .before .before .before .args in
+    let fresh = o .open-plan .ensures in
+    let plan = p .set-tuning .ensures in
     let lines = noteLists (a .keys .now) (a .notes .now) (a .detunings .now) in
-    let kind = kind-is lines fresh (plan .0) (eqb (length (a .asked-groups .now)) (length (a .asked-channels .now))) (c .before .before .before .before .before .list-refusal .ensures) (c .before .before .kind-of .ensures) in
+    let equal = eqb (length (a .asked-groups .now)) (length (a .asked-channels .now)) in
+    let kind = kind-is lines fresh (plan .0 .0) equal (p .before .before .list-refusal .ensures) (c .before .before .kind-of .ensures) in
     let no = sym (c .before .is-result .ensures) ∙ c .if1 .left in
-    ((kind, refused-leaves _ _ _ no, refused-leaves _ _ _ no, refused-leaves _ _ _ no), smallest lines fresh (plan .0) (plan .1))
+    ((kind, refused-leaves _ _ _ no, refused-leaves _ _ _ no, refused-leaves _ _ _ no), smallest lines fresh (plan .0 .0) (plan .1))
 
 pub tune-entries-spec : {M : Type 1} → statement M
 tune-entries-spec =
     tie.close
     (tie.spec
-    group-of-requires
-    open-requires
+    open-plan-requires
     list-refusal-requires
     set-tuning-requires
     kind-of-requires

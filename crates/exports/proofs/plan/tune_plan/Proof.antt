@@ -1,18 +1,13 @@
 -- `plan::tune_plan` meets its contract: from those of the opening, the plan and what is told of it. Assumes nothing.
-use mathlib.Core.Path.{_∙_, ap}
 use mathlib.Core.Bool.{true}
 use Rattle.models.specs.PlanLists.{noteLists}
-use Rattle.models.specs.AotModel.{openRule}
 use Rattle.exports.proofs.PlanAnswers.{smallest, told-so}
 use borrow.Author.Needs.{needs}
 use Rattle.exports.proofs.plan.tune_plan.Statement.{statement}
 use Rattle.exports.proofs.plan.tune_plan.Tie as tie
 
-group-of-requires : tie.Need-group-of-requires
-group-of-requires c κs = search needs
-
-open-requires : tie.Need-open-requires
-open-requires c κs = search needs
+open-plan-requires : tie.Need-open-plan-requires
+open-plan-requires c κs = search needs
 
 list-refusal-requires : tie.Need-list-refusal-requires
 list-refusal-requires c κs = search needs
@@ -34,17 +29,20 @@ same-length-3 c = search needs
 
 returns : tie.Need-returns
 returns c =
-    let a = c .before .before .before .before .before .before .before .before .before .before .before .before .before .before .before .before .before .before .before .before .before .args in
-    let fresh = c .before .before .before .before .before .before .before .before .before .before .before .before .before .«open» .ensures ∙ ap (openRule (a .channels .now)) (c .before .before .before .before .before .before .before .before .before .before .before .before .before .before .group-of .ensures) in
-    let plan = c .before .before .before .before .before .before .before .before .before .before .set-tuning .ensures in
-    (told-so _ fresh (plan .0) true (c .before .before .before .before .before .before .before .before .before .before .before .list-refusal .ensures) (c .before .before .before .before .before .tell-seats .ensures), smallest (noteLists (a .keys .now) (a .notes .now) (a .detunings .now)) fresh (plan .0) (plan .1))
+    let t = c .before .before .before .before .before in
+    let p = t .before .before .before .before .before in
+    let o = p .before .before .before in
+    let a = o .before .before .before .before .before .before .before .before .args in
+    let fresh = o .open-plan .ensures in
+    let plan = p .set-tuning .ensures in
+    let lines = noteLists (a .keys .now) (a .notes .now) (a .detunings .now) in
+    (told-so lines fresh (plan .0 .0) true (p .before .before .list-refusal .ensures) (t .tell-seats .ensures), smallest lines fresh (plan .0 .0) (plan .1))
 
 pub tune-plan-spec : {M : Type 1} → statement M
 tune-plan-spec =
     tie.close
     (tie.spec
-    group-of-requires
-    open-requires
+    open-plan-requires
     list-refusal-requires
     set-tuning-requires
     tell-seats-requires
