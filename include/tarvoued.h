@@ -1,15 +1,15 @@
 /* Tarvoued: tuners of MIDI channels that a program holds and plays live. C and C++.
 
-   A tuner is a block in the caller's memory. It may be copied, stored, compared and sent; any content is some tuner, also one that no call made, so a block
-   that is opened need not be cleared before. No call keeps a pointer or a global: calls on different blocks may run at the same time.
+   A tuner is a block in the caller's memory. It may be copied, stored, compared and sent; any content is some tuner, also one that no call made, so a
+   block need not be cleared before it is opened. No call keeps a pointer or a global: calls on different blocks may run at the same time.
 
-   Every call below ends for all arguments. Its answer says in fields of their own what happened (`outcome`), the number of a refusal (`refusal`, 0 where nothing is
-   refused) and, if it sends, how many bytes stand at the start of `out` (`bytes`). Bytes of `out` behind them keep what they had. A call that is refused changes no
-   cell of a block and no byte of `out`. Other fields of an answer are 0 where there is nothing to say.
+   Every call below ends for all arguments. Its answer says in fields of their own what happened (`outcome`), the number of a refusal (`refusal`, 0 where
+   nothing is refused) and, if it sends, how many bytes stand at the start of `out` (`bytes`). Bytes of `out` behind them keep what they had. A call that is
+   refused changes no cell of a block and no byte of `out`. Other fields of an answer are 0 where there is nothing to say.
 
-   Pointers are not null, also where a length is 0, and point to as many elements as the length beside them says, aligned as the type asks. Memory that is lent to be
-   changed overlaps no other argument. A channel is an index into the channel list that the block was opened with. A setting that is a number, or a message's kind,
-   is read as 0 where it names none. Every function is proved to do what this file says. */
+   Pointers are not null, also where a length is 0, and point to as many elements as the length beside them says, aligned as their type asks. Memory that is
+   lent to be changed overlaps no other argument. A channel is an index into the channel list that the block was opened with. A setting that is a number, or
+   a message's kind, is read as 0 where it names none. Every function is proved to do what this file says. */
 #ifndef TARVOUED_H
 #define TARVOUED_H
 
@@ -50,9 +50,6 @@ enum { TARVOUED_FINE_TUNING = 0, TARVOUED_BEND = 1 };
 
 /* What a press does that finds no free channel: `pooling_mode`. It is rejected; it releases the key held longest; it takes that key's channel. */
 enum { TARVOUED_BLOCK = 0, TARVOUED_STOP = 1, TARVOUED_IGNORE = 2 };
-
-/* Which notes share a pool: `group_by` of a pool model. */
-enum { TARVOUED_POOL_BY_LETTER = 0, TARVOUED_POOL_BY_CHANNEL = 1 };
 
 /* ---- the answers */
 
@@ -161,6 +158,9 @@ tarvoued_note tarvoued_pool_lookup(const tarvoued_pool *pool, uint8_t key);
 
 /* ---- the pool model: the same block, and nothing is sent */
 
+/* Which notes share a pool: `group_by` of a pool model. */
+enum { TARVOUED_POOL_BY_LETTER = 0, TARVOUED_POOL_BY_CHANNEL = 1 };
+
 /* A model of the MIDI channels listed, in which no key is found. Refuses 6, 7. */
 tarvoued_answer tarvoued_pool_model_open(tarvoued_pool *pool, const uint8_t *channels, size_t count, uint8_t group_by, uint8_t pooling_mode);
 
@@ -172,6 +172,66 @@ tarvoued_note tarvoued_pool_model_deregister_key(tarvoued_pool *pool, uint8_t ke
 
 /* The channel and the note of a key, and the detuning of another pitch for that note: DONE or NOT_FOUND. Refuses 1. */
 tarvoued_note tarvoued_pool_model_repitch_key(const tarvoued_pool *pool, uint8_t key, double hz);
+
+/* ---- the plan tuner: every key has a channel and a note before anyone plays */
+
+#define TARVOUED_PLAN_CELLS 518
+
+typedef struct {
+    uint64_t cells[TARVOUED_PLAN_CELLS];
+} tarvoued_plan;
+
+/* A tuner of the MIDI channels listed, without a plan. Refuses 6, 7. */
+tarvoued_answer tarvoued_plan_open(tarvoued_plan *plan, const uint8_t *channels, size_t count, uint8_t tuning_kind);
+
+/* Plans keys with their notes and detunings, and tunes each channel that the plan takes; DONE or UNTUNED, with how many channels it takes or would take:
+   nobody who places the keys on channels by hand needs fewer. Refuses 12, then line by line 4, 3, 5; then 10. */
+tarvoued_answer tarvoued_plan_set_tuning(tarvoued_plan *plan, const uint8_t *keys, size_t key_count, const int32_t *notes, size_t note_count,
+                                         const double *detunings, size_t detuning_count, uint8_t *out, size_t room);
+
+/* The same of keys with their pitches in Hz. Refuses 12, then line by line 1, 5; then 10. */
+tarvoued_answer tarvoued_plan_set_tuning_of_pitches(tarvoued_plan *plan, const uint8_t *keys, size_t key_count, const double *pitches, size_t pitch_count,
+                                                    uint8_t *out, size_t room);
+
+/* A press: the note-on of a key of the plan. Refuses 8, 10. */
+tarvoued_answer tarvoued_plan_note_on(const tarvoued_plan *plan, uint8_t key, uint8_t velocity, uint8_t *out, size_t room);
+
+/* A release: the note-off of a key of the plan. Refuses 8, 10. */
+tarvoued_answer tarvoued_plan_note_off(const tarvoued_plan *plan, uint8_t key, uint8_t velocity, uint8_t *out, size_t room);
+
+/* The pressure of a key of the plan. Refuses 8, 10. */
+tarvoued_answer tarvoued_plan_note_attr(const tarvoued_plan *plan, uint8_t key, uint8_t pressure, uint8_t *out, size_t room);
+
+/* A message to every channel; bends are not passed on by a tuner that tunes by bends. Refuses 8, 9, 10. */
+tarvoued_answer tarvoued_plan_global_attr(const tarvoued_plan *plan, tarvoued_message message, uint8_t *out, size_t room);
+
+/* Sends nothing: a plan tuner does not know which keys are pressed, so whoever pressed one releases it. */
+tarvoued_answer tarvoued_plan_stop(const tarvoued_plan *plan, uint8_t *out, size_t room);
+
+/* The channel and the note of a key of the plan: DONE or NOT_FOUND. */
+tarvoued_note tarvoued_plan_lookup(const tarvoued_plan *plan, uint8_t key);
+
+/* The detuning of a group on a channel of the plan, DONE or NOT_FOUND. A group is a note, a letter from 0 to 11, or 0 for the whole channel. */
+tarvoued_note tarvoued_plan_detuning(const tarvoued_plan *plan, uint16_t channel, int32_t group);
+
+/* The first of a channel's detunings whose group (`note` of the answer) is `from` or higher, DONE or NOT_FOUND. */
+tarvoued_note tarvoued_plan_next_detuning(const tarvoued_plan *plan, uint16_t channel, int32_t from);
+
+/* ---- the plan model: the same block, and nothing is sent */
+
+/* What a sound module retunes together: `group_by` of a plan model. */
+enum { TARVOUED_PLAN_BY_NOTE = 0, TARVOUED_PLAN_BY_LETTER = 1, TARVOUED_PLAN_BY_CHANNEL = 2 };
+
+/* A model of the MIDI channels listed, without a plan. Refuses 6, 7. */
+tarvoued_answer tarvoued_plan_model_open(tarvoued_plan *plan, const uint8_t *channels, size_t count, uint8_t group_by);
+
+/* Plans keys with their notes and detunings; DONE or UNTUNED. Refuses 12, then line by line 4, 3, 5. */
+tarvoued_answer tarvoued_plan_model_set_tuning(tarvoued_plan *plan, const uint8_t *keys, size_t key_count, const int32_t *notes, size_t note_count,
+                                               const double *detunings, size_t detuning_count);
+
+/* The same of keys with their pitches in Hz. Refuses 12, then line by line 1, 5. */
+tarvoued_answer tarvoued_plan_model_set_tuning_of_pitches(tarvoued_plan *plan, const uint8_t *keys, size_t key_count,
+                                                          const double *pitches, size_t pitch_count);
 
 #ifdef __cplusplus
 }

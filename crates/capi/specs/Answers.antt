@@ -1,14 +1,18 @@
 -- The answers of calls in numbers. `outcome` is 0 for done, 1 untuned, 2 rejected, 3 not found, 4 refused; `refusal` is the number of document 01's refusal,
 -- and 0 where nothing is refused; what there is not is 0.
 use Prim.Native.Nat.{ℕ}
+use mathlib.Core.Bool.{cond}
 use mathlib.Core.List.{List}
 use mathlib.Core.Option.{Option, some, none}
+use lib.Dec.{eqb}
 use lib.IntN.{ℤ, pos}
 use lib.Ieee.{Float, ofBits, binary64}
 use Rattle.models.specs.Outcome.{Outcome, value, refused}
+use Rattle.models.specs.AotModel as M
 use Rattle.models.specs.Pool.{Place, Press, accepted, rejected}
 use Rattle.models.specs.declared.steps.Tuning.{Tuning}
 use Rattle.models.specs.declared.steps.Tuning.the-variants.{Fine, Bend}
+use Rattle.senders.specs.Aot.{Planned, tunes, cannot}
 use Rattle.senders.specs.Jit.{Pressed, sounds, rejects}
 use Rattle.capi.specs.declared.answer.Answer.{Answer}
 use Rattle.capi.specs.declared.answer.Note.{Note}
@@ -37,6 +41,25 @@ unfoldable pub ofList : Outcome (List ℕ) → Answer
 ofList (value cs) = answerOf 0 0 0 0
 ofList (refused n) = answerOf 4 n 0 0
 
+unfoldable pub ofPlan : M.Answer → Answer
+ofPlan (M.tuned n) = answerOf 0 0 n 0
+ofPlan (M.untuned n) = answerOf 1 0 n 0
+ofPlan (M.refused n) = answerOf 4 n 0 0
+
+unfoldable pub ofPlanSent : Outcome Planned → Answer
+ofPlanSent (value (tunes n bytes)) = answerOf 0 0 n bytes
+ofPlanSent (value (cannot n)) = answerOf 1 0 n 0
+ofPlanSent (refused n) = answerOf 4 n 0 0
+
+-- what such an answer says of the plan
+unfoldable pub planIn : Answer → M.Answer
+planIn a = cond (eqb (a .outcome) 0) (M.tuned (a .channels)) (cond (eqb (a .outcome) 1) (M.untuned (a .channels)) (M.refused (a .refusal)))
+
+unfoldable pub planSentIn : Answer → Outcome Planned
+planSentIn a =
+    cond (eqb (a .outcome) 0) (value (tunes (a .channels) (a .bytes)))
+    (cond (eqb (a .outcome) 1) (value (cannot (a .channels))) (refused (a .refusal)))
+
 -- ---- notes with their channels and detunings
 
 abbrev pub noteOf : (outcome refusal channel : ℕ) → ℤ → Float → Note
@@ -54,6 +77,15 @@ ofRepitched (refused n) = noteOf 4 n 0 (pos 0) zeroFloat
 unfoldable pub ofNearest : Outcome (ℤ × Float) → Note
 ofNearest (value r) = noteOf 0 0 0 (r .0) (r .1)
 ofNearest (refused n) = noteOf 4 n 0 (pos 0) zeroFloat
+
+-- the detuning of a group on a channel
+unfoldable pub ofDetuning : ℕ → ℤ → Option Float → Note
+ofDetuning c group (some d) = noteOf 0 0 c group d
+ofDetuning c group none = noteOf 3 0 0 (pos 0) zeroFloat
+
+unfoldable pub ofEntry : ℕ → Option (ℤ × Float) → Note
+ofEntry c (some e) = noteOf 0 0 c (e .0) (e .1)
+ofEntry c none = noteOf 3 0 0 (pos 0) zeroFloat
 
 -- ---- the presses of a pool model
 

@@ -11,7 +11,8 @@ use Rattle.capi.specs.declared.answer.Answer.{Answer}
 -- A call on the block `old` with the lent buffer `buffer` follows the rule: the answer, the block at exit (after a refusal the very same), and the
 -- buffer at exit (after a refusal as it was).
 pub record EntryMeets
-    {R S T : Type 0} (view : T → S) (answerOf : Outcome R → Answer) (rule : Outcome (Effect R S)) (old : T) (buffer : List ℕ) (answer : Answer) (new : T) (buffer′ : List ℕ)
+    {R S T : Type 0} (view : T → S) (answerOf : Outcome R → Answer) (rule : Outcome (Effect R S)) (old : T) (buffer : List ℕ) (answer : Answer)
+    (new : T) (buffer′ : List ℕ)
     : Type 0 where
   pub answer-is : answer ≡ answerOf (told (fitted (length buffer) rule))
   pub block-is : Moved view (fitted (length buffer) rule) old new

@@ -2,7 +2,8 @@
 use mathlib.Core.Bool.{cond}
 use lib.Dec.{eqb}
 use Rattle.senders.specs.declared.midi.ChannelMessageType.{ChannelMessageType}
-use Rattle.senders.specs.declared.midi.ChannelMessageType.the-variants.{NoteOff, NoteOn, PolyphonicKeyPressure, ControlChange, ProgramChange, ChannelPressure, PitchBendChange}
+use Rattle.senders.specs.declared.midi.ChannelMessageType.the-variants.{NoteOff, NoteOn, PolyphonicKeyPressure, ControlChange}
+use Rattle.senders.specs.declared.midi.ChannelMessageType.the-variants.{ProgramChange, ChannelPressure, PitchBendChange}
 use Rattle.capi.specs.declared.message.Message.{Message}
 
 unfoldable pub messageOf : Message → ChannelMessageType

@@ -4,13 +4,18 @@
 ghost use mathlib.Core.Path.{_≡_};
 ghost use Rattle.arithmetic.specs.Answers.{approximation, pitchAnswer, measured};
 ghost use Rattle.models.specs.Answers.{tuningAnswer};
+ghost use Rattle.models.specs.AotModel.{planAnswer, detuningAnswer, nextAnswer};
 ghost use Rattle.models.specs.ChannelList.{channelsAnswer};
 ghost use Rattle.models.specs.JitModel.{place, press, repitched, stoppedNote};
-ghost use Rattle.senders.specs.Answers.{sentAnswer, pressAnswer};
-ghost use Rattle.capi.specs.Answers.{answerOf, noteOf, numberOf, registeredOf, ofSent, ofPress, ofList, ofPlace, ofRegistered, ofRepitched, isStopped, noteOr0, ofNearest, ofPitch, ofMeasure, ofTuning};
+ghost use Rattle.senders.specs.Answers.{sentAnswer, pressAnswer, planSent};
+ghost use Rattle.capi.specs.Answers.{answerOf, ofSent, ofPress, ofList, ofPlan, ofPlanSent, registeredOf, ofRegistered, isStopped, noteOr0};
+ghost use Rattle.capi.specs.Answers.{noteOf, ofPlace, ofDetuning, ofEntry, ofRepitched, ofNearest, ofPitch, numberOf, ofMeasure, ofTuning};
 use arithmetic::pitch::Measured;
 use arithmetic::tuning::Approximation;
 use arithmetic::tuning::PitchAnswer;
+use models::aot::DetuningAnswer;
+use models::aot::NextAnswer;
+use models::aot::PlanAnswer;
 use models::channels::ChannelsAnswer;
 use models::jit::RegisterKeyResult;
 use models::jit::RepitchKeyResult;
@@ -18,11 +23,14 @@ use models::jit::StoppedNote;
 use models::keys::AccessKeyResult;
 use models::steps::Tuning;
 use models::steps::TuningAnswer;
+use senders::aot::PlanSent;
 use senders::jit::PressAnswer;
 use senders::midi::Sent;
 
 // What happened.
 const DONE: u8 = 0;
+
+const UNTUNED: u8 = 1;
 
 const REJECTED: u8 = 2;
 
@@ -103,6 +111,26 @@ pub(crate) fn of_list(list: ChannelsAnswer) -> Answer
     }
 }
 
+pub(crate) fn of_plan(plan: PlanAnswer) -> Answer
+    ensures { λ r. ⌜ r ≡ ofPlan (planAnswer plan) ⌝ }
+{
+    match plan {
+        PlanAnswer::Tuned(channels) => answer_of(DONE, 0, channels, 0),
+        PlanAnswer::Untuned(channels) => answer_of(UNTUNED, 0, channels, 0),
+        PlanAnswer::Refused(number) => answer_of(REFUSED, number, 0, 0),
+    }
+}
+
+pub(crate) fn of_plan_sent(plan: PlanSent) -> Answer
+    ensures { λ r. ⌜ r ≡ ofPlanSent (planSent plan) ⌝ }
+{
+    match plan {
+        PlanSent::Tuned { channels, written } => answer_of(DONE, 0, channels, written),
+        PlanSent::Untuned(channels) => answer_of(UNTUNED, 0, channels, 0),
+        PlanSent::Refused(number) => answer_of(REFUSED, number, 0, 0),
+    }
+}
+
 pub(crate) fn of_place(result: AccessKeyResult) -> Note
     ensures { λ r. ⌜ r ≡ ofPlace (place result) ⌝ }
 {
@@ -165,6 +193,24 @@ pub(crate) fn of_nearest(nearest: Approximation) -> Note
             detuning,
         ),
         Approximation::Refused(number) => note_of(REFUSED, number, 0, 0, 0.0),
+    }
+}
+
+pub(crate) fn of_detuning(channel: u16, group: i32, detuning: DetuningAnswer) -> Note
+    ensures { λ r. ⌜ r ≡ ofDetuning channel group (detuningAnswer detuning) ⌝ }
+{
+    match detuning {
+        DetuningAnswer::Detuning(ratio) => note_of(DONE, 0, channel, group, ratio),
+        DetuningAnswer::NoEntry => note_of(NOT_FOUND, 0, 0, 0, 0.0),
+    }
+}
+
+pub(crate) fn of_entry(channel: u16, entry: NextAnswer) -> Note
+    ensures { λ r. ⌜ r ≡ ofEntry channel (nextAnswer entry) ⌝ }
+{
+    match entry {
+        NextAnswer::Entry(group, ratio) => note_of(DONE, 0, channel, group, ratio),
+        NextAnswer::NoEntry => note_of(NOT_FOUND, 0, 0, 0, 0.0),
     }
 }
 

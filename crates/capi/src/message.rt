@@ -6,12 +6,11 @@ ghost use Rattle.senders.specs.Midi.{messageRule};
 ghost use Rattle.senders.specs.Mts.{channelTuningRule};
 ghost use Rattle.capi.specs.Message.{messageOf};
 ghost use Rattle.capi.specs.Entry.{EntryWrites};
+use crate::answer;
 use crate::answer::Answer;
-use crate::answer::of_sent;
-use crate::settings::tuning_kind_of;
+use crate::settings;
 use models::Ratio;
 use senders::midi::ChannelMessageType;
-use senders::mts::channel_tuning;
 
 // A message without its channel: its kind, its data bytes and its bend. A kind that names none is read as 0, and what a kind has no use for is 0.
 #[repr(C)]
@@ -76,7 +75,7 @@ pub extern "C" fn tarvoued_message_pitch_bend_change(value: i16) -> Message
 pub extern "C" fn tarvoued_message_write(channel: u8, message: Message, out: &mut [u8]) -> Answer
     ensures { λ r. ⌜ EntryWrites (messageRule channel (messageOf message)) (now (out .entry)) r (now (out .exit)) ⌝ }
 {
-    of_sent(message_of(message).to_raw_message(channel, out))
+    answer::of_sent(message_of(message).to_raw_message(channel, out))
 }
 
 // Writes the tuning of a MIDI channel by a detuning. Refuses 6, 2, 10.
@@ -90,7 +89,12 @@ pub extern "C" fn tarvoued_channel_tuning(
     ensures { λ r. ⌜ EntryWrites (channelTuningRule (kindOf «tuning_kind») channel detuning) (now (out .entry)) r (now (out .exit)) ⌝ }
 {
     let ratio = Ratio::from_float(detuning);
-    of_sent(channel_tuning(tuning_kind_of(tuning_kind), channel, ratio, out))
+    answer::of_sent(senders::mts::channel_tuning(
+        settings::tuning_kind_of(tuning_kind),
+        channel,
+        ratio,
+        out,
+    ))
 }
 
 fn of_numbers(kind: u8, first: u8, second: u8, bend: i16) -> Message

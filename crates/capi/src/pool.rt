@@ -8,37 +8,18 @@ ghost use Rattle.senders.specs.Jit.{view, startRule, Starts, noteOnRule, noteOf
 ghost use Rattle.capi.specs.Answers.{ofSent, ofPress, ofList, ofPlace, ofRegistered, ofRepitched};
 ghost use Rattle.capi.specs.Message.{messageOf};
 ghost use Rattle.capi.specs.Entry.{EntryMeets, EntryWrites};
+use crate::answer;
 use crate::answer::Answer;
 use crate::answer::Note;
 use crate::answer::RegisteredKey;
-use crate::answer::of_list;
-use crate::answer::of_place;
-use crate::answer::of_press;
-use crate::answer::of_registered;
-use crate::answer::of_repitched;
-use crate::answer::of_sent;
+use crate::message;
 use crate::message::Message;
-use crate::message::message_of;
-use crate::settings::pool_group_of;
-use crate::settings::pooling_mode_of;
-use crate::settings::tuning_kind_of;
+use crate::settings;
 use models::Pitch;
-use models::block::access_key;
-use models::block::deregister_key;
-use models::block::open;
-use models::block::register_key;
-use models::block::repitch_key;
 use models::cells::CELLS;
 use models::channels::ChannelList;
 use models::channels::ChannelsAnswer;
 use models::steps::TuningKind;
-use senders::block::global_attr;
-use senders::block::note_attr;
-use senders::block::note_off;
-use senders::block::note_on;
-use senders::block::note_pitch;
-use senders::block::start;
-use senders::block::stop;
 
 pub type Pool = [u16; CELLS];
 
@@ -54,11 +35,11 @@ pub extern "C" fn tarvoued_pool_open(
         let rule = startRule (now (channels .entry)) (kindOf «tuning_kind») (modeOf «pooling_mode») in
         ⌜ (r ≡ ofList (rule .0)) × Starts (rule .0) (rule .1) (now (pool .entry)) (now (pool .exit)) ⌝ }
 {
-    of_list(start(
+    answer::of_list(senders::block::start(
         pool,
         channels,
-        tuning_kind_of(tuning_kind),
-        pooling_mode_of(pooling_mode),
+        settings::tuning_kind_of(tuning_kind),
+        settings::pooling_mode_of(pooling_mode),
     ))
 }
 
@@ -71,9 +52,10 @@ pub extern "C" fn tarvoued_pool_note_on(
     velocity: u8,
     out: &mut [u8],
 ) -> Answer
-    ensures { λ r. ⌜ EntryMeets view ofPress (noteOnRule (view (now (pool .entry))) key hz velocity) (now (pool .entry)) (now (out .entry)) r (now (pool .exit)) (now (out .exit)) ⌝ }
+    ensures { λ r. ⌜ EntryMeets view ofPress (noteOnRule (view (now (pool .entry))) key hz velocity)
+        (now (pool .entry)) (now (out .entry)) r (now (pool .exit)) (now (out .exit)) ⌝ }
 {
-    of_press(note_on(pool, key, Pitch::from_hz(hz), velocity, out))
+    answer::of_press(senders::block::note_on(pool, key, Pitch::from_hz(hz), velocity, out))
 }
 
 // A release. Refuses 8, 10.
@@ -84,9 +66,10 @@ pub extern "C" fn tarvoued_pool_note_off(
     velocity: u8,
     out: &mut [u8],
 ) -> Answer
-    ensures { λ r. ⌜ EntryMeets view ofSent (noteOffRule (view (now (pool .entry))) key velocity) (now (pool .entry)) (now (out .entry)) r (now (pool .exit)) (now (out .exit)) ⌝ }
+    ensures { λ r. ⌜ EntryMeets view ofSent (noteOffRule (view (now (pool .entry))) key velocity)
+        (now (pool .entry)) (now (out .entry)) r (now (pool .exit)) (now (out .exit)) ⌝ }
 {
-    of_sent(note_off(pool, key, velocity, out))
+    answer::of_sent(senders::block::note_off(pool, key, velocity, out))
 }
 
 // The tuning of the channel of a key that is found, by the pitch. Refuses 1, and 10 where the key is found.
@@ -94,7 +77,7 @@ pub extern "C" fn tarvoued_pool_note_off(
 pub extern "C" fn tarvoued_pool_note_pitch(pool: &Pool, key: u8, hz: f64, out: &mut [u8]) -> Answer
     ensures { λ r. ⌜ EntryWrites (notePitchRule (view (now (pool .entry))) key hz) (now (out .entry)) r (now (out .exit)) ⌝ }
 {
-    of_sent(note_pitch(pool, key, Pitch::from_hz(hz), out))
+    answer::of_sent(senders::block::note_pitch(pool, key, Pitch::from_hz(hz), out))
 }
 
 // The pressure of a key that is found. Refuses 8, 10.
@@ -107,7 +90,7 @@ pub extern "C" fn tarvoued_pool_note_attr(
 ) -> Answer
     ensures { λ r. ⌜ EntryWrites (noteAttrRule (view (now (pool .entry))) key pressure) (now (out .entry)) r (now (out .exit)) ⌝ }
 {
-    of_sent(note_attr(pool, key, pressure, out))
+    answer::of_sent(senders::block::note_attr(pool, key, pressure, out))
 }
 
 // A message to every channel, except bends of a tuner that tunes by bends. Refuses 8 from left, 9, 10.
@@ -115,15 +98,16 @@ pub extern "C" fn tarvoued_pool_note_attr(
 pub extern "C" fn tarvoued_pool_global_attr(pool: &Pool, message: Message, out: &mut [u8]) -> Answer
     ensures { λ r. ⌜ EntryWrites (globalAttrRule (view (now (pool .entry))) (messageOf message)) (now (out .entry)) r (now (out .exit)) ⌝ }
 {
-    of_sent(global_attr(pool, message_of(message), out))
+    answer::of_sent(senders::block::global_attr(pool, message::message_of(message), out))
 }
 
 // Every key that is found is released, by rising key. Refuses 10.
 #[no_mangle]
 pub extern "C" fn tarvoued_pool_stop(pool: &mut Pool, out: &mut [u8]) -> Answer
-    ensures { λ r. ⌜ EntryMeets view ofSent (stopRule (view (now (pool .entry)))) (now (pool .entry)) (now (out .entry)) r (now (pool .exit)) (now (out .exit)) ⌝ }
+    ensures { λ r. ⌜ EntryMeets view ofSent (stopRule (view (now (pool .entry))))
+        (now (pool .entry)) (now (out .entry)) r (now (pool .exit)) (now (out .exit)) ⌝ }
 {
-    of_sent(stop(pool, out))
+    answer::of_sent(senders::block::stop(pool, out))
 }
 
 // Where a key is found.
@@ -131,7 +115,7 @@ pub extern "C" fn tarvoued_pool_stop(pool: &mut Pool, out: &mut [u8]) -> Answer
 pub extern "C" fn tarvoued_pool_lookup(pool: &Pool, key: u8) -> Note
     ensures { λ r. ⌜ r ≡ ofPlace (found (view (now (pool .entry)) .pool) key) ⌝ }
 {
-    of_place(access_key(pool, key))
+    answer::of_place(models::block::access_key(pool, key))
 }
 
 // A pool model, which sends nothing, of the channels listed, in which no key is found. Refuses 6, 7.
@@ -150,16 +134,16 @@ pub extern "C" fn tarvoued_pool_model_open(
     let answer = ChannelList::of(channels);
     match answer {
         ChannelsAnswer::Listed(list) => {
-            open(
+            models::block::open(
                 pool,
                 list,
-                pool_group_of(group_by),
-                pooling_mode_of(pooling_mode),
+                settings::pool_group_of(group_by),
+                settings::pooling_mode_of(pooling_mode),
                 TuningKind::FineTuning,
             );
-            of_list(answer)
+            answer::of_list(answer)
         }
-        ChannelsAnswer::Refused(_) => of_list(answer),
+        ChannelsAnswer::Refused(_) => answer::of_list(answer),
     }
 }
 
@@ -174,7 +158,7 @@ pub extern "C" fn tarvoued_pool_model_register_key(
         let rule = registerRule (stateOf (now (pool .entry))) key hz in
         ⌜ (r ≡ ofRegistered (replied (stateOf (now (pool .entry))) rule .0)) × Moves rule (now (pool .entry)) (now (pool .exit)) ⌝ }
 {
-    of_registered(register_key(pool, key, Pitch::from_hz(hz)))
+    answer::of_registered(models::block::register_key(pool, key, Pitch::from_hz(hz)))
 }
 
 // A release: where the key was found.
@@ -184,7 +168,7 @@ pub extern "C" fn tarvoued_pool_model_deregister_key(pool: &mut Pool, key: u8) -
         let s = stateOf (now (pool .entry)) in
         ⌜ (r ≡ ofPlace (found s key)) × (stateOf (now (pool .exit)) ≡ released s key) × (kindAt (now (pool .exit)) ≡ kindAt (now (pool .entry))) ⌝ }
 {
-    of_place(deregister_key(pool, key))
+    answer::of_place(models::block::deregister_key(pool, key))
 }
 
 // The detuning of a pitch for the note of a key that is found. Refuses 1.
@@ -192,5 +176,5 @@ pub extern "C" fn tarvoued_pool_model_deregister_key(pool: &mut Pool, key: u8) -
 pub extern "C" fn tarvoued_pool_model_repitch_key(pool: &Pool, key: u8, hz: f64) -> Note
     ensures { λ r. ⌜ r ≡ ofRepitched (repitchRule (stateOf (now (pool .entry))) key hz) ⌝ }
 {
-    of_repitched(repitch_key(pool, key, Pitch::from_hz(hz)))
+    answer::of_repitched(models::block::repitch_key(pool, key, Pitch::from_hz(hz)))
 }

@@ -2,6 +2,8 @@
 
 ghost use mathlib.Core.Path.{_≡_};
 ghost use Rattle.models.specs.Block.{groupOf, modeOf, kindOf};
+ghost use Rattle.models.specs.PlanBlock.{groupByOf};
+use models::aot::GroupBy;
 use models::jit::PoolGroupBy;
 use models::jit::PoolingMode;
 use models::steps::TuningKind;
@@ -37,4 +39,17 @@ pub(crate) fn pool_group_of(number: u8) -> PoolGroupBy
         return PoolGroupBy::Channel;
     }
     PoolGroupBy::NoteLetter
+}
+
+// 0 notes, 1 letters, 2 channels.
+pub(crate) fn group_by_of(number: u8) -> GroupBy
+    ensures { λ r. ⌜ r ≡ groupByOf number ⌝ }
+{
+    if number == 1 {
+        return GroupBy::NoteLetter;
+    }
+    if number == 2 {
+        return GroupBy::Channel;
+    }
+    GroupBy::Note
 }

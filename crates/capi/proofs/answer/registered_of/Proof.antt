@@ -7,7 +7,8 @@ use Rattle.capi.proofs.answer.registered_of.Tie as tie
 
 returns : tie.Need-returns
 returns c =
-    rw (toZ-ofZ {w = w32} {z = c .note-or-0 .result} (record { sfits = c .note-or-0 .ok }), c .note-or-0 .ensures, c .before .is-stopped .ensures, toZ-ofZ (c .before .before .fits .note))
+    let back = toZ-ofZ {w = w32} {z = c .note-or-0 .result} (record { sfits = c .note-or-0 .ok }) in
+    rw (back, c .note-or-0 .ensures, c .before .is-stopped .ensures, toZ-ofZ (c .before .before .fits .note))
 
 pub registered-of-spec : {M : Type 1} → statement M
 registered-of-spec = tie.close (tie.spec (λ c κs. search needs) (λ c κs. search needs) returns)
