@@ -1,15 +1,13 @@
--- A tuner's call in place, whose answer is given in numbers, meets the contract of an entry.
+-- What the proofs of the entries rest on: a call in place whose answer is given in numbers meets the contract of an entry; a block is viewed by its parts;
+-- and what a plan answers is read back from its numbers.
 use Prim.Native.Nat.{ℕ}
 use mathlib.Core.Path.{_≡_, refl, ap, _∙_}
 use mathlib.Core.List.{List}
 use Rattle.models.specs.Outcome.{Outcome, value, refused}
 use Rattle.models.specs.Pool.{State}
 use Rattle.models.specs.Block.{stateOf, kindAt}
-use Rattle.models.specs.JitModel.{place}
 use Rattle.models.specs.PlanBlock.{planKindAt}
 use Rattle.models.specs.AotModel as M
-use Rattle.models.specs.declared.keys.AccessKeyResult.{AccessKeyResult}
-use Rattle.models.specs.declared.keys.AccessKeyResult.the-variants.{Found, NotFound}
 use Rattle.models.specs.declared.steps.TuningKind.{TuningKind}
 use Rattle.senders.specs.Lent.{Effect, Steps}
 use Rattle.senders.specs.Jit.{view}
@@ -32,12 +30,6 @@ view-of cells s kind e k = rw (e, k)
 pub plan-view-of :
     (cells : List ℕ) (m : M.Model) (kind : TuningKind) → M.planAt cells ≡ m → planKindAt cells ≡ kind → Aot.view cells ≡ record { plan = m; kind = kind }
 plan-view-of cells m kind e k = rw (e, k)
-
--- the place of a key of a plan
-pub place-is-placed : (r : AccessKeyResult) → place r ≡ Aot.placed (M.accessAnswer r)
-unfolding place
-place-is-placed (Found c n) = refl
-place-is-placed NotFound = refl
 
 -- what a plan answers is read back from the answer in numbers
 pub plan-read : (a : M.Answer) → planIn (ofPlan a) ≡ a

@@ -1,2 +1,2 @@
--- The law of every entry that writes.
+-- What the proofs of the entries share.
 mod Entries
