@@ -153,7 +153,7 @@ fn messages(rows: &mut Vec<Row>) {
                             row.cases += 1;
                             let mut out = [FILL; 3];
                             let answer = ours::message(message, channel, &mut out[..room]);
-                            let expected = if refusal == 0 { ((0, 3), rust_bytes(message, channel)) } else { ((refusal, ours::UNCOUNTED), [FILL; 3]) };
+                            let expected = if refusal == 0 { ((0, 3), rust_bytes(message, channel)) } else { ((refusal, 0), [FILL; 3]) };
                             let told = || format!("{message:?} on channel {channel} in {room} bytes: {answer:?} {}", hex(&out));
                             if (answer, out) != expected {
                                 row.differs(Kind::Unexpected, 0, told);
@@ -222,7 +222,7 @@ fn channel_tunings(chance: &mut Chance, rows: &mut Vec<Row>) {
                     let mut out = [FILL; 12];
                     let answer = ours::channel_tuning(bends, channel, detuning, &mut out[..room]);
                     let told = || format!("bends {bends}, {detuning:?} on channel {channel} in {room} bytes: {answer:?} {}", hex(&out));
-                    let expected = if refusal == 0 { (0, length) } else { (refusal, ours::UNCOUNTED) };
+                    let expected = if refusal == 0 { (0, length) } else { (refusal, 0) };
                     if answer != expected || (refusal != 0 && out != [FILL; 12]) {
                         row.differs(Kind::Unexpected, 0, told);
                     } else if refusal != 0 {

@@ -33,7 +33,7 @@ fn compare(seed: u64) -> u64 {
     bytes::run(&mut chance, &mut rows);
     pool_tuners::run(&mut chance, &mut rows);
     plan_tuners::run(&mut chance, &mut rows);
-    refused::run(&mut rows);
+    refused::run(&mut chance, &mut rows);
     faults::run(&mut rows);
     report::summary(&rows)
 }

@@ -137,7 +137,7 @@ fn is_plan(expected: Tuning, places: &[Option<(usize, i32)>], answer: Tuning, at
     answer == expected
         && places.iter().zip(at).zip(sounds).all(|((place, &channel), &note)| match place {
             Some(place) if tuned => *place == (usize::from(channel), note),
-            _ => channel == ours::NOT_FOUND,
+            _ => channel == ours::NO_CHANNEL,
         })
 }
 

@@ -12,16 +12,19 @@ use tune::mts;
 use tune::pitch::Pitch;
 use tune::pitch::Ratio;
 use tune::tuner::AotTuningModel;
+use tune::tuner::JitTuner;
 use tune::tuner::JitTuningModel;
 
+use crate::bytes::sender;
 use crate::inputs::Chance;
 use crate::inputs::temperaments;
 use crate::nearest;
 use crate::ours;
+use crate::ours::Event;
 use crate::ours::Events;
-use crate::ours::Nearest;
+use crate::ours::Plan;
+use crate::ours::Pool;
 use crate::ours::Tuning;
-use crate::ours::Values;
 use crate::plans;
 use crate::plans::GROUPS;
 use crate::pools;
@@ -103,12 +106,15 @@ fn plan(keys: &[u8], pitches: &[f64], group: usize) -> (Figure, Figure) {
     let (number, group_by, _) = GROUPS[group];
     let list: Vec<u8> = (0..16).collect();
     let mapping = plans::mapping(keys, pitches);
-    let mut at = vec![0; keys.len()];
-    let mut sounds = vec![0; keys.len()];
+    let mut model = Plan::of(|_| 0);
     measure(
         1,
         || {
-            black_box(ours::plan_of_pitches(&list, number, black_box(keys), black_box(pitches), keys, &mut at, &mut sounds));
+            model.open_model(&list, number);
+            black_box(model.set_tuning_of_pitches(black_box(keys), black_box(pitches)));
+            for &key in keys {
+                black_box(model.lookup(key));
+            }
         },
         || {
             let (model, detunings) = AotTuningModel::apply_tuning(group_by, black_box(&mapping), keys.iter().copied());
@@ -120,7 +126,6 @@ fn plan(keys: &[u8], pitches: &[f64], group: usize) -> (Figure, Figure) {
     )
 }
 
-/// So many keys held, then a release of the oldest and a press of another, again and again.
 /// How many channels a plan of pitches needs, in words.
 fn needs(keys: &[u8], pitches: &[f64], group: usize) -> String {
     let list: Vec<u8> = (0..16).collect();
@@ -131,33 +136,80 @@ fn needs(keys: &[u8], pitches: &[f64], group: usize) -> String {
     }
 }
 
-fn pool(channels: usize, letters: bool, mode: u8, chance: &mut Chance) -> (Figure, Figure) {
-    let list: Vec<u8> = (0..channels as u8).collect();
+/// So many keys held, then a release of the oldest and a press of another, again and again.
+fn presses(channels: usize, count: usize, chance: &mut Chance) -> Events {
     let mut events = Events::default();
-    for i in 0..2000usize {
+    for i in 0..count {
         if i >= channels {
             events.push(ours::RELEASE, ((i - channels) % 256) as u8, 0.0);
         }
         events.push(ours::PRESS, (i % 256) as u8, chance.pitch());
     }
-    events.ready();
+    events
+}
+
+/// The events on a pool model of the port.
+fn play_port(events: &Events, block: &mut Pool, list: &[u8], letters: bool, mode: u8) {
+    block.open_model(list, letters, mode);
+    for i in 0..events.kinds.len() {
+        if events.kinds[i] == ours::PRESS {
+            black_box(block.register_key(events.keys[i], events.pitches[i]));
+        } else {
+            black_box(block.deregister_key(events.keys[i]));
+        }
+    }
+}
+
+/// The same on one of the Rust.
+fn play_rust(events: &Events, channels: usize, letters: bool, mode: u8) {
+    let mut model = JitTuningModel::new(channels, pools::rust_group(letters), pools::rust_mode(mode));
+    for i in 0..events.kinds.len() {
+        if events.kinds[i] == ours::PRESS {
+            black_box(model.register_key(events.keys[i], Pitch::from_hz(events.pitches[i])));
+        } else {
+            black_box(model.deregister_key(events.keys[i]));
+        }
+    }
+}
+
+fn pool(channels: usize, letters: bool, mode: u8, chance: &mut Chance) -> (Figure, Figure) {
+    let list: Vec<u8> = (0..channels as u8).collect();
+    let events = presses(channels, 2000, chance);
+    let mut block = Pool::of(|_| 0);
+    measure(events.kinds.len(), || play_port(&events, &mut block, &list, letters, mode), || play_rust(&events, channels, letters, mode))
+}
+
+/// The same on pool tuners that tune by bends, with the bytes of every event.
+fn tuner(channels: usize, chance: &mut Chance) -> (Figure, Figure) {
+    let list: Vec<u8> = (0..channels as u8).collect();
+    let events = presses(channels, 2000, chance);
     let n = events.kinds.len();
-    let kinds = events.kinds.clone();
-    let keys = events.keys.clone();
-    let pitches = events.pitches.clone();
+    let calls: Vec<Event> = (0..n)
+        .map(|i| match events.kinds[i] {
+            ours::PRESS => Event::Press(events.keys[i], events.pitches[i], 64),
+            _ => Event::Release(events.keys[i], 64),
+        })
+        .collect();
+    let mut block = Pool::of(|_| 0);
+    let mut out = [0; 64];
     measure(
         n,
         || {
-            black_box(events.play(&list, letters, mode));
+            block.open(&list, true, 1);
+            for &call in &calls {
+                black_box(block.play(call, &mut out));
+            }
         },
         || {
-            let mut model = JitTuningModel::new(channels, pools::rust_group(letters), pools::rust_mode(mode));
-            for i in 0..n {
-                if kinds[i] == ours::PRESS {
-                    black_box(model.register_key(keys[i], Pitch::from_hz(pitches[i])));
-                } else {
-                    black_box(model.deregister_key(keys[i]));
+            let (sender, written) = sender(true, &list);
+            let mut tuner = JitTuner::start(sender, pools::rust_mode(1));
+            for &call in &calls {
+                match call {
+                    Event::Press(key, hz, velocity) => tuner.note_on(key, Pitch::from_hz(hz), velocity),
+                    Event::Release(key, velocity) => tuner.note_off(key, velocity),
+                    _ => {}
                 }
+                written.borrow_mut().clear();
             }
         },
     )
@@ -193,41 +245,29 @@ pub fn once(what: &str, port: bool) {
     let (keys, pitches) = keys_and_pitches(256, 31);
     let list: Vec<u8> = (0..16).collect();
     let mapping = plans::mapping(&keys, &pitches);
-    let mut found = Nearest::room(256);
-    let mut events = Events::default();
-    for i in 0..1000usize {
-        if i >= 16 {
-            events.push(ours::RELEASE, ((i - 16) % 256) as u8, 0.0);
-        }
-        events.push(ours::PRESS, (i % 256) as u8, chance.pitch());
-    }
-    events.ready();
+    let events = presses(16, 1000, &mut chance);
+    let mut model = Plan::of(|_| 0);
+    let mut block = Pool::of(|_| 0);
     match (what, port) {
         ("plan", true) => (0..1000).for_each(|_| {
-            black_box(ours::plan_of_pitches(&list, 0, &keys, &pitches, &[], &mut [], &mut []));
+            model.open_model(&list, 0);
+            black_box(model.set_tuning_of_pitches(&keys, &pitches));
         }),
         ("plan", false) => (0..1000).for_each(|_| {
             black_box(AotTuningModel::apply_tuning(GROUPS[0].1, &mapping, keys.iter().copied()));
         }),
-        ("nearest", true) => (0..1000).for_each(|_| found.find(black_box(&pitches))),
+        ("nearest", true) => (0..1000).for_each(|_| {
+            for &hz in black_box(&pitches) {
+                black_box(ours::nearest_note(hz));
+            }
+        }),
         ("nearest", false) => (0..1000).for_each(|_| {
             for &hz in black_box(&pitches) {
                 black_box(nearest::found(hz));
             }
         }),
-        ("pool", true) => (0..100).for_each(|_| {
-            black_box(events.play(&list, false, 1));
-        }),
-        _ => (0..100).for_each(|_| {
-            let mut model = JitTuningModel::new(16, pools::rust_group(false), pools::rust_mode(1));
-            for i in 0..events.kinds.len() {
-                if events.kinds[i] == ours::PRESS {
-                    black_box(model.register_key(events.keys[i], Pitch::from_hz(events.pitches[i])));
-                } else {
-                    black_box(model.deregister_key(events.keys[i]));
-                }
-            }
-        }),
+        ("pool", true) => (0..100).for_each(|_| play_port(&events, &mut block, &list, false, 1)),
+        _ => (0..100).for_each(|_| play_rust(&events, 16, false, 1)),
     }
 }
 
@@ -237,10 +277,13 @@ pub fn run(folder: &Path) {
 
     progress("speed: nearest notes and values");
     let pitches: Vec<f64> = (0..4096).map(|_| chance.pitch()).collect();
-    let mut found = Nearest::room(pitches.len());
     table.line("nearest note and detuning", measure(
         pitches.len(),
-        || found.find(black_box(&pitches)),
+        || {
+            for &hz in black_box(&pitches) {
+                black_box(ours::nearest_note(hz));
+            }
+        },
         || {
             for &hz in black_box(&pitches) {
                 black_box(nearest::found(hz));
@@ -248,18 +291,26 @@ pub fn run(folder: &Path) {
         },
     ));
     let detunings: Vec<f64> = (0..4096).map(|_| ((chance.unit() - 0.5) / 12.0).exp2()).collect();
-    let mut values = Values::room(detunings.len());
-    table.line("fine value and bend (the Rust: fine tuning and a second `log2`)", measure(
-        detunings.len(),
-        || values.find(black_box(&detunings)),
-        || {
-            for &detuning in black_box(&detunings) {
-                let ratio = Ratio::from_float(detuning);
-                black_box(mts::channel_fine_tuning(0, ratio));
-                black_box(ratio.as_semitones());
-            }
-        },
-    ));
+    for (bends, name) in [(false, "fine value (the Rust: fine tuning)"), (true, "bend value (the Rust: semitones)")] {
+        table.line(name, measure(
+            detunings.len(),
+            || {
+                for &detuning in black_box(&detunings) {
+                    black_box(ours::tuning_value(bends, detuning));
+                }
+            },
+            || {
+                for &detuning in black_box(&detunings) {
+                    let ratio = Ratio::from_float(detuning);
+                    if bends {
+                        black_box(ratio.as_semitones());
+                    } else {
+                        black_box(mts::channel_fine_tuning(0, ratio));
+                    }
+                }
+            },
+        ));
+    }
 
     for steps in [12, 22, 31] {
         for n in [12, 61, 128, 256] {
@@ -288,6 +339,11 @@ pub fn run(folder: &Path) {
                 table.line(&format!("press or release, pool of {channels}, {groups} groups, {name}"), pool(channels, letters, mode, &mut chance));
             }
         }
+    }
+
+    for channels in [2, 16] {
+        progress(&format!("speed: pool tuner of {channels}"));
+        table.line(&format!("press or release with its bytes, pool tuner of {channels}, bends, Stop"), tuner(channels, &mut chance));
     }
 
     let sizes = [4, 8, 12, 16, 24, 32, 48, 64, 96, 128, 160, 192, 224, 256];

@@ -3,6 +3,7 @@
 use tune::midi::ChannelMessageType;
 use tune::mts;
 use tune::note::Note;
+use tune::pitch::Pitched;
 use tune::pitch::Ratio;
 use tune::tuner::MidiTarget;
 use tune::tuner::MidiTunerMessage;
@@ -11,6 +12,8 @@ use tune::tuner::TunableSynth;
 
 use crate::inputs::Chance;
 use crate::inputs::step;
+use crate::nearest;
+use crate::ours;
 use crate::ours::Values;
 use crate::report::Kind;
 use crate::report::Row;
@@ -57,7 +60,7 @@ fn compare(row: &mut Row, is_bend: bool, detunings: &[f64]) {
     ours.find(detunings);
     for (i, &detuning) in detunings.iter().enumerate() {
         row.cases += 1;
-        let value: i32 = if is_bend { ours.bends[i].into() } else { ours.fines[i].into() };
+        let value = if is_bend { ours.bends[i] } else { ours.fines[i] } as i32;
         let rule = if is_bend { rule::bend(detuning) } else { rule::fine(detuning) };
         let rust: i32 = if is_bend { bend(detuning) } else { fine(detuning) };
         let told = || format!("{detuning:?}: {value}; the Rust: {rust}");
@@ -119,6 +122,32 @@ pub fn run(chance: &mut Chance, rows: &mut Vec<Row>) {
         row.cases += 1;
         let kind = if refusal == 2 { Kind::Refusal } else { Kind::Unexpected };
         row.differs(kind, 0, || format!("{detuning:?}: refusal {refusal}; the Rust sends {} and {}", fine(detuning), bend(detuning)));
+    }
+    rows.push(row);
+
+    // The Rust has the pitches of notes in other last bits, and no measure.
+    let mut row = Row::new("note pitches and measures");
+    for note in -310..=510 {
+        row.cases += 1;
+        let ours = ours::note_pitch(note);
+        let rust = Note::from_midi_number(note).pitch().as_hz();
+        if !(-300..=500).contains(&note) {
+            let kind = if (ours.outcome, ours.refusal) == (4, 4) { Kind::Refusal } else { Kind::Unexpected };
+            row.differs(kind, 0, || format!("note {note}: refusal {}; the Rust: {rust:?} Hz", ours.refusal));
+        } else if (ours.outcome, ours.refusal, ours.hz) != (0, 0, rule::note_pitch(note)) || !nearest::close(ours.hz, rust) {
+            row.differs(Kind::Unexpected, 0, || format!("note {note}: {ours:?}; the Rust: {rust:?} Hz"));
+        }
+    }
+    // Numbers of its own, so that the rows behind this one keep theirs.
+    let mut chance = Chance(chance.0 ^ 1);
+    for turn in 0..1_000_000 {
+        row.cases += 1;
+        let detuning = if turn % 2 == 0 { f64::from_bits(chance.next() >> 1) } else { (-1.0 + 2.0 * chance.unit()).exp2() };
+        let ours = ours::measure(detuning);
+        let expected = if 0.0 < detuning && detuning.is_finite() { (0, 0, rule::measure(detuning)) } else { (4, 2, 0) };
+        if (ours.outcome, ours.refusal, ours.number) != expected {
+            row.differs(Kind::Unexpected, 0, || format!("{detuning:?}: {ours:?}; document 01: {expected:?}"));
+        }
     }
     rows.push(row);
 }

@@ -1,7 +1,7 @@
 // Plans ("ahead of time"): every key gets a channel and a note before anyone plays. Here by value, as `plan_block` has them in place.
 
 ghost use mathlib.Core.Path.{_≡_};
-ghost use Rattle.channels.specs.ChannelList.{channelsAnswer, entries};
+ghost use Rattle.channels.specs.ChannelList.{entries};
 ghost use Rattle.plans.specs.PlanLists.{noteLists, pitchLists};
 ghost use Rattle.plans.specs.Plan.{Smallest, accessAnswer, detuningAnswer, empty, nextAnswer, nextRule, openRule, setTuning, setTuningOfPitches};
 ghost use Rattle.models.specs.AotModel.{modelOf, openedOf, outcomeOf};

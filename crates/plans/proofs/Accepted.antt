@@ -1,6 +1,6 @@
 -- What a list is that meets no refusal, of each kind: its keys are distinct, its notes are notes, and its detunings are f64s, finite and above zero.
 -- Assumes nothing.
-use mathlib.Core.Path.{_≡_, refl, sym, ap, _∙_, subst}
+use mathlib.Core.Path.{_≡_, refl, sym, subst}
 use mathlib.Core.Bool.{Bool, true, false, _&&_}
 use mathlib.Core.List.{List, [], _∷_, _++_}
 use Prim.Native.Nat.{ℕ, _<_}
@@ -25,7 +25,8 @@ pub never : {A : Type 0} {X : Type 0} (n : ℕ) (a : A) → refused n ≡ value 
 never n a e = absurd (let z : _≡_ {A = ℕ} 0 1 = cc in omega arith)
 
 -- the lines that are accepted, where each that passes by itself is sound
-lines-accepted : (before : List Line) (rest : List (Outcome Line)) (lines : List Line) → Accepted before → Each (λ (o : Outcome Line). (l : Line) → o ≡ value l → Sound l) rest
+lines-accepted : (before : List Line) (rest : List (Outcome Line)) (lines : List Line) → Accepted before
+    → Each (λ (o : Outcome Line). (l : Line) → o ≡ value l → Sound l) rest
     → lineByLine before rest ≡ value lines → Accepted lines
 unfolding lineByLine
 lines-accepted before [] lines ok h e = let q : before ≡ lines = cc in subst Accepted q ok
@@ -67,7 +68,8 @@ note-lines-sound (k ∷ ks) (z ∷ ns) [] b f = tt
 note-lines-sound (k ∷ ks) (z ∷ ns) (d ∷ ds) b f = (note-sound k z d (b .0) (f .0), note-lines-sound ks ns ds (b .1) (f .1))
 
 -- Lists of keys that are bytes, notes, and detunings that are f64s.
-pub notes-accepted : (ks : List ℕ) (ns : List ℤ) (ds : List Float) (lines : List Line) → Each (λ (k : ℕ). k < keyCount) ks → Each (λ (d : Float). T (fits binary64 d)) ds
+pub notes-accepted : (ks : List ℕ) (ns : List ℤ) (ds : List Float) (lines : List Line) → Each (λ (k : ℕ). k < keyCount) ks
+    → Each (λ (d : Float). T (fits binary64 d)) ds
     → noteLists ks ns ds ≡ value lines → Accepted lines
 unfolding noteLists
 notes-accepted ks ns ds lines b f e =
@@ -88,14 +90,17 @@ pitch-sound k hz b l e = go (nearestRule hz) refl e
         let r : y ≡ l = cc in
         subst Sound r (nearest-sound k hz (x .0) (x .1) b (sym p))
 
-pitch-lines-sound : (ks : List ℕ) (hzs : List Float) → Each (λ (k : ℕ). k < keyCount) ks → Each (λ (o : Outcome Line). (l : Line) → o ≡ value l → Sound l) (pitchLines ks hzs)
+pitch-lines-sound : (ks : List ℕ) (hzs : List Float) → Each (λ (k : ℕ). k < keyCount) ks
+    → Each (λ (o : Outcome Line). (l : Line) → o ≡ value l → Sound l) (pitchLines ks hzs)
 unfolding pitchLines
 pitch-lines-sound [] hzs b = tt
 pitch-lines-sound (k ∷ ks) [] b = tt
 pitch-lines-sound (k ∷ ks) (hz ∷ hzs) b = (pitch-sound k hz (b .0), pitch-lines-sound ks hzs (b .1))
 
 -- Lists of keys that are bytes and pitches, any f64s.
-pub pitches-accepted : (ks : List ℕ) (hzs : List Float) (lines : List Line) → Each (λ (k : ℕ). k < keyCount) ks → pitchLists ks hzs ≡ value lines → Accepted lines
+pub pitches-accepted : (ks : List ℕ) (hzs : List Float) (lines : List Line) → Each (λ (k : ℕ). k < keyCount) ks → pitchLists ks hzs ≡ value lines
+    → Accepted lines
 unfolding pitchLists
 pitches-accepted ks hzs lines b e =
-    lines-accepted [] (pitchLines ks hzs) lines accepted-nil (pitch-lines-sound ks hzs b) (of-equal 12 (eqb (length hzs) (length ks)) (lineByLine [] (pitchLines ks hzs)) lines e)
+    lines-accepted [] (pitchLines ks hzs) lines accepted-nil (pitch-lines-sound ks hzs b)
+    (of-equal 12 (eqb (length hzs) (length ks)) (lineByLine [] (pitchLines ks hzs)) lines e)

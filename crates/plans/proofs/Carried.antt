@@ -18,9 +18,11 @@ use Rattle.plans.specs.Line.{Line, ofGroup, joins, rising}
 use Rattle.plans.specs.PlanLists.{keys}
 use Rattle.plans.specs.Walk.{latest, accepts, takes, next, here, later, channels, walk, count, replaced, entryFrom, entry}
 use Rattle.plans.specs.PlanInternal.{Accepted}
-use Rattle.channels.proofs.ListLaws.{outcome, passed, failed, T→true, true→T, T→false, Each-map, Each-keep, Pairwise, keep-no, keep-same, keep-swap, own-image}
+use Rattle.channels.proofs.ListLaws.{outcome, passed, failed, T→true, true→T, T→false, Each-map, Each-keep, Pairwise, keep-no, keep-same, keep-swap}
+use Rattle.channels.proofs.ListLaws.{own-image}
 use Rattle.plans.proofs.Rising.{UpTo, Sorted, Other}
-use Rattle.plans.proofs.Sweep.{numberOf, beyond, takes-is, latest-other, latest-taken, latest-left, here-yes, here-no, here-is, all-left, later-other, fewer, Pairwise-later}
+use Rattle.plans.proofs.Sweep.{numberOf, beyond, takes-is, latest-other, latest-taken, latest-left, here-yes, here-no, here-is, all-left, later-other}
+use Rattle.plans.proofs.Sweep.{fewer, Pairwise-later}
 use Rattle.plans.proofs.Plan.{channel, sorted, different, enough}
 use Rattle.plans.proofs.Seats.{left-absent}
 
@@ -85,7 +87,8 @@ module _ (kind : GroupBy) (g : ℤ) where
               let p = latest-left kind g taken x u ∙ l in
               rw (u, e, none-here (z .detuning) (next kind taken x) w p b, all-left kind g (z .detuning) (next kind taken x) w p b)
         ]
-    | failed e ↦ rw (here-other taken x w e, later-other kind g taken x w e, keep-no (ofGroup kind g) x w e) (split-after z (next kind taken x) w (latest-other kind g taken x e ∙ l) (h .1) (s .1))
+    | failed e ↦ rw (here-other taken x w e, later-other kind g taken x w e, keep-no (ofGroup kind g) x w e)
+        (split-after z (next kind taken x) w (latest-other kind g taken x e ∙ l) (h .1) (s .1))
   ]
 
   split : (taken w : List Line) → latest kind g taken ≡ none → Sorted w
@@ -96,14 +99,16 @@ module _ (kind : GroupBy) (g : ℤ) where
     | passed e ↦
         let u : takes kind taken x ≡ true = takes-is kind g taken x e ∙ ap (λ (o : Option Float). accepts o (x .detuning)) l in
         rw (u, e) (ap (λ (k : List Line). x ∷ k) (split-after x (next kind taken x) w (latest-taken kind g taken x e u) (s .0) (s .1)))
-    | failed e ↦ rw (here-other taken x w e, later-other kind g taken x w e, keep-no (ofGroup kind g) x w e) (split (next kind taken x) w (latest-other kind g taken x e ∙ l) (s .1))
+    | failed e ↦ rw (here-other taken x w e, later-other kind g taken x w e, keep-no (ofGroup kind g) x w e)
+        (split (next kind taken x) w (latest-other kind g taken x e ∙ l) (s .1))
   ]
 
   -- ---- the entry
   abbrev upTo : List (List Line) → ℕ → Line → Bool
   upTo ts c l = leb (numberOf (l .key) ts) c
 
-  on-first : (t : List Line) (ts : List (List Line)) (c : ℕ) (l : List Line) → Each (λ (x : Line). T (member (x .key) (keys t))) l → Each (λ (x : Line). upTo (t ∷ ts) c x ≡ true) l
+  on-first : (t : List Line) (ts : List (List Line)) (c : ℕ) (l : List Line) → Each (λ (x : Line). T (member (x .key) (keys t))) l
+      → Each (λ (x : Line). upTo (t ∷ ts) c x ≡ true) l
   unfolding numberOf
   on-first t ts c [] h = tt
   on-first t ts c (x ∷ l) h = (rw (T→true (member (x .key) (keys t)) (h .0)) (leb·zero c), on-first t ts c l (h .1))
@@ -135,19 +140,23 @@ module _ (kind : GroupBy) (g : ℤ) where
       let t = here kind [] (x ∷ w) in
       let ts = channels kind n (later kind [] (x ∷ w)) in
       replaced-is kind g e t
-      ∙ ap (lastOf e) (sym (keep-swap (ofGroup kind g) (upTo (t ∷ ts) 0) (x ∷ w) ∙ ap (keep (ofGroup kind g)) (zero-is t ts (x ∷ w) ∙ here-is kind [] (x ∷ w) a)))
+      ∙ ap (lastOf e) (sym (keep-swap (ofGroup kind g) (upTo (t ∷ ts) 0) (x ∷ w)
+      ∙ ap (keep (ofGroup kind g)) (zero-is t ts (x ∷ w) ∙ here-is kind [] (x ∷ w) a)))
   entry-from (suc n) (x ∷ w) (suc c) e h s a k =
       let t = here kind [] (x ∷ w) in
       let u = later kind [] (x ∷ w) in
       let ts = channels kind n u in
       let f = upTo (t ∷ ts) (suc c) in
-      let first : keep f (keep (ofGroup kind g) t) ≡ keep (ofGroup kind g) t = keep-all f (keep (ofGroup kind g) t) (Each-keep (λ (y : Line). f y ≡ true) (ofGroup kind g) t (on-first t ts (suc c) t (own-image (λ (l : Line). l .key) t))) in
-      let rest : keep f (keep (ofGroup kind g) u) ≡ keep (upTo ts c) (keep (ofGroup kind g) u) = keep-same f (upTo ts c) (keep (ofGroup kind g) u) (Each-keep (λ (y : Line). f y ≡ upTo ts c y) (ofGroup kind g) u (on-others t ts c u (left-absent kind [] (x ∷ w) a))) in
+      let first : keep f (keep (ofGroup kind g) t) ≡ keep (ofGroup kind g) t = keep-all f (keep (ofGroup kind g) t)
+      (Each-keep (λ (y : Line). f y ≡ true) (ofGroup kind g) t (on-first t ts (suc c) t (own-image (λ (l : Line). l .key) t))) in
+      let rest : keep f (keep (ofGroup kind g) u) ≡ keep (upTo ts c) (keep (ofGroup kind g) u) = keep-same f (upTo ts c) (keep (ofGroup kind g) u)
+      (Each-keep (λ (y : Line). f y ≡ upTo ts c y) (ofGroup kind g) u (on-others t ts c u (left-absent kind [] (x ∷ w) a))) in
       entry-from n u c (replaced kind g e t) (fewer kind n x w h) (Pairwise-later kind UpTo [] (x ∷ w) s) (Pairwise-later kind Other [] (x ∷ w) a) (omega arith)
       ∙ ap (λ (o : Option Float). lastOf o (keep (upTo ts c) (keep (ofGroup kind g) u))) (replaced-is kind g e t)
       ∙ sym
       (ap (λ (l : List Line). lastOf e (keep f l)) (sym (split [] (x ∷ w) (unfold latest in refl) s))
-      ∙ ap (lastOf e) (keep-append f (keep (ofGroup kind g) t) (keep (ofGroup kind g) u) ∙ ap (λ (l : List Line). l ++ keep f (keep (ofGroup kind g) u)) first ∙ ap (λ (l : List Line). keep (ofGroup kind g) t ++ l) rest)
+      ∙ ap (lastOf e) (keep-append f (keep (ofGroup kind g) t) (keep (ofGroup kind g) u) ∙ ap (λ (l : List Line). l ++ keep f (keep (ofGroup kind g) u)) first
+      ∙ ap (λ (l : List Line). keep (ofGroup kind g) t ++ l) rest)
       ∙ last-append e (keep (ofGroup kind g) t) (keep (upTo ts c) (keep (ofGroup kind g) u)))
 
   entry-beyond : (ts : List (List Line)) (c : ℕ) (e : Option Float) → length ts ≤ c → entryFrom kind g e ts c ≡ none
@@ -174,7 +183,8 @@ le-self : (x : Float) → T (positive x) → T (le x x)
 le-self x p = cross→le x x p p (le-of-eq refl)
 
 pub largest : (P : Line → Type 0) (x : Line) (l : List Line) → Each P (x ∷ l) → Each (λ (y : Line). T (positive (y .detuning))) (x ∷ l) → Sorted (x ∷ l)
-    → (z : Line) × P z × T (positive (z .detuning)) × (lastOf none (x ∷ l) ≡ some (z .detuning)) × Each (λ (y : Line). T (le (y .detuning) (z .detuning))) (x ∷ l)
+    → (z : Line) × P z × T (positive (z .detuning)) × (lastOf none (x ∷ l) ≡ some (z .detuning))
+    × Each (λ (y : Line). T (le (y .detuning) (z .detuning))) (x ∷ l)
 largest P x [] h p s = (x, h .0, p .0, refl, (le-self (x .detuning) (p .0), tt))
 largest P x (y ∷ l) h p s =
     let r = largest P y l (h .1) (p .1) (s .1) in

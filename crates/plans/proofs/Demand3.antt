@@ -43,6 +43,7 @@ demand-3 m (Outcome.refused n) ok = tt
 demand-3 m (value lines) ok = go (leb (count (m .groupBy) lines) (length (m .channels))) refl
   where
     go : (t : Bool) → leb (count (m .groupBy) lines) (length (m .channels)) ≡ t
-        → Smallest m (value lines) (cond t (holding m lines, tuned (count (m .groupBy) lines)) (empty (m .channels) (m .groupBy), untuned (count (m .groupBy) lines)))
+        → Smallest m (value lines) (cond t (holding m lines, tuned (count (m .groupBy) lines))
+        (empty (m .channels) (m .groupBy), untuned (count (m .groupBy) lines)))
     go true e = best m lines (ok lines refl) true e (seat (m .groupBy) lines) (λ h. refl)
     go false e = best m lines (ok lines refl) false e (λ k. _) (λ h. absurd h)

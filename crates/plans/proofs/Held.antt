@@ -99,8 +99,11 @@ module _ (by : GroupBy) (c : ℕ) (g : ℤ) where
       go (some d) p q l hp h = elim (outcome (le (r .detuning) d)) [
         | passed e ↦ rw e (λ u. true→T e, h)
         | failed e ↦
-            rw e
-            (λ u. cross→le (r .detuning) (r .detuning) p p (le-of-eq refl), zip (λ x a b u. le-trans-positive (x .detuning) d (r .detuning) (a u) q p (b u) (le-total (r .detuning) d p q e)) l hp h)
+            rw e (
+              λ u. cross→le (r .detuning) (r .detuning) p p (le-of-eq refl),
+              zip
+                  (λ x a b u. le-trans-positive (x .detuning) d (r .detuning) (a u) q p (b u) (le-total (r .detuning) d p q e)) l hp h,
+            )
       ]
 
 -- ---- in a plan
@@ -123,7 +126,8 @@ module _ (by : GroupBy) (all : List Line) (ok : Accepted all) (rs : List KeyReco
   channelOf (some x) = x .0
 
   abbrev Placed : Line → Type 0
-  Placed l = (seat by all (l .key) ≡ some (rec (l .key) .channel, l .note)) × (seat by all (l .key) ≡ some (channel by all (l .key), l .note)) × (channel by all (l .key) < count by all)
+  Placed l = (seat by all (l .key) ≡ some (rec (l .key) .channel, l .note)) × (seat by all (l .key) ≡ some (channel by all (l .key), l .note))
+      × (channel by all (l .key) < count by all)
 
   abbrev Written : Line → Type 0
   Written l = (rec (l .key) .note ≡ l .note) × (rec (l .key) .detuning ≡ l .detuning) × (isNote (l .note) ≡ true)
@@ -158,7 +162,8 @@ module _ (by : GroupBy) (all : List Line) (ok : Accepted all) (rs : List KeyReco
   pub found : (k : ℕ) → keyIn rs k ≡ seat by all k
   unfolding keyIn
   found k = elim (outcome (member k (keys all))) [
-    | passed m ↦ let f = at-key Fact k all facts (true→T m) in subst (λ (j : ℕ). cond (isIn (rec j)) (some (rec j .channel, rec j .note)) none ≡ seat by all j) (f .1) (rw (f .2 .is-in) (sym (f .2 .seated)))
+    | passed m ↦ let f = at-key Fact k all facts (true→T m) in
+        subst (λ (j : ℕ). cond (isIn (rec j)) (some (rec j .channel, rec j .note)) none ≡ seat by all j) (f .1) (rw (f .2 .is-in) (sym (f .2 .seated)))
     | failed m ↦ let o = others-of k all m in rw (s .no-other k o) (sym (unseated by all ok k o))
   ]
 
@@ -175,16 +180,19 @@ module _ (by : GroupBy) (all : List Line) (ok : Accepted all) (rs : List KeyReco
         and-true false = refl
 
     -- what holds of the heard lines' detunings holds of those of the records that count
-    over-records : (P : Float → Type 0) → Each (λ (l : Line). P (l .detuning)) (heard by all c g) → Each (λ (r : KeyRecord). counts by c g r ≡ true → P (r .detuning)) rs
+    over-records : (P : Float → Type 0) → Each (λ (l : Line). P (l .detuning)) (heard by all c g)
+        → Each (λ (r : KeyRecord). counts by c g r ≡ true → P (r .detuning)) rs
     over-records P h =
         each-at (λ (r : KeyRecord). counts by c g r ≡ true → P (r .detuning)) rs nobody at
       where
         inside : Each (λ (l : Line). ofGroup by g l ≡ true → upTo l ≡ true → P (l .detuning)) all
         inside =
             rising-Each (λ (l : Line). ofGroup by g l ≡ true → upTo l ≡ true → P (l .detuning)) all
-            (of-kept (λ (l : Line). upTo l ≡ true → P (l .detuning)) (ofGroup by g) (rising all) (of-kept (λ (l : Line). P (l .detuning)) upTo (keep (ofGroup by g) (rising all)) h))
+            (of-kept (λ (l : Line). upTo l ≡ true → P (l .detuning)) (ofGroup by g) (rising all)
+            (of-kept (λ (l : Line). P (l .detuning)) upTo (keep (ofGroup by g) (rising all)) h))
 
-        line : (l : Line) → Fact l → (ofGroup by g l ≡ true → upTo l ≡ true → P (l .detuning)) → counts by c g (rec (l .key)) ≡ true → P (rec (l .key) .detuning)
+        line : (l : Line) → Fact l → (ofGroup by g l ≡ true → upTo l ≡ true → P (l .detuning)) → counts by c g (rec (l .key)) ≡ true
+            → P (rec (l .key) .detuning)
         line l f h e =
             let b = true→T (sym (counts-is l f) ∙ e) in
             rw (f .detuning-is) (h (T→true (ofGroup by g l) (and-r (upTo l) (ofGroup by g l) b)) (T→true (upTo l) (and-l (upTo l) (ofGroup by g l) b)))
@@ -192,7 +200,8 @@ module _ (by : GroupBy) (all : List Line) (ok : Accepted all) (rs : List KeyReco
         at : (k : ℕ) → k < length rs → counts by c g (rec k) ≡ true → P (rec k .detuning)
         at k b e = elim (outcome (member k (keys all))) [
           | passed m ↦
-              let f = at-key (λ (l : Line). counts by c g (rec (l .key)) ≡ true → P (rec (l .key) .detuning)) k all (zip (λ l a b. line l a b) all facts inside) (true→T m) in
+              let f = at-key (λ (l : Line). counts by c g (rec (l .key)) ≡ true → P (rec (l .key) .detuning)) k all
+              (zip (λ l a b. line l a b) all facts inside) (true→T m) in
               subst (λ (j : ℕ). counts by c g (rec j) ≡ true → P (rec j .detuning)) (f .1) (f .2) e
           | failed m ↦ absurd (not-false (out-counts by c g (rec k) (s .no-other k (others-of k all m))) (true→T e))
         ]
@@ -218,7 +227,8 @@ module _ (by : GroupBy) (all : List Line) (ok : Accepted all) (rs : List KeyReco
     in-order = Pairwise-keep UpTo upTo (keep (ofGroup by g) (rising all)) (Pairwise-keep UpTo (ofGroup by g) (rising all) (sorted by all ok))
 
     none-counts : heard by all c g ≡ [] → highest by c g rs ≡ none
-    none-counts e = none-of (highest by c g rs) (highest-has by c g (λ (d : Float). ⊥) rs (over-records (λ (d : Float). ⊥) (subst (Each (λ (l : Line). ⊥)) (sym e) tt)))
+    none-counts e = none-of (highest by c g rs)
+        (highest-has by c g (λ (d : Float). ⊥) rs (over-records (λ (d : Float). ⊥) (subst (Each (λ (l : Line). ⊥)) (sym e) tt)))
       where
         none-of : (o : Option Float) → Has (λ (d : Float). ⊥) o → o ≡ none
         none-of none h = refl
@@ -231,7 +241,10 @@ module _ (by : GroupBy) (all : List Line) (ok : Accepted all) (rs : List KeyReco
     largest-counts : (z : Line) → Heard z → Each (λ (y : Line). T (le (y .detuning) (z .detuning))) (heard by all c g) → highest by c g rs ≡ some (z .detuning)
     largest-counts z h below =
         finish (highest by c g rs)
-        (highest-has by c g (Within (z .detuning)) rs (over-records (Within (z .detuning)) (zip {R = λ (l : Line). Within (z .detuning) (l .detuning)} (λ l a b. (a .fact-of .above, a .fact-of .fitting, b)) (heard by all c g) all-heard below)))
+        (highest-has by c g (Within (z .detuning)) rs
+        (over-records (Within (z .detuning))
+        (zip {R = λ (l : Line). Within (z .detuning) (l .detuning)} (λ l a b. (a .fact-of .above, a .fact-of .fitting, b))
+        (heard by all c g) all-heard below)))
         (subst (λ (d : Float). Under d (highest by c g rs)) (h .fact-of .detuning-is)
         (at-each (λ (r : KeyRecord). counts by c g r ≡ true → Under (r .detuning) (highest by c g rs)) rs nobody
         (highest-over by c g rs (over-records (λ (d : Float). T (positive d)) all-positive)) (z .key) (omega (arith, s .long, h .fact-of .byte)) (h .counted)))
@@ -247,7 +260,8 @@ module _ (by : GroupBy) (all : List Line) (ok : Accepted all) (rs : List KeyReco
         go : (l : List Line) → heard by all c g ≡ l → highest by c g rs ≡ lastOf none l
         go [] e = none-counts e
         go (x ∷ l) e =
-            let z = largest Heard x l (subst (Each Heard) e all-heard) (subst (Each (λ (y : Line). T (positive (y .detuning)))) e all-positive) (subst (Pairwise UpTo) e in-order) in
+            let z = largest Heard x l (subst (Each Heard) e all-heard) (subst (Each (λ (y : Line). T (positive (y .detuning)))) e all-positive)
+            (subst (Pairwise UpTo) e in-order) in
             largest-counts (z .0) (z .1) (subst (Each (λ (y : Line). T (le (y .detuning) (z .0 .detuning)))) (sym e) (z .4)) ∙ sym (z .3)
 
     -- the detunings of the model are the walk's entries

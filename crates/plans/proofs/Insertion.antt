@@ -43,7 +43,8 @@ before-most ds d (k ∷ l) (suc j) h e = elim (outcome (lt d (getD ds k nan))) [
 ]
 
 -- and one with no higher one, where the keys are in order, before it
-before-least : (ds : List Float) (d : Float) (l : List ℕ) (j : ℕ) → Rises ds l → T (positive d) → j < length l → lt d (getD ds (getD l j 0) nan) ≡ false → j < before ds d l
+before-least : (ds : List Float) (d : Float) (l : List ℕ) (j : ℕ) → Rises ds l → T (positive d) → j < length l → lt d (getD ds (getD l j 0) nan) ≡ false
+    → j < before ds d l
 unfolding before
 before-least ds d [] j r p h e = absurd (let z : ⊥ = omega arith in z)
 before-least ds d (k ∷ l) zero r p h e = rw e (omega arith)
@@ -91,7 +92,8 @@ module _ (n : ℕ) (xs ys : List ℕ) (i : ℕ) (s : Shifted n xs ys i) (fits : 
   pub shift-turn : 0 < i → i ≤ n → Shifted n xs (set ys i (getD ys (i - 1) 0)) (i - 1)
   shift-turn h k =
       let x = getD ys (i - 1) 0 in
-      let same : x ≡ getD xs (i - 1) 0 = sym (getD-take i ys (i - 1) 0 (omega arith)) ∙ ap (λ (l : List ℕ). getD l (i - 1) 0) (s .low) ∙ getD-take i xs (i - 1) 0 (omega arith) in
+      let same : x ≡ getD xs (i - 1) 0 = sym (getD-take i ys (i - 1) 0 (omega arith)) ∙ ap (λ (l : List ℕ). getD l (i - 1) 0) (s .low)
+      ∙ getD-take i xs (i - 1) 0 (omega arith) in
       let up : i - 1 + 1 ≡ i = omega arith in
       record {
         long = length-set ys i x ∙ s .long;
@@ -104,13 +106,23 @@ module _ (n : ℕ) (xs ys : List ℕ) (i : ℕ) (s : Shifted n xs ys i) (fits : 
             ap (λ (j : ℕ). drop j (take (n + 1) (set ys i x))) up
             ∙ rest-cons (n + 1) (set ys i x) i 0 (omega arith) (omega (arith, length-set ys i x, s .long))
             ∙ ap (λ (y : ℕ). y ∷ drop (i + 1) (take (n + 1) (set ys i x))) (getD-set-same ys i x 0 (omega (arith, s .long)) ∙ same)
-            ∙ ap (λ (l : List ℕ). getD xs (i - 1) 0 ∷ l) (ap (drop (i + 1)) (take-set-lt (n + 1) ys i x (omega arith)) ∙ drop-set-lt (i + 1) (take (n + 1) ys) i x (omega arith) ∙ s .moved ∙ ap (λ (j : ℕ). drop j (take n xs)) (sym up))
+            ∙ ap (λ (l : List ℕ). getD xs (i - 1) 0 ∷ l)
+            (ap (drop (i + 1)) (take-set-lt (n + 1) ys i x (omega arith)) ∙ drop-set-lt (i + 1) (take (n + 1) ys) i x (omega arith) ∙ s .moved
+            ∙ ap (λ (j : ℕ). drop j (take n xs)) (sym up))
             ∙ sym (rest-cons n xs (i - 1) 0 (omega arith) (omega arith));
       }
 
   pub shift-ends : (x : ℕ) → i ≤ n → take (n + 1) (set ys i x) ≡ take i xs ++ (x ∷ drop i (take n xs))
   shift-ends x k =
       split-at (take (n + 1) (set ys i x)) i 0 (omega (arith, length-take (n + 1) (set ys i x), length-set ys i x, s .long))
-      ∙ rw (take-take i (n + 1) (set ys i x) (omega arith), take-set-le i ys i x (omega arith), s .low, getD-take (n + 1) (set ys i x) i 0 (omega arith), getD-set-same ys i x 0 (omega (arith, s .long)))
+      ∙ rw (
+        take-take i (n + 1) (set ys i x) (omega arith),
+        take-set-le i ys i x (omega arith),
+        s .low,
+        getD-take (n + 1) (set ys i x) i 0
+            (omega arith),
+        getD-set-same ys i x 0 (omega (arith, s .long)),
+      )
       (ap (λ (l : List ℕ). take i xs ++ (x ∷ l))
-      (ap (drop (suc i)) (take-set-lt (n + 1) ys i x (omega arith)) ∙ drop-set-lt (suc i) (take (n + 1) ys) i x (omega arith) ∙ ap (λ (j : ℕ). drop j (take (n + 1) ys)) (sym (add-one i)) ∙ s .moved))
+      (ap (drop (suc i)) (take-set-lt (n + 1) ys i x (omega arith)) ∙ drop-set-lt (suc i) (take (n + 1) ys) i x (omega arith)
+      ∙ ap (λ (j : ℕ). drop j (take (n + 1) ys)) (sym (add-one i)) ∙ s .moved))

@@ -45,8 +45,10 @@ pub begins : (order cells : List ℕ) (ds : List Float) (rest : List (Outcome Li
 begins order cells ds rest h = record { lines = []; holds = h; ok = accepted-nil; left = refl }
 
 -- the line at hand was refused, and so is the list; or there is one line more
-module _ (o : Outcome (List Line)) (order cells : List ℕ) (ds : List Float) (n : ℕ) (rest : List (Outcome Line)) (r : ℕ) (order' cells' : List ℕ) (ds' : List Float) where
-  pub turn-refused : (x : Outcome Line) → Turn o order cells ds n (x ∷ rest) → Adds x r n order cells ds order' cells' ds' → (r ≡ 0 → ⊥) → (m : ℕ) → Checked o r order' cells' ds' m
+module _ (o : Outcome (List Line)) (order cells : List ℕ) (ds : List Float) (n : ℕ) (rest : List (Outcome Line)) (r : ℕ) (order' cells' : List ℕ)
+    (ds' : List Float) where
+  pub turn-refused : (x : Outcome Line) → Turn o order cells ds n (x ∷ rest) → Adds x r n order cells ds order' cells' ds' → (r ≡ 0 → ⊥) → (m : ℕ)
+      → Checked o r order' cells' ds' m
   unfolding lineByLine
   turn-refused (refused k) t adds ne m = let c = adds (t .lines) (t .ok) (t .holds) in rw (t .left) c
   turn-refused (value l) t adds ne m =
@@ -56,7 +58,8 @@ module _ (o : Outcome (List Line)) (order cells : List ℕ) (ds : List Float) (n
         | failed u ↦ let d : Checked (value (t .lines ++ (l ∷ []))) r order' cells' ds' (n + 1) = rw u at c in absurd (ne (d .0))
       ]
 
-  pub turn-next : (x : Outcome Line) → Turn o order cells ds n (x ∷ rest) → Adds x r n order cells ds order' cells' ds' → r ≡ 0 → Turn o order' cells' ds' (n + 1) rest
+  pub turn-next : (x : Outcome Line) → Turn o order cells ds n (x ∷ rest) → Adds x r n order cells ds order' cells' ds' → r ≡ 0
+      → Turn o order' cells' ds' (n + 1) rest
   unfolding lineByLine
   turn-next (refused k) t adds e = let c = adds (t .lines) (t .ok) (t .holds) in absurd (c .1 (sym (c .0) ∙ e))
   turn-next (value l) t adds e =
@@ -69,8 +72,10 @@ module _ (o : Outcome (List Line)) (order cells : List ℕ) (ds : List Float) (n
       ]
 
 -- a line that passed by itself, behind lines that are held
-module _ (order cells : List ℕ) (ds : List Float) (n : ℕ) (l : Line) (s : Sound l) (lines : List Line) (ok : Accepted lines) (h : Holds order cells ds n lines) where
-  pub came-before : isHeld (placeOf (getD cells (l .key) 0)) ≡ true → (order' cells' : List ℕ) (ds' : List Float) → Checked (lineByLine lines (value l ∷ [])) 5 order' cells' ds' (n + 1)
+module _ (order cells : List ℕ) (ds : List Float) (n : ℕ) (l : Line) (s : Sound l) (lines : List Line) (ok : Accepted lines)
+    (h : Holds order cells ds n lines) where
+  pub came-before : isHeld (placeOf (getD cells (l .key) 0)) ≡ true → (order' cells' : List ℕ) (ds' : List Float)
+      → Checked (lineByLine lines (value l ∷ [])) 5 order' cells' ds' (n + 1)
   unfolding lineByLine
   came-before e order' cells' ds' = rw (sym (h .marked (l .key)) ∙ e) (refl, λ z. absurd (let y : ⊥ = omega arith in y))
 
@@ -86,7 +91,8 @@ module _ (order cells : List ℕ) (ds : List Float) (n : ℕ) (l : Line) (s : So
         room-for order cells ds n (l .key) lines h ok new (s .byte)
         (omega (arith, h .counted, accepted-few (lines ++ (l ∷ [])) more-ok, length-append lines (l ∷ [])))
 
-    pub one-more : (order' cells' : List ℕ) (ds' : List Float) → Holds order' cells' ds' (n + 1) (lines ++ (l ∷ [])) → Checked (lineByLine lines (value l ∷ [])) 0 order' cells' ds' (n + 1)
+    pub one-more : (order' cells' : List ℕ) (ds' : List Float) → Holds order' cells' ds' (n + 1) (lines ++ (l ∷ []))
+        → Checked (lineByLine lines (value l ∷ [])) 0 order' cells' ds' (n + 1)
     unfolding lineByLine
     one-more order' cells' ds' k = rw new (refl, more-ok, k)
 
@@ -99,14 +105,16 @@ pub ended-early : (o : Outcome (List Line)) (order cells : List ℕ) (ds : List 
 ended-early o order cells ds n m e z = rw e (refl, λ k. absurd (let y : ⊥ = omega arith in y))
 
 -- a line that is refused by itself
-pub line-refused : (x : Outcome Line) (m : ℕ) → x ≡ refused m → 0 < m → (n : ℕ) (order cells : List ℕ) (ds : List Float) (order' cells' : List ℕ) (ds' : List Float) → Adds x m n order cells ds order' cells' ds'
+pub line-refused : (x : Outcome Line) (m : ℕ) → x ≡ refused m → 0 < m
+    → (n : ℕ) (order cells : List ℕ) (ds : List Float) (order' cells' : List ℕ) (ds' : List Float) → Adds x m n order cells ds order' cells' ds'
 unfolding lineByLine
 line-refused x m e z n order cells ds order' cells' ds' lines ok h = rw e (refl, λ k. absurd (let y : ⊥ = omega arith in y))
 
 -- ---- the line at i
 module _ (ks : List ℕ) (ns : List ℤ) (ds : List Float) (i : ℕ) where
   pub note-line-at : i < length ks → i < length ns → i < length ds
-      → noteLines (drop i ks) (drop i ns) (drop i ds) ≡ noteLine (getD ks i 0) (getD ns i (pos 0)) (getD ds i nan) ∷ noteLines (drop (i + 1) ks) (drop (i + 1) ns) (drop (i + 1) ds)
+      → noteLines (drop i ks) (drop i ns) (drop i ds) ≡ noteLine (getD ks i 0) (getD ns i (pos 0)) (getD ds i nan) ∷ noteLines (drop (i + 1) ks)
+      (drop (i + 1) ns) (drop (i + 1) ds)
   unfolding noteLines
   note-line-at hk hn hd = rw (add-one, drop-cons ks i 0 hk, drop-cons ns i (pos 0) hn, drop-cons ds i nan hd)
 
@@ -154,7 +162,13 @@ nearest-sound k hz n d b e = elim (outcome (isPitch hz)) [
       let q : _≡_ {A = ℤ × Float} (n, d) (nearestNote hz, detuningOf hz (nearestNote hz)) = cc in
       let u : n ≡ nearestNote hz = ap (λ (x : ℤ × Float). x .0) q in
       let v : d ≡ detuningOf hz (nearestNote hz) = ap (λ (x : ℤ × Float). x .1) q in
-      record { byte = b; note = rw u (nearest-is-note hz (true→T p)); above = rw v (nearest-detuning hz (true→T p)); fitting = rw v (fitting-detuning hz (nearestNote hz)) }
+      record {
+        byte = b;
+        note = rw u (nearest-is-note hz (true→T p));
+        above = rw v (nearest-detuning hz (true→T p));
+        fitting = rw v
+            (fitting-detuning hz (nearestNote hz));
+      }
   | failed p ↦ let f : _≡_ {A = Outcome (ℤ × Float)} (value (n, d)) (refused 1) = rw p at e in absurd (let z : _≡_ {A = ℕ} 0 1 = cc in omega arith)
 ]
   where
@@ -164,11 +178,13 @@ nearest-sound k hz n d b e = elim (outcome (isPitch hz)) [
 pub nearest-refused : (hz : Float) (n : ℕ) → refused n ≡ nearestRule hz → n ≡ 1
 unfolding nearestRule
 nearest-refused hz n e = elim (outcome (isPitch hz)) [
-  | passed p ↦ let f : _≡_ {A = Outcome (ℤ × Float)} (refused n) (value (nearestNote hz, detuningOf hz (nearestNote hz))) = rw p at e in absurd (let z : _≡_ {A = ℕ} 0 1 = cc in omega arith)
+  | passed p ↦ let f : _≡_ {A = Outcome (ℤ × Float)} (refused n) (value (nearestNote hz, detuningOf hz (nearestNote hz))) = rw p at e in
+      absurd (let z : _≡_ {A = ℕ} 0 1 = cc in omega arith)
   | failed p ↦ let f : _≡_ {A = Outcome (ℤ × Float)} (refused n) (refused 1) = rw p at e in cc
 ]
 
-pub a-pitch-line : (k : ℕ) (hz : Float) (n : ℤ) (d : Float) → value (n, d) ≡ nearestRule hz → pitchLine k hz ≡ value (record { key = k; note = n; detuning = d })
+pub a-pitch-line : (k : ℕ) (hz : Float) (n : ℤ) (d : Float) → value (n, d) ≡ nearestRule hz
+    → pitchLine k hz ≡ value (record { key = k; note = n; detuning = d })
 unfolding pitchLine
 a-pitch-line k hz n d e = rw (sym e)
 

@@ -55,7 +55,8 @@ no-detunings by c g (r ∷ rs) h = rw (out-counts by c g r (h .0), no-detunings 
 
 -- ---- planning, by its cases
 module _ (m : Model) (lines : List Line) where
-  pub planned-untuned : length (m .channels) < count (m .groupBy) lines → planned m (value lines) ≡ (empty (m .channels) (m .groupBy), untuned (count (m .groupBy) lines))
+  pub planned-untuned : length (m .channels) < count (m .groupBy) lines
+      → planned m (value lines) ≡ (empty (m .channels) (m .groupBy), untuned (count (m .groupBy) lines))
   unfolding planned
   planned-untuned h = rw (lt-leb (count (m .groupBy) lines) (length (m .channels)) h)
 

@@ -61,22 +61,31 @@ parts-le a b h = elim (outcome (leZ a b)) [
 
 -- what is below the least group counts nowhere
 module _ (by : GroupBy) (c : ℕ) (from : ℤ) where
-  lower-below : (least : ℤ) (r : KeyRecord) (h : ℤ) → plus from + less h ≤ plus h + less from → plus h + less (lower by c from least r) < plus (lower by c from least r) + less h
+  lower-below : (least : ℤ) (r : KeyRecord) (h : ℤ) → plus from + less h ≤ plus h + less from
+      → plus h + less (lower by c from least r) < plus (lower by c from least r) + less h
       → (counts by c h r ≡ false) × (plus h + less least < plus least + less h)
   unfolding lower
   lower-below least r h f b = elim (outcome (leb (r .channel) c && isIn r)) [
     | failed u ↦ (counts-not by c h r u, rw u at b)
     | passed u ↦ elim (outcome (ltZ (group by (r .note)) from)) [
       | passed v ↦
-          let l : plus h + less least < plus least + less h = rw (u, v) at b in
-          (counts-other by c h r (λ e. let k : plus h + less from < plus from + less h = subst (λ (z : ℤ). plus z + less from < plus from + less z) e (lt-parts (group by (r .note)) from v) in omega arith), l)
+          let l : plus h + less least < plus least + less h = rw (u, v) at b in (
+            counts-other by c h r (λ e. let k : plus h + less from < plus from + less h = subst (λ (z : ℤ). plus z + less from < plus from + less z) e
+                (lt-parts (group by (r .note)) from v) in omega arith),
+            l,
+          )
       | failed v ↦ elim (outcome (leZ least (group by (r .note)))) [
         | passed w ↦
-            let l : plus h + less least < plus least + less h = rw (u, v, w) at b in
-            (counts-other by c h r (λ e. let k : plus least + less h ≤ plus h + less least = subst (λ (z : ℤ). plus least + less z ≤ plus z + less least) e (le-parts least (group by (r .note)) w) in omega arith), l)
+            let l : plus h + less least < plus least + less h = rw (u, v, w) at b in (
+              counts-other by c h r (λ e. let k : plus least + less h ≤ plus h + less least = subst (λ (z : ℤ). plus least + less z ≤ plus z + less least) e
+                  (le-parts least (group by (r .note)) w) in omega arith),
+              l,
+            )
         | failed w ↦
-            let l : plus h + less (group by (r .note)) < plus (group by (r .note)) + less h = rw (u, v, w) at b in
-            (counts-other by c h r (λ e. let k : plus h + less h < plus h + less h = subst (λ (z : ℤ). plus h + less z < plus z + less h) e l in omega arith), omega (arith, nle-parts least (group by (r .note)) w))
+            let l : plus h + less (group by (r .note)) < plus (group by (r .note)) + less h = rw (u, v, w) at b in (
+              counts-other by c h r (λ e. let k : plus h + less h < plus h + less h = subst (λ (z : ℤ). plus h + less z < plus z + less h) e l in omega arith),
+              omega (arith, nle-parts least (group by (r .note)) w),
+            )
       ]
     ]
   ]
@@ -161,7 +170,8 @@ module _ (from : ℤ) (f : ℤ → Option Float) where
         rw (q, parts-le from g l, e)
   ]
 
-  first-none : (n : ℕ) (z : ℤ) → ((h : ℤ) → plus z + less h ≤ plus h + less z → plus h + less z < plus z + less h + n → plus from + less h ≤ plus h + less from → f h ≡ none)
+  first-none : (n : ℕ) (z : ℤ) → ((h : ℤ) → plus z + less h ≤ plus h + less z → plus h + less z < plus z + less h + n → plus from + less h ≤ plus h + less from
+      → f h ≡ none)
       → none ≡ firstEntry from f (numbersFrom n z)
   unfolding firstEntry numbersFrom
   first-none zero z h = refl
@@ -174,7 +184,8 @@ module _ (from : ℤ) (f : ℤ → Option Float) where
 
 -- every group of a note is one of the list, and all of the list are below 501
 module _ (from : ℤ) (f : ℤ → Option Float) where
-  pub next-found : (by : GroupBy) (n : ℤ) → isNote n ≡ true → (d : Float) → f (group by n) ≡ some d → plus from + less (group by n) ≤ plus (group by n) + less from
+  pub next-found : (by : GroupBy) (n : ℤ) → isNote n ≡ true → (d : Float) → f (group by n) ≡ some d
+      → plus from + less (group by n) ≤ plus (group by n) + less from
       → ((h : ℤ) → plus from + less h ≤ plus h + less from → plus h + less (group by n) < plus (group by n) + less h → f h ≡ none)
       → some (group by n, d) ≡ firstEntry from f (groups by)
   unfolding groups group
@@ -182,7 +193,8 @@ module _ (from : ℤ) (f : ℤ → Option Float) where
   next-found NoteLetter n i d e l k = first-found from f (pos (letterOf n)) d e l k 12 (pos 0) (omega arith) (omega (arith, letter-below n))
   next-found Channel n i d e l k = first-found from f (pos 0) d e l k 1 (pos 0) (omega arith) (omega arith)
 
-  pub next-none : (by : GroupBy) → ((h : ℤ) → plus h + 0 < 501 + less h → plus from + less h ≤ plus h + less from → f h ≡ none) → none ≡ firstEntry from f (groups by)
+  pub next-none : (by : GroupBy) → ((h : ℤ) → plus h + 0 < 501 + less h → plus from + less h ≤ plus h + less from → f h ≡ none)
+      → none ≡ firstEntry from f (groups by)
   unfolding groups
   next-none Note k = first-none from f 801 lowestNote (λ h a b c. k h (omega arith) c)
   next-none NoteLetter k = first-none from f 12 (pos 0) (λ h a b c. k h (omega arith) c)
@@ -227,17 +239,20 @@ module _ (by : GroupBy) (c : ℕ) (from : ℤ) (rs : List KeyRecord) (b : Bool) 
       go true q u =
           let n = noted by c least d rs u in
           let low : plus from + less least ≤ plus least + less from = elim (attained by c from (pos 501) rs) [
-            | inl k ↦ absurd (let w : least ≡ pos 501 = k in let i = bounds least (subst (λ (z : ℤ). isNote z ≡ true) (n .2) (group-note by (n .0) (n .1))) in let z : ⊥ = omega (arith, i, ap plus w) in z)
+            | inl k ↦ absurd (let w : least ≡ pos 501 = k in let i = bounds least (subst (λ (z : ℤ). isNote z ≡ true) (n .2) (group-note by (n .0) (n .1))) in
+                let z : ⊥ = omega (arith, i, ap plus w) in z)
             | inr h ↦ h .0
           ] in
           subst (λ (z : ℤ). some (z, d) ≡ firstEntry from entries (groups by)) (n .2)
-          (next-found from entries by (n .0) (n .1) d (subst (λ (z : ℤ). entries z ≡ some d) (sym (n .2)) e) (subst (λ (z : ℤ). plus from + less z ≤ plus z + less from) (sym (n .2)) low)
+          (next-found from entries by (n .0) (n .1) d (subst (λ (z : ℤ). entries z ≡ some d) (sym (n .2)) e)
+          (subst (λ (z : ℤ). plus from + less z ≤ plus z + less from) (sym (n .2)) low)
           (λ h a k. none-before h a (subst (λ (z : ℤ). plus h + less z < plus z + less h) (n .2) k)))
 
   pub entry-lost : entries least ≡ none → none ≡ firstEntry from entries (groups by)
   entry-lost e = next-none from entries by (go b refl e)
     where
-      go : (t : Bool) → b ≡ t → cond t (highest by c least rs) none ≡ none → (h : ℤ) → plus h + 0 < 501 + less h → plus from + less h ≤ plus h + less from → entries h ≡ none
+      go : (t : Bool) → b ≡ t → cond t (highest by c least rs) none ≡ none → (h : ℤ) → plus h + 0 < 501 + less h → plus from + less h ≤ plus h + less from
+          → entries h ≡ none
       go false q u h a k = rw q
       go true q u h a k = elim (attained by c from (pos 501) rs) [
         | inl w ↦ none-before h k (omega (arith, ap plus w, ap less w))

@@ -18,7 +18,8 @@ use Rattle.plans.specs.Walk.{latest, accepts, takes, next, here, later, 
 use Rattle.channels.proofs.ListLaws.{outcome, passed, failed, T→true, true→T, not-false, at-member, own-image, Each-image, map-same, Each-map, Pairwise}
 use Rattle.plans.specs.PlanLists.{keys}
 use Rattle.plans.proofs.Rising.{UpTo, Sorted, Other, absent}
-use Rattle.plans.proofs.Sweep.{numberOf, beyond, takes-is, latest-other, latest-taken, latest-left, here-yes, here-no, later-yes, later-no, Each-here, both-Each, Pairwise-later, fewer}
+use Rattle.plans.proofs.Sweep.{numberOf, beyond, takes-is, latest-other, latest-taken, latest-left, here-yes, here-no, later-yes, later-no, Each-here}
+use Rattle.plans.proofs.Sweep.{both-Each, Pairwise-later, fewer}
 use Rattle.plans.specs.PlanInternal.{Accepted}
 use Rattle.plans.proofs.Plan.{channel, sorted, different, enough, below-count, used}
 
@@ -109,7 +110,8 @@ module _ (kind : GroupBy) where
   abbrev Agrees : List Line → List Line → List Line → List Line → Type 0
   Agrees w before taken left = (g : ℤ) → Agree w (mark kind g before) (latest kind g taken) (mark kind g left)
 
-  agrees-next : (x : Line) (w before taken left : List Line) → Each (UpTo x) w → Agrees (x ∷ w) before taken left → Agrees w (x ∷ before) (next kind taken x) (leaves taken left x)
+  agrees-next : (x : Line) (w before taken left : List Line) → Each (UpTo x) w → Agrees (x ∷ w) before taken left
+      → Agrees w (x ∷ before) (next kind taken x) (leaves taken left x)
   agrees-next x w before taken left u h g = elim (outcome (ofGroup kind g x)) [
     | passed e ↦ elim (outcome (takes kind taken x)) [
       | passed t ↦ rw (e, t, latest-taken kind g taken x e t) (agree-taken x (h g) u (sym (takes-is kind g taken x e) ∙ t))
@@ -137,7 +139,8 @@ module _ (kind : GroupBy) where
         | passed e ↦ elim (outcome (takes kind taken x)) [
           | passed t ↦ rw (here-yes kind taken x w t, e) (r ∙ rw t)
           | failed t ↦
-              let z : member k (keys (here kind (next kind taken x) w)) ≡ false = subst (λ (j : ℕ). member j (keys (here kind (next kind taken x) w)) ≡ false) (eqb→eq (x .key) k (true→T e)) (absent x (here kind (next kind taken x) w) (Each-here kind (Other x) (next kind taken x) w (a .0))) in
+              let z : member k (keys (here kind (next kind taken x) w)) ≡ false = subst (λ (j : ℕ). member j (keys (here kind (next kind taken x) w)) ≡ false)
+              (eqb→eq (x .key) k (true→T e)) (absent x (here kind (next kind taken x) w) (Each-here kind (Other x) (next kind taken x) w (a .0))) in
               rw (here-no kind taken x w t, later-no kind taken x w t, e, z) (r ∙ rw t)
         ]
         | failed e ↦
@@ -179,7 +182,8 @@ module _ (kind : GroupBy) where
   numbers-are before [] a = refl
   numbers-are before (x ∷ w) a =
       rw (numbers-are (x ∷ before) w (a .1), T→true (eqb (x .key) (x .key)) (eqb-refl (x .key)))
-      (ap (λ (l : List ℕ). numberOfNext kind before x ∷ l) (map-same (λ (l : Line). find kind (l .key) (x ∷ before) w) (λ (l : Line). find kind (l .key) before (x ∷ w)) w (Each-map (λ y d. rw d) w (a .0))))
+      (ap (λ (l : List ℕ). numberOfNext kind before x ∷ l)
+      (map-same (λ (l : Line). find kind (l .key) (x ∷ before) w) (λ (l : Line). find kind (l .key) before (x ∷ w)) w (Each-map (λ y d. rw d) w (a .0))))
 
 -- ---- the largest number
 top-le : (m : ℕ) (l : List ℕ) → Each (λ (n : ℕ). n < m) l → top l ≤ m
@@ -207,7 +211,9 @@ module _ (kind : GroupBy) (lines : List Line) (ok : Accepted lines) where
   pub one-pass-count : top (numbers kind [] (rising lines)) ≡ count kind lines
   one-pass-count =
       let c = map (λ (l : Line). channel kind lines (l .key)) (rising lines) in
-      rw one-pass (eq (top c) (count kind lines) (top-le (count kind lines) c (Each-image (λ (n : ℕ). n < count kind lines) (λ (l : Line). channel kind lines (l .key)) (rising lines) (below-count kind lines ok)))
+      rw one-pass (eq (top c) (count kind lines)
+      (top-le (count kind lines) c (Each-image (λ (n : ℕ). n < count kind lines) (λ (l : Line). channel kind lines (l .key)) (rising lines)
+      (below-count kind lines ok)))
       (λ m h. at-member (λ (n : ℕ). n < top c) c (top-ge c) m (used kind lines ok m h)))
     where
       eq : (t n : ℕ) → t ≤ n → ((m : ℕ) → m < n → m < t) → t ≡ n

@@ -89,7 +89,8 @@ pub record Pass (by : GroupBy) (all : List Line) (cells : List ℕ) (latest : Li
   pub ahead : Each (λ (l : Line). find by (l .key) [] all ≡ find by (l .key) done rest) rest
   pub placed : Each (λ (l : Line). placeOf (getD cells (l .key) 0) ≡ some (placeIn by all l)) done
   pub noted : Each (λ (l : Line). noteOf (getD cells (l .key) 0) ≡ l .note) rest
-  pub out : (k : ℕ) → Each (λ (l : Line). eqb (l .key) k ≡ false) done → Each (λ (l : Line). eqb (l .key) k ≡ false) rest → isNote (noteOf (getD cells k 0)) ≡ false
+  pub out : (k : ℕ) → Each (λ (l : Line). eqb (l .key) k ≡ false) done → Each (λ (l : Line). eqb (l .key) k ≡ false) rest
+      → isNote (noteOf (getD cells k 0)) ≡ false
   pub counted : top (numbers by [] all) ≡ max n (top (numbers by done rest))
   pub fresh : Each (λ (l : Line). Each (Other l) rest) done
   pub apart : Pairwise Other rest
@@ -104,10 +105,12 @@ module _ (by : GroupBy) (all : List Line) (cells : List ℕ) (latest : List Floa
   module _ (p : Pass by all cells latest used n i (x ∷ rest)) (note : isNote (x .note) ≡ true) where
     -- the channels that the group uses with x
     pub next-is : channelsWith (getD used at 0) (getD latest at nan) (x .detuning) ≡ suc (numberOfNext by (p .done) x)
-    next-is = channels-are (mark by (group by (x .note)) (p .done)) (getD used at 0) (getD latest at nan) (x .detuning) (p .tables (group by (x .note)) (group-note by (x .note) note))
+    next-is = channels-are (mark by (group by (x .note)) (p .done)) (getD used at 0) (getD latest at nan) (x .detuning)
+        (p .tables (group by (x .note)) (group-note by (x .note) note))
 
     pub used-few : getD used at 0 ≤ i
-    used-few = subst (λ (j : ℕ). getD used at 0 ≤ j) (p .reached) (mark-below by (group by (x .note)) (p .done) (getD used at 0) (getD latest at nan) (p .tables (group by (x .note)) (group-note by (x .note) note)))
+    used-few = subst (λ (j : ℕ). getD used at 0 ≤ j) (p .reached)
+        (mark-below by (group by (x .note)) (p .done) (getD used at 0) (getD latest at nan) (p .tables (group by (x .note)) (group-note by (x .note) note)))
 
     abbrev c : ℕ
     c = numberOfNext by (p .done) x
@@ -118,17 +121,26 @@ module _ (by : GroupBy) (all : List Line) (cells : List ℕ) (latest : List Floa
     tables-own : Agrees (mark by gx (x ∷ p .done)) (getD (set used at (suc c)) at 0) (getD (set latest at (x .detuning)) at nan)
     tables-own =
         let b : at < 801 = slot-below gx (group-note by (x .note) note) in
-        rw (own-group by x, getD-set-same used at (suc c) 0 (omega (arith, p .used-long)), getD-set-same latest at (x .detuning) nan (omega (arith, p .latest-long))) (refl, refl)
+        rw (
+          own-group by x,
+          getD-set-same used at (suc c) 0 (omega (arith, p .used-long)),
+          getD-set-same latest at (x .detuning) nan
+              (omega (arith, p .latest-long)),
+        ) (refl, refl)
 
-    tables-next : (g : ℤ) → isNote g ≡ true → Agrees (mark by g (x ∷ p .done)) (getD (set used at (suc c)) (slotOf g) 0) (getD (set latest at (x .detuning)) (slotOf g) nan)
+    tables-next : (g : ℤ) → isNote g ≡ true
+        → Agrees (mark by g (x ∷ p .done)) (getD (set used at (suc c)) (slotOf g) 0) (getD (set latest at (x .detuning)) (slotOf g) nan)
     tables-next g h = elim (outcome (ofGroup by g x)) [
-      | passed e ↦ subst (λ (i : ℤ). Agrees (mark by i (x ∷ p .done)) (getD (set used at (suc c)) (slotOf i) 0) (getD (set latest at (x .detuning)) (slotOf i) nan)) (group-of by g x e) tables-own
+      | passed e ↦ subst (λ (i : ℤ). Agrees (mark by i (x ∷ p .done)) (getD (set used at (suc c)) (slotOf i) 0)
+          (getD (set latest at (x .detuning)) (slotOf i) nan)) (group-of by g x e) tables-own
       | failed e ↦
-          let ne : (slotOf g ≡ at → ⊥) = λ u. not-false e (true→T (subst (λ (i : ℤ). ofGroup by i x ≡ true) (sym (slot-one g gx h (group-note by (x .note) note) u)) (own-group by x))) in
+          let ne : (slotOf g ≡ at → ⊥) = λ u. not-false e
+          (true→T (subst (λ (i : ℤ). ofGroup by i x ≡ true) (sym (slot-one g gx h (group-note by (x .note) note) u)) (own-group by x))) in
           rw (e, getD-set-other used at (slotOf g) (suc c) 0 ne, getD-set-other latest at (slotOf g) (x .detuning) nan ne) (p .tables g h)
     ]
 
-    ahead-next : (l : List Line) → Each (Other x) l → Each (λ (y : Line). find by (y .key) [] all ≡ find by (y .key) (p .done) (x ∷ rest)) l → Each (λ (y : Line). find by (y .key) [] all ≡ find by (y .key) (x ∷ p .done) rest) l
+    ahead-next : (l : List Line) → Each (Other x) l → Each (λ (y : Line). find by (y .key) [] all ≡ find by (y .key) (p .done) (x ∷ rest)) l
+        → Each (λ (y : Line). find by (y .key) [] all ≡ find by (y .key) (x ∷ p .done) rest) l
     unfolding find
     ahead-next [] o h = tt
     ahead-next (y ∷ l) o h = (h .0 ∙ rw (o .0), ahead-next l (o .1) (h .1))
@@ -143,12 +155,14 @@ module _ (by : GroupBy) (all : List Line) (cells : List ℕ) (latest : List Floa
     kept-at : (cell k : ℕ) → eqb (x .key) k ≡ false → getD (set cells (x .key) cell) k 0 ≡ getD cells k 0
     kept-at cell k h = getD-set-other cells (x .key) k cell 0 (differs k h)
 
-    placed-next : (cell : ℕ) (d : List Line) → Each (λ (l : Line). Each (Other l) (x ∷ rest)) d → Each (λ (l : Line). placeOf (getD cells (l .key) 0) ≡ some (placeIn by all l)) d
+    placed-next : (cell : ℕ) (d : List Line) → Each (λ (l : Line). Each (Other l) (x ∷ rest)) d
+        → Each (λ (l : Line). placeOf (getD cells (l .key) 0) ≡ some (placeIn by all l)) d
         → Each (λ (l : Line). placeOf (getD (set cells (x .key) cell) (l .key) 0) ≡ some (placeIn by all l)) d
     placed-next cell [] f h = tt
     placed-next cell (l ∷ d) f h = (ap placeOf (kept-at cell (l .key) (other-sym l x (f .0 .0))) ∙ h .0, placed-next cell d (f .1) (h .1))
 
-    noted-next : (cell : ℕ) (d : List Line) → Each (Other x) d → Each (λ (l : Line). noteOf (getD cells (l .key) 0) ≡ l .note) d → Each (λ (l : Line). noteOf (getD (set cells (x .key) cell) (l .key) 0) ≡ l .note) d
+    noted-next : (cell : ℕ) (d : List Line) → Each (Other x) d → Each (λ (l : Line). noteOf (getD cells (l .key) 0) ≡ l .note) d
+        → Each (λ (l : Line). noteOf (getD (set cells (x .key) cell) (l .key) 0) ≡ l .note) d
     noted-next cell [] f h = tt
     noted-next cell (l ∷ d) f h = (ap noteOf (kept-at cell (l .key) (f .0)) ∙ h .0, noted-next cell d (f .1) (h .1))
 
@@ -162,7 +176,8 @@ module _ (by : GroupBy) (all : List Line) (cells : List ℕ) (latest : List Floa
       tables = tables-next;
       ahead = ahead-next rest (p .apart .0) (p .ahead .1);
       placed = (
-        ap placeOf (getD-set-same cells (x .key) cell 0 (omega (arith, p .cells-long))) ∙ found ∙ ap (λ (j : ℕ). some (record { channel = channelOf j; note = x .note })) (sym own-find),
+        ap placeOf (getD-set-same cells (x .key) cell 0 (omega (arith, p .cells-long))) ∙ found
+            ∙ ap (λ (j : ℕ). some (record { channel = channelOf j; note = x .note })) (sym own-find),
         placed-next cell (p .done) (p .fresh) (p .placed),
       );
       noted = noted-next cell rest (p .apart .0) (p .noted .1);
@@ -176,11 +191,13 @@ module _ (by : GroupBy) (all : List Line) (cells : List ℕ) (latest : List Floa
     }
 
     -- the same of what the code leaves
-    pub pass-next : x .key < keyCount → (r : ℕ) (cells' : List ℕ) (latest' : List Float) (used' : List ℕ) → Placed by (x .key) (x .detuning) r cells latest used cells' latest' used' → (m : ℕ) → m ≡ max n r
+    pub pass-next : x .key < keyCount → (r : ℕ) (cells' : List ℕ) (latest' : List Float) (used' : List ℕ)
+        → Placed by (x .key) (x .detuning) r cells latest used cells' latest' used' → (m : ℕ) → m ≡ max n r
         → Pass by all cells' latest' used' m (i + 1) rest
     pass-next byte r cells' latest' used' q m counts =
         let e : noteOf (getD cells (x .key) 0) ≡ x .note = p .noted .0 in
-        let r-is : r ≡ suc c = q .channels-are ∙ ap (λ (z : ℤ). channelsWith (getD used (slotOf (group by z)) 0) (getD latest (slotOf (group by z)) nan) (x .detuning)) e ∙ next-is in
+        let r-is : r ≡ suc c = q .channels-are
+        ∙ ap (λ (z : ℤ). channelsWith (getD used (slotOf (group by z)) 0) (getD latest (slotOf (group by z)) nan) (x .detuning)) e ∙ next-is in
         let lower : r - 1 ≡ c = omega arith in
         rw (q .cells-are, q .latest-is, q .used-is, e, r-is)
         (pass-one byte m (counts ∙ ap (max n) r-is) (q .cell) (q .cell-is ∙ λ j. some (record { channel = channelOf (lower j); note = e j })))
@@ -198,7 +215,8 @@ module _ (by : GroupBy) (all : List Line) (ok : Accepted all) (ordered : rising 
     abbrev rec : ℕ → KeyRecord
     rec k = getD (recordsOf cells ds) k nobody
 
-    parts : (l : Line) → placeOf (getD cells (l .key) 0) ≡ some (placeIn by all l) → (rec (l .key) .channel ≡ channelOf (find by (l .key) [] all)) × (rec (l .key) .note ≡ l .note)
+    parts : (l : Line) → placeOf (getD cells (l .key) 0) ≡ some (placeIn by all l) → (rec (l .key) .channel ≡ channelOf (find by (l .key) [] all))
+        × (rec (l .key) .note ≡ l .note)
     parts l h =
         let q = place-parts (getD cells (l .key) 0) (placeIn by all l) h in
         let e = records-at cells ds (l .key) same in
@@ -215,7 +233,8 @@ module _ (by : GroupBy) (all : List Line) (ok : Accepted all) (ordered : rising 
       channels-seated few l (m .1) (b .1) (h .1) (k .1),
     )
 
-    pub pass-ends : length cells ≡ keyCount → Each (λ (l : Line). getD ds (l .key) nan ≡ l .detuning) all → (latest : List Float) (used : List ℕ) (n i : ℕ) → Pass by all cells latest used n i [] → Seats by all (recordsOf cells ds) n
+    pub pass-ends : length cells ≡ keyCount → Each (λ (l : Line). getD ds (l .key) nan ≡ l .detuning) all → (latest : List Float) (used : List ℕ) (n i : ℕ)
+        → Pass by all cells latest used n i [] → Seats by all (recordsOf cells ds) n
     pass-ends long detuned latest used n i p =
         let placed = rw (← p .whole) at (Each-onto (λ (l : Line). placeOf (getD cells (l .key) 0) ≡ some (placeIn by all l)) (p .done) [] (p .placed) tt) in
         let counted = subst (λ (w : List Line). top (numbers by [] w) ≡ count by all) ordered (one-pass-count by all ok) in
@@ -226,7 +245,8 @@ module _ (by : GroupBy) (all : List Line) (ok : Accepted all) (ordered : rising 
           channel-is = λ few. channels-seated (omega (arith, n-is)) all (own-image (λ (l : Line). l .key) all) below (seated-lines by all ok) placed;
           note-is = Each-map (λ l e. parts l e .1) all placed;
           detuning-is = Each-map (λ l e. ap (λ (r : KeyRecord). r .detuning) (records-at cells ds (l .key) same) ∙ e) all detuned;
-          no-other = λ k h. is-out k (p .out k (onto-Each (λ (l : Line). eqb (l .key) k ≡ false) (p .done) [] (subst (Each (λ (l : Line). eqb (l .key) k ≡ false)) (p .whole) h)) tt);
+          no-other = λ k h. is-out k (p .out k
+              (onto-Each (λ (l : Line). eqb (l .key) k ≡ false) (p .done) [] (subst (Each (λ (l : Line). eqb (l .key) k ≡ false)) (p .whole) h)) tt);
           long = records-long cells ds same ∙ long;
         }
       where

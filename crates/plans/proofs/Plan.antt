@@ -16,7 +16,9 @@ use Rattle.plans.specs.Line.{Line, ofGroup, joins, rising}
 use Rattle.plans.specs.Walk.{walk, count, channels}
 use Rattle.plans.specs.PlanInternal.{Accepted}
 use Rattle.plans.specs.Placing.{Placing, together, Joined, InOrder, uses, Best, NoneFits}
-use Rattle.channels.proofs.ListLaws.{outcome, passed, failed, T→true, true→T, not-false, Each-map, Each-keep, Each-image, own-image, map-same, within, once-within, once-new, once-cons, once-exact, Pairwise, Pairwise-keep, keep-yes, keep-no, keep-same, keep-keep, keep-swap}
+use Rattle.channels.proofs.ListLaws.{outcome, passed, failed, T→true, true→T, not-false, Each-map, Each-keep, Each-image, own-image, map-same, within}
+use Rattle.channels.proofs.ListLaws.{once-within, once-new, once-cons, once-exact, Pairwise, Pairwise-keep, keep-yes, keep-no, keep-same, keep-keep}
+use Rattle.channels.proofs.ListLaws.{keep-swap}
 use Rattle.plans.proofs.Joins.{joins-mono}
 use Rattle.plans.proofs.Rising.{UpTo, Sorted, Other, Each-rising, rising-Each, length-rising, rising-keep, rising-sorted, rising-apart, distinct-apart}
 use Rattle.plans.proofs.Sweep.{numberOf, runs, fullest, channels-steps, channels-full, channels-are, channels-below}
@@ -85,10 +87,12 @@ kept-member p c (y ∷ l) x k e = elim (outcome (on p c y)) [
 
 -- the used numbers, over the lines in any order
 same-lines : (p : Placing) (lines : List Line) → Each (λ (l : Line). T (member (p (l .key)) (map (λ (k : Line). p (k .key)) lines))) (rising lines)
-same-lines p lines = Each-rising (λ (l : Line). T (member (p (l .key)) (map (λ (k : Line). p (k .key)) lines))) lines (own-image (λ (l : Line). p (l .key)) lines)
+same-lines p lines = Each-rising (λ (l : Line). T (member (p (l .key)) (map (λ (k : Line). p (k .key)) lines))) lines
+    (own-image (λ (l : Line). p (l .key)) lines)
 
 member-rising : (p : Placing) (lines : List Line) (c : ℕ) → T (member c (map (number p) (rising lines))) → T (member c (map (number p) lines))
-member-rising p lines c t = within (map (number p) lines) (map (number p) (rising lines)) (Each-image (λ (n : ℕ). T (member n (map (number p) lines))) (number p) (rising lines) (same-lines p lines)) c t
+member-rising p lines c t = within (map (number p) lines) (map (number p) (rising lines))
+    (Each-image (λ (n : ℕ). T (member n (map (number p) lines))) (number p) (rising lines) (same-lines p lines)) c t
 
 module _ (kind : GroupBy) (lines : List Line) (ok : Accepted lines) where
   pub sorted : Sorted (rising lines)
@@ -118,7 +122,8 @@ module _ (kind : GroupBy) (lines : List Line) (ok : Accepted lines) where
       le-trans (runs-least p s (Pairwise-keep UpTo (ofGroup kind g) (rising lines) sorted) (group-steps p h g))
       (once-within (map (number p) s) (map (number p) lines)
       (within (map (number p) lines) (map (number p) s)
-      (Each-image (λ (n : ℕ). T (member n (map (number p) lines))) (number p) s (Each-keep (λ (l : Line). T (member (number p l) (map (number p) lines))) (ofGroup kind g) (rising lines) (same-lines p lines)))))
+      (Each-image (λ (n : ℕ). T (member n (map (number p) lines))) (number p) s
+      (Each-keep (λ (l : Line). T (member (number p l) (map (number p) lines))) (ofGroup kind g) (rising lines) (same-lines p lines)))))
 
   least : (p : Placing) → InOrder kind lines p → count kind lines ≤ uses lines p
   unfolding count walk
@@ -151,7 +156,10 @@ module _ (kind : GroupBy) (lines : List Line) (ok : Accepted lines) where
 
   exact : uses lines (channel kind lines) ≡ count kind lines
   unfolding uses
-  exact = once-exact (map (number (channel kind lines)) lines) (count kind lines) (Each-image (λ (n : ℕ). n < count kind lines) (number (channel kind lines)) lines (rising-Each (λ (l : Line). channel kind lines (l .key) < count kind lines) lines below-count)) (λ c h. member-rising (channel kind lines) lines c (used c h))
+  exact = once-exact (map (number (channel kind lines)) lines) (count kind lines)
+      (Each-image (λ (n : ℕ). n < count kind lines) (number (channel kind lines)) lines
+      (rising-Each (λ (l : Line). channel kind lines (l .key) < count kind lines) lines below-count))
+      (λ c h. member-rising (channel kind lines) lines c (used c h))
 
   -- The walk's placing is in order and uses exactly the count, and no placing in order uses fewer.
   pub walk-best : Best kind lines (count kind lines) (channel kind lines)
@@ -176,7 +184,8 @@ module _ (kind : GroupBy) (lines : List Line) (ok : Accepted lines) where
 -- ---- Demand 3
 
 -- Where a best placing uses n channels, n is more than are present exactly when no placing in order fits.
-pub more-than-present : (kind : GroupBy) (lines : List Line) (n : ℕ) (p : Placing) → Best kind lines n p → (present : ℕ) → (present < n) ↔ NoneFits kind lines present
+pub more-than-present : (kind : GroupBy) (lines : List Line) (n : ℕ) (p : Placing) → Best kind lines n p → (present : ℕ)
+    → (present < n) ↔ NoneFits kind lines present
 more-than-present kind lines n p b present = (
   λ h q o f. not-le-of-lt h (le-trans (b .least q o) f),
   λ no. lt-of-not-le λ h. no p (b .inOrder) (subst (λ (m : ℕ). m ≤ present) (sym (b .exact)) h),

@@ -2,13 +2,12 @@
 use Prim.Native.Nat.{ℕ, zero, suc, _+_, _*_, _%_, _≤_, _<_, min}
 use mathlib.Core.Path.{_≡_, refl, sym, ap, _∙_, subst}
 use mathlib.Core.Bool.{Bool, true, false, cond}
-use mathlib.Core.List.{List, [], _∷_, map}
+use mathlib.Core.List.{List, _∷_, map}
 use mathlib.Core.Option.{Option, some, none}
 use native.Mathlib.Nat.{mod-eq-of-lt, mul-pos, zero-mul}
 use native.Mathlib.Omega.{arith}
 use borrow.Author.Tests.{ltb-true, ltb-false, lt-ltb}
 use lib.Dec.{T, eqb, ltb, eqb→eq, ltb→lt}
-use lib.IntN.{ℤ, pos, negsuc}
 use lib.Ieee.{Float, nan, inf, fin, binary64, fits, isNan, ofBits, toBits, nanBits, lt, up, down}
 use lib.Ieee.Fits.{up-pos}
 use lib.Ieee.Bits.{ofBits-toBits, nanBits-is}
@@ -96,7 +95,8 @@ zero-below nan p = absurd p
 zero-below (inf s) p = absurd p
 zero-below (fin true m e) p = absurd p
 zero-below (fin false m e) p =
-    lt-ltb (0 * down e) (m * up e * 1) (subst (λ (n : ℕ). n < m * up e * 1) (sym (zero-mul (down e))) (mul-pos (mul-pos (ltb→lt 0 m p) (up-pos e)) (omega arith)))
+    lt-ltb (0 * down e) (m * up e * 1)
+    (subst (λ (n : ℕ). n < m * up e * 1) (sym (zero-mul (down e))) (mul-pos (mul-pos (ltb→lt 0 m p) (up-pos e)) (omega arith)))
 
 pub stored-positive : (d : Float) → T (positive d) → stored d ≡ d
 unfolding stored
@@ -134,12 +134,20 @@ module _ (l : List ℕ) (long : length l ≡ planCellCount) (n t : ℕ) where
   put-record : (k : ℕ) → k < keyCount → recordAt put k ≡ recordAt l k
   unfolding recordAt
   put-record k h =
-      rw (put-other k (λ e. let z : ⊥ = omega arith in z) (λ e. let z : ⊥ = omega arith in z), put-other (keyCount + k) (λ e. let z : ⊥ = omega arith in z) (λ e. let z : ⊥ = omega arith in z))
+      rw (
+        put-other k (λ e. let z : ⊥ = omega arith in z) (λ e. let z : ⊥ = omega arith in z),
+        put-other (keyCount + k) (λ e. let z : ⊥ = omega arith in z)
+            (λ e. let z : ⊥ = omega arith in z),
+      )
 
   put-list : listAt put ≡ listAt l
   unfolding listAt
   put-list =
-      rw (put-other planSettings (λ e. let z : ⊥ = omega arith in z) (λ e. let z : ⊥ = omega arith in z), put-other (planSettings + 1) (λ e. let z : ⊥ = omega arith in z) (λ e. let z : ⊥ = omega arith in z))
+      rw (
+        put-other planSettings (λ e. let z : ⊥ = omega arith in z) (λ e. let z : ⊥ = omega arith in z),
+        put-other (planSettings + 1)
+            (λ e. let z : ⊥ = omega arith in z) (λ e. let z : ⊥ = omega arith in z),
+      )
 
   put-group : groupByAt put ≡ groupByAt l
   unfolding groupByAt
@@ -253,14 +261,16 @@ module _ (l : List ℕ) (long : length l ≡ planCellCount) (i cell bits : ℕ) 
       let c : cell % 65536 ≡ cell = mod-eq-of-lt {n = cell} {m = 65536} small in
       rw (a, b, c)
 
-  pub key-more : (f : ℕ → KeyRecord) → cell < 65536 → recordOf cell (detuningOf bits) ≡ f i → ((k : ℕ) → k < i → recordAt l k ≡ f k) → (k : ℕ) → k < i + 1 → recordAt withKey k ≡ f k
+  pub key-more : (f : ℕ → KeyRecord) → cell < 65536 → recordOf cell (detuningOf bits) ≡ f i → ((k : ℕ) → k < i → recordAt l k ≡ f k) → (k : ℕ) → k < i + 1
+      → recordAt withKey k ≡ f k
   key-more f small e all k p = elim (outcome (eqb k i)) [
     | passed u ↦ let q : k ≡ i = eqb→eq k i (true→T u) in rw q (key-here small ∙ e)
     | failed u ↦ key-other k (omega arith) (differs k i u) ∙ all k (omega (arith, differs k i u))
   ]
 
 -- no plan
-pub cleared : (cs : List ℕ) (by : GroupBy) (n : ℕ) (rs : List KeyRecord) → n ≡ length cs → n ≤ 16 → AllOut rs → modelWith cs by false (n % 65536) rs ≡ empty cs by
+pub cleared : (cs : List ℕ) (by : GroupBy) (n : ℕ) (rs : List KeyRecord) → n ≡ length cs → n ≤ 16 → AllOut rs
+    → modelWith cs by false (n % 65536) rs ≡ empty cs by
 unfolding detuningIn
 cleared cs by n rs e few out =
     same-model (modelWith cs by false (n % 65536) rs) (empty cs by) refl refl refl (mod-eq-of-lt {n = n} {m = 65536} (omega arith) ∙ e) (no-keys rs out)
@@ -297,7 +307,8 @@ module _ (by : GroupBy) (lines : List Line) (ok : Accepted lines) (cells : List 
     | failed u ↦ rw (List·getD-eq-default (recordsAt l) nobody {n = k} (omega (arith, records-count l, ltb-false k keyCount u))) nobody-out
   ]
 
-  detuning-stored : (k : ℕ) → k < keyCount → (d : Float) → T (positive d) → getD (recordsOf cells ds) k nobody .detuning ≡ d → getD (recordsAt l) k nobody .detuning ≡ d
+  detuning-stored : (k : ℕ) → k < keyCount → (d : Float) → T (positive d) → getD (recordsOf cells ds) k nobody .detuning ≡ d
+      → getD (recordsAt l) k nobody .detuning ≡ d
   detuning-stored k h d p e =
       ap (λ (r : KeyRecord). r .detuning) (stored-at k h)
       ∙ ap stored (ap (λ (r : KeyRecord). r .detuning) (sym (planned-at k)) ∙ e)
@@ -310,7 +321,8 @@ module _ (by : GroupBy) (lines : List Line) (ok : Accepted lines) (cells : List 
         zip (λ x b e. e ∙ ap (λ (c : ℕ). some (c, x .note)) (channel-stored (x .key) b)) lines (ok .bytes) (s .channel-is few);
     note-is = zip (λ x b e. note-stored (x .key) b ∙ e) lines (ok .bytes) (s .note-is);
     detuning-is =
-        zip (λ x b (q : T (positive (x .detuning)) × (getD (recordsOf cells ds) (x .key) nobody .detuning ≡ x .detuning)). detuning-stored (x .key) b (x .detuning) (q .0) (q .1)) lines (ok .bytes)
+        zip (λ x b (q : T (positive (x .detuning)) × (getD (recordsOf cells ds) (x .key) nobody .detuning ≡ x .detuning)). detuning-stored (x .key) b
+        (x .detuning) (q .0) (q .1)) lines (ok .bytes)
         (zip (λ x p e. (p, e)) lines (ok .detunings) (s .detuning-is));
     no-other = λ k o. in-stored k (s .no-other k o);
     long = records-count l;
@@ -328,7 +340,8 @@ module _ (l m : List ℕ) (long : length m ≡ planCellCount) (same : SettingsSa
       put-plan m long n 1 ∙ (λ i. modelWith (list-same l m same i) (group-same l m same i) true (mod-eq-of-lt {n = n} {m = 65536} (omega arith) i) rs) in
       (λ i. (
         (stored-plan
-            ∙ same-model (modelWith (listAt l) by true n rs) (holding (planAt l) lines) refl refl refl (s .count-is) (found by lines ok rs n s few) (detuning-entry by lines ok rs n s few)) i,
+            ∙ same-model (modelWith (listAt l) by true n rs) (holding (planAt l) lines) refl refl refl (s .count-is) (found by lines ok rs n s few)
+            (detuning-entry by lines ok rs n s few)) i,
         tuned (s .count-is i),
       ))
       ∙ sym (planned-tuned (planAt l) lines fit)

@@ -39,12 +39,14 @@ module _ (kind : GroupBy) (lines : List Line) (ok : Accepted lines) where
   pub entry-each : (P : Float → Type 0) → Each (λ (l : Line). P (l .detuning)) lines → (c : ℕ) (g : ℤ) (d : Float) → entry kind lines c g ≡ some d → P d
   entry-each P h c g d e = elim (outcome (ltb c (count kind lines))) [
     | passed u ↦
-        go (heard kind lines c g) (heard-each (λ (l : Line). P (l .detuning)) h c g) (heard-each (λ (l : Line). T (positive (l .detuning))) (ok .detunings) c g) (heard-sorted c g)
+        go (heard kind lines c g) (heard-each (λ (l : Line). P (l .detuning)) h c g)
+        (heard-each (λ (l : Line). T (positive (l .detuning))) (ok .detunings) c g) (heard-sorted c g)
         (sym (entry-is kind lines ok c g (ltb-true c (count kind lines) u)) ∙ e)
     | failed u ↦ let k = sym (no-entry kind lines ok c g (ltb-false c (count kind lines) u)) ∙ e in absurd (let z : _≡_ {A = ℕ} 0 1 = cc in omega arith)
   ]
     where
-      go : (l : List Line) → Each (λ (x : Line). P (x .detuning)) l → Each (λ (x : Line). T (positive (x .detuning))) l → Pairwise UpTo l → lastOf none l ≡ some d → P d
+      go : (l : List Line) → Each (λ (x : Line). P (x .detuning)) l → Each (λ (x : Line). T (positive (x .detuning))) l → Pairwise UpTo l
+          → lastOf none l ≡ some d → P d
       go [] q p s u = absurd (let z : _≡_ {A = ℕ} 0 1 = cc in omega arith)
       go (x ∷ l) q p s u =
           let z = largest (λ (y : Line). P (y .detuning)) x l q p s in
@@ -53,14 +55,17 @@ module _ (kind : GroupBy) (lines : List Line) (ok : Accepted lines) where
           subst P same (z .1)
 
 -- ---- the same of the model that planning hands back
-pub planned-each : (m : Model) (lines : List Line) → Accepted lines → (P : Float → Type 0) → Each (λ (l : Line). P (l .detuning)) lines → (c : ℕ) (g : ℤ) (d : Float)
+pub planned-each : (m : Model) (lines : List Line) → Accepted lines → (P : Float → Type 0) → Each (λ (l : Line). P (l .detuning)) lines
+    → (c : ℕ) (g : ℤ) (d : Float)
     → planned m (value lines) .0 .detunings c g ≡ some d → P d
 unfolding planned
 planned-each m lines ok P h c g d e = go (leb (count (m .groupBy) lines) (length (m .channels))) e
   where
-    go : (t : Bool) → cond {A = Model × Answer} t (holding m lines, tuned (count (m .groupBy) lines)) (empty (m .channels) (m .groupBy), untuned (count (m .groupBy) lines)) .0 .detunings c g ≡ some d → P d
+    go : (t : Bool) → cond {A = Model × Answer} t (holding m lines, tuned (count (m .groupBy) lines))
+        (empty (m .channels) (m .groupBy), untuned (count (m .groupBy) lines)) .0 .detunings c g ≡ some d → P d
     go true e = entry-each (m .groupBy) lines ok P h c g d e
     go false e = absurd (let z : _≡_ {A = ℕ} 0 1 = cc in omega arith)
 
-pub planned-positive : (m : Model) (lines : List Line) → Accepted lines → (c : ℕ) (g : ℤ) (d : Float) → planned m (value lines) .0 .detunings c g ≡ some d → T (positive d)
+pub planned-positive : (m : Model) (lines : List Line) → Accepted lines → (c : ℕ) (g : ℤ) (d : Float) → planned m (value lines) .0 .detunings c g ≡ some d
+    → T (positive d)
 planned-positive m lines ok c g d e = planned-each m lines ok (λ (f : Float). T (positive f)) (ok .detunings) c g d e

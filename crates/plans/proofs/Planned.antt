@@ -66,7 +66,8 @@ absent-key k [] h = refl
 absent-key k (x ∷ lines) h = rw (h .0) (absent-key k lines (h .1))
 
 -- What the check of the lists holds is a list that the pass takes.
-pub ready : (kind : GroupBy) (order cells : List ℕ) (ds : List Float) (n : ℕ) (lines : List Line) → Accepted lines → Holds order cells ds n lines → Ready order cells ds n
+pub ready : (kind : GroupBy) (order cells : List ℕ) (ds : List Float) (n : ℕ) (lines : List Line) → Accepted lines → Holds order cells ds n lines
+    → Ready order cells ds n
 ready kind order cells ds n lines ok h = record {
   ok = rw (h .ordered) (rising-accepted lines ok kind);
   ordered = rw (h .ordered) (rising-twice lines ok);
@@ -89,13 +90,15 @@ planned-rising m lines ok =
 
 -- ---- the check of the lists, and the pass behind it
 
-pub ready-if : (by : GroupBy) (o : Outcome (List Line)) (answer : ℕ) (order cells : List ℕ) (ds : List Float) (n : ℕ) → Checked o answer order cells ds n → answer ≡ 0
+pub ready-if : (by : GroupBy) (o : Outcome (List Line)) (answer : ℕ) (order cells : List ℕ) (ds : List Float) (n : ℕ) → Checked o answer order cells ds n
+    → answer ≡ 0
     → Ready order cells ds n
 ready-if by (value lines) answer order cells ds n c e = ready by order cells ds n lines (c .1) (c .2)
 ready-if by (Outcome.refused k) answer order cells ds n c e = absurd (c .1 (sym (c .0) ∙ e))
 
 pub plans : (by : GroupBy) (o : Outcome (List Line)) (answer : ℕ) (order cells : List ℕ) (ds : List Float) (n : ℕ) (p : Planning) (seated : List ℕ)
-    → Checked o answer order cells ds n → p .refusal ≡ answer → (answer ≡ 0 → Seats by (linesOf order cells ds n) (recordsOf seated ds) (p .count)) → Plans by o p seated ds
+    → Checked o answer order cells ds n → p .refusal ≡ answer → (answer ≡ 0 → Seats by (linesOf order cells ds n) (recordsOf seated ds) (p .count))
+    → Plans by o p seated ds
 plans by (value lines) answer order cells ds n p seated c e s =
     (e ∙ c .0, c .1, subst (λ (l : List Line). Seats by l (recordsOf seated ds) (p .count)) (c .2 .ordered) (s (c .0)))
 plans by (Outcome.refused k) answer order cells ds n p seated c e s = (e ∙ c .0, c .1)

@@ -36,7 +36,8 @@ at-each P (x ∷ l) d h (suc i) p = at-each P l d (h .1) i (omega arith)
 
 -- ---- records of cells and detunings
 
-pub records-at : (cells : List ℕ) (ds : List Float) (k : ℕ) → length cells ≡ length ds → getD (recordsOf cells ds) k nobody ≡ recordOf (getD cells k 0) (getD ds k nan)
+pub records-at : (cells : List ℕ) (ds : List Float) (k : ℕ) → length cells ≡ length ds
+    → getD (recordsOf cells ds) k nobody ≡ recordOf (getD cells k 0) (getD ds k nan)
 unfolding recordsOf
 records-at [] [] k e = refl
 records-at [] (d ∷ ds) k e = absurd (let z : ⊥ = omega arith in z)
@@ -60,11 +61,13 @@ pair-of-place : (cell : ℕ) (d : Float) → pairOf (placeOf cell) ≡ cond (isI
 unfolding placeOf isIn
 pair-of-place cell d = go (isNote (noteOf cell))
   where
-    go : (b : Bool) → pairOf (cond b (some (record { channel = channelOf (cell / 1024); note = noteOf cell })) none) ≡ cond b (some (channelOf (cell / 1024), noteOf cell)) none
+    go : (b : Bool) → pairOf (cond b (some (record { channel = channelOf (cell / 1024); note = noteOf cell })) none) ≡ cond b
+        (some (channelOf (cell / 1024), noteOf cell)) none
     go true = refl
     go false = refl
 
-pub key-looked-up : (rs : List KeyRecord) (k cell : ℕ) (d : Float) → getD rs k nobody ≡ recordOf cell d → (r : AccessKeyResult) → place r ≡ placeOf cell → accessAnswer r ≡ keyIn rs k
+pub key-looked-up : (rs : List KeyRecord) (k cell : ℕ) (d : Float) → getD rs k nobody ≡ recordOf cell d → (r : AccessKeyResult) → place r ≡ placeOf cell
+    → accessAnswer r ≡ keyIn rs k
 unfolding keyIn place
 key-looked-up rs k cell d l r e = answer r ∙ ap pairOf e ∙ pair-of-place cell d ∙ rw l
   where
@@ -79,7 +82,8 @@ module _ (by : GroupBy) (c : ℕ) (g : ℤ) (rs : List KeyRecord) (i : ℕ) (d :
       let e : suc (i - 1) ≡ i = omega arith in
       drop-cons rs (i - 1) d (omega arith) ∙ ap (λ (j : ℕ). getD rs (i - 1) d ∷ drop j rs) e
 
-  pub highest-yes : counts by c g (getD rs (i - 1) d) ≡ true → larger (getD rs (i - 1) d .detuning) (highest by c g (drop i rs)) ≡ highest by c g (drop (i - 1) rs)
+  pub highest-yes : counts by c g (getD rs (i - 1) d) ≡ true
+      → larger (getD rs (i - 1) d .detuning) (highest by c g (drop i rs)) ≡ highest by c g (drop (i - 1) rs)
   unfolding highest
   highest-yes e = rw (before-here, e)
 
@@ -119,7 +123,8 @@ in-note t r e = T→true (isNote (r .note)) (and-r t (isNote (r .note)) (true→
 
 -- ---- the least group, from an index on
 module _ (by : GroupBy) (c : ℕ) (from least : ℤ) (rs : List KeyRecord) (i : ℕ) where
-  pub least-next : (d : KeyRecord) → i < length rs → leastFrom by c from least (drop i rs) ≡ leastFrom by c from (lower by c from least (getD rs i d)) (drop (i + 1) rs)
+  pub least-next : (d : KeyRecord) → i < length rs
+      → leastFrom by c from least (drop i rs) ≡ leastFrom by c from (lower by c from least (getD rs i d)) (drop (i + 1) rs)
   unfolding leastFrom
   least-next d h = rw (add-one, drop-cons rs i d h)
 

@@ -38,7 +38,8 @@ own-note (x ∷ t) a = (
   go t (a .0) (own-note t (a .1)),
 )
   where
-    go : (u : List Line) → Each (Other x) u → Each (λ (l : Line). noteOf (l .key) t ≡ some (l .note)) u → Each (λ (l : Line). noteOf (l .key) (x ∷ t) ≡ some (l .note)) u
+    go : (u : List Line) → Each (Other x) u → Each (λ (l : Line). noteOf (l .key) t ≡ some (l .note)) u
+        → Each (λ (l : Line). noteOf (l .key) (x ∷ t) ≡ some (l .note)) u
     go [] o h = tt
     go (l ∷ u) o h = (rw (o .0) (h .0), go u (o .1) (h .1))
 
@@ -80,7 +81,8 @@ module _ (kind : GroupBy) where
       (taken t ts t (own-image (λ (l : Line). l .key) t) (own-note t (Pairwise-here [] (x ∷ w) a)))
       (left t ts u (left-absent [] (x ∷ w) a) (seats n (suc c) u (fewer kind n x w h) (Pairwise-later kind Other [] (x ∷ w) a)))
     where
-      taken : (t : List Line) (ts : List (List Line)) (v : List Line) → Each (λ (l : Line). T (member (l .key) (keys t))) v → Each (λ (l : Line). noteOf (l .key) t ≡ some (l .note)) v
+      taken : (t : List Line) (ts : List (List Line)) (v : List Line) → Each (λ (l : Line). T (member (l .key) (keys t))) v
+          → Each (λ (l : Line). noteOf (l .key) t ≡ some (l .note)) v
           → Each (λ (l : Line). seatFrom (l .key) c (t ∷ ts) ≡ some (c + numberOf (l .key) (t ∷ ts), l .note)) v
       taken t ts [] m e = tt
       taken t ts (l ∷ v) m e = (rw (e .0, T→true (member (l .key) (keys t)) (m .0), add-zero c), taken t ts v (m .1) (e .1))
@@ -109,8 +111,10 @@ module _ (kind : GroupBy) (lines : List Line) (ok : Accepted lines) where
   pub seated-lines : Found (seat kind lines) lines (channel kind lines)
   unfolding seat walk channel
   seated-lines =
-      rising-Each (λ (l : Line). seatFrom (l .key) 0 (channels kind (length lines) (rising lines)) ≡ some (numberOf (l .key) (channels kind (length lines) (rising lines)), l .note)) lines
-      (Each-map (λ l e. e ∙ ap (λ (n : ℕ). some (n, l .note)) (zero-add (numberOf (l .key) (channels kind (length lines) (rising lines))))) (rising lines) (seats kind (length lines) 0 (rising lines) (enough kind lines ok) (different kind lines ok)))
+      rising-Each (λ (l : Line). seatFrom (l .key) 0 (channels kind (length lines) (rising lines)) ≡ some
+      (numberOf (l .key) (channels kind (length lines) (rising lines)), l .note)) lines
+      (Each-map (λ l e. e ∙ ap (λ (n : ℕ). some (n, l .note)) (zero-add (numberOf (l .key) (channels kind (length lines) (rising lines))))) (rising lines)
+      (seats kind (length lines) 0 (rising lines) (enough kind lines ok) (different kind lines ok)))
 
   pub unseated : (k : ℕ) → Each (λ (l : Line). eqb (l .key) k ≡ false) lines → seat kind lines k ≡ none
   unfolding seat walk

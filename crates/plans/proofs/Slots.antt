@@ -30,7 +30,8 @@ pub slot-is : (z : ℤ) → isNote z ≡ true → z -ℤ negsuc 299 ≡ pos (slo
 slot-is z h = Rattle.arithmetic.proofs.Integers.same (z -ℤ negsuc 299) (pos (slotOf z)) (omega (arith, sub-parts-ℤ z (negsuc 299), slot-parts z h))
 
 pub slot-fits : (z : ℤ) → isNote z ≡ true → SFits w32 (z -ℤ negsuc 299)
-slot-fits z h = fits-by w32 (z -ℤ negsuc 299) (plus z + 300) (less z) (omega (arith, sub-parts-ℤ z (negsuc 299))) (omega (arith, bounds z h)) (omega (arith, bounds z h))
+slot-fits z h = fits-by w32 (z -ℤ negsuc 299) (plus z + 300) (less z) (omega (arith, sub-parts-ℤ z (negsuc 299))) (omega (arith, bounds z h))
+    (omega (arith, bounds z h))
 
 pub slot-below : (z : ℤ) → isNote z ≡ true → slotOf z < 801
 slot-below z h = omega (arith, slot-parts z h, bounds z h)

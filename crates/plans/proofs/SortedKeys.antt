@@ -16,7 +16,8 @@ use Rattle.plans.specs.Line.{Line, rising}
 use Rattle.plans.specs.PlanLists.{keyCount, keys}
 use Rattle.channels.specs.Places.{isHeld, noteOf, placeOf}
 use Rattle.plans.specs.PlanInternal.{Accepted, Holds, Rises, Room, lineAt, linesOf, before, putIn}
-use Rattle.channels.proofs.ListLaws.{outcome, passed, failed, true→T, T→false, false→T, not-false, or-left, Each-map, Each-image, at-member, pigeonhole, below, below-length, below-member}
+use Rattle.channels.proofs.ListLaws.{outcome, passed, failed, true→T, T→false, false→T, not-false, or-left, Each-map, Each-image, at-member, pigeonhole}
+use Rattle.channels.proofs.ListLaws.{below, below-length, below-member}
 use Rattle.plans.proofs.Joins.{lt-not-le}
 use Rattle.channels.proofs.RecordNumbers.{place-parts}
 use Rattle.plans.proofs.Rising.{Sorted, append, Each-rising, rising-sorted, rising-snoc}
@@ -54,7 +55,8 @@ keys-snoc [] x = refl
 keys-snoc (y ∷ lines) x = ap (λ (l : List ℕ). y .key ∷ l) (keys-snoc lines x)
 
 -- ---- accepted lists
-pub accepted-snoc : (lines : List Line) (x : Line) → Accepted lines → member (x .key) (keys lines) ≡ false → x .key < keyCount → isNote (x .note) ≡ true → Positive x → T (fits binary64 (x .detuning))
+pub accepted-snoc : (lines : List Line) (x : Line) → Accepted lines → member (x .key) (keys lines) ≡ false → x .key < keyCount → isNote (x .note) ≡ true
+    → Positive x → T (fits binary64 (x .detuning))
     → Accepted (lines ++ (x ∷ []))
 accepted-snoc lines x ok new b n p f = record {
   distinct = rw (keys-snoc lines x) (distinct-snoc (keys lines) (x .key) (ok .distinct) new);
@@ -70,7 +72,9 @@ accepted-nil = record { distinct = tt; bytes = tt; notes = tt; detunings = tt; f
 -- "Lists longer than the keys there are": among 257 lines some key comes twice
 pub accepted-few : (lines : List Line) → Accepted lines → length lines ≤ keyCount
 accepted-few lines ok =
-    let h : length (keys lines) ≤ length (below keyCount) = pigeonhole (keys lines) (below keyCount) (ok .distinct) (λ k m. below-member keyCount k (at-member (λ (j : ℕ). j < keyCount) (keys lines) (Each-image (λ (j : ℕ). j < keyCount) (λ (l : Line). l .key) lines (ok .bytes)) k m)) in
+    let h : length (keys lines) ≤ length (below keyCount) = pigeonhole (keys lines) (below keyCount) (ok .distinct)
+    (λ k m. below-member keyCount k
+    (at-member (λ (j : ℕ). j < keyCount) (keys lines) (Each-image (λ (j : ℕ). j < keyCount) (λ (l : Line). l .key) lines (ok .bytes)) k m)) in
     omega (arith, h, below-length keyCount, length-map lines (λ (l : Line). l .key))
 
 -- ---- a key put in
@@ -105,13 +109,15 @@ pub differs : (y k : ℕ) → eqb y k ≡ false → y ≡ k → ⊥
 differs y k h e = not-false h (subst (λ (j : ℕ). T (eqb y j)) e (eqb-refl y))
 
 module _ (cells : List ℕ) (ds : List Float) (k cell : ℕ) (d : Float) where
-  others-kept : (xs : List ℕ) → Each (λ (l : Line). eqb (l .key) k ≡ false) (map (lineAt cells ds) xs) → map (lineAt (set cells k cell) (set ds k d)) xs ≡ map (lineAt cells ds) xs
+  others-kept : (xs : List ℕ) → Each (λ (l : Line). eqb (l .key) k ≡ false) (map (lineAt cells ds) xs)
+      → map (lineAt (set cells k cell) (set ds k d)) xs ≡ map (lineAt cells ds) xs
   others-kept [] h = refl
   others-kept (y ∷ xs) h =
       let ne = differs y k (h .0) in
       rw (getD-set-other cells k y cell 0 ne, getD-set-other ds k y d nan ne, others-kept xs (h .1))
 
-  les-kept : (x : Float) (xs : List ℕ) → Each (λ (y : ℕ). eqb y k ≡ false) xs → Each (λ (y : ℕ). T (le x (getD ds y nan))) xs → Each (λ (y : ℕ). T (le x (getD (set ds k d) y nan))) xs
+  les-kept : (x : Float) (xs : List ℕ) → Each (λ (y : ℕ). eqb y k ≡ false) xs → Each (λ (y : ℕ). T (le x (getD ds y nan))) xs
+      → Each (λ (y : ℕ). T (le x (getD (set ds k d) y nan))) xs
   les-kept x [] o h = tt
   les-kept x (y ∷ xs) o h = (rw (getD-set-other ds k y d nan (differs y k (o .0))) (h .0), les-kept x xs (o .1) (h .1))
 
@@ -139,7 +145,8 @@ zeros-at zero k = refl
 zeros-at (suc n) zero = refl
 zeros-at (suc n) (suc k) = zeros-at n k
 
-pub holds-none : (order : List ℕ) (ds : List Float) → length order ≡ keyCount → length (zeros keyCount) ≡ keyCount → length ds ≡ keyCount → Holds order (zeros keyCount) ds 0 []
+pub holds-none : (order : List ℕ) (ds : List Float) → length order ≡ keyCount → length (zeros keyCount) ≡ keyCount → length ds ≡ keyCount
+    → Holds order (zeros keyCount) ds 0 []
 unfolding linesOf rising
 holds-none order ds o l e = record {
   ordered = refl;
@@ -154,7 +161,8 @@ holds-none order ds o l e = record {
     none-held = unfold isHeld placeOf noteOf in refl
 
 -- the keys in order make room for another one
-pub room-for : (order cells : List ℕ) (ds : List Float) (n key : ℕ) (lines : List Line) → Holds order cells ds n lines → Accepted lines → member key (keys lines) ≡ false → key < keyCount → n < keyCount
+pub room-for : (order cells : List ℕ) (ds : List Float) (n key : ℕ) (lines : List Line) → Holds order cells ds n lines → Accepted lines
+    → member key (keys lines) ≡ false → key < keyCount → n < keyCount
     → Room order ds n key
 unfolding linesOf
 room-for order cells ds n key lines h ok new b few =
@@ -163,7 +171,8 @@ room-for order cells ds n key lines h ok new b few =
       few = few;
       byte = b;
       bytes = each-keys cells ds (λ (l : Line). l .key < keyCount) (take n order) (over (λ (l : Line). l .key < keyCount) (ok .bytes));
-      others = each-keys cells ds (λ (l : Line). eqb (l .key) key ≡ false) (take n order) (over (λ (l : Line). eqb (l .key) key ≡ false) (others-of key lines new));
+      others = each-keys cells ds (λ (l : Line). eqb (l .key) key ≡ false) (take n order)
+          (over (λ (l : Line). eqb (l .key) key ≡ false) (others-of key lines new));
       rises = sorted-rises cells ds (take n order) (over Positive (ok .detunings)) (rw (h .ordered) (rising-sorted lines (ok .detunings)));
     }
 
@@ -179,7 +188,12 @@ module _ (order order' cells : List ℕ) (ds : List Float) (n cell : ℕ) (x : L
   after = lineAt (set cells k cell) (set ds k (x .detuning))
 
   own : after k ≡ x
-  own = rw (getD-set-same cells k cell 0 (omega (arith, h .cells-long)), getD-set-same ds k (x .detuning) nan (omega (arith, h .detunings-long)), place-parts cell (record { channel = 0; note = x .note }) found .1)
+  own = rw (
+    getD-set-same cells k cell 0 (omega (arith, h .cells-long)),
+    getD-set-same ds k (x .detuning) nan
+        (omega (arith, h .detunings-long)),
+    place-parts cell (record { channel = 0; note = x .note }) found .1,
+  )
 
   ordered-with : linesOf order' (set cells k cell) (set ds k (x .detuning)) (n + 1) ≡ rising (lines ++ (x ∷ []))
   unfolding linesOf
@@ -199,7 +213,8 @@ module _ (order order' cells : List ℕ) (ds : List Float) (n cell : ℕ) (x : L
   marked-with : (j : ℕ) → isHeld (placeOf (getD (set cells k cell) j 0)) ≡ member j (keys (lines ++ (x ∷ [])))
   marked-with j = elim (outcome (eqb k j)) [
     | passed e ↦
-        subst (λ (i : ℕ). isHeld (placeOf (getD (set cells k cell) i 0)) ≡ true) (eqb→eq k j (true→T e)) (rw (getD-set-same cells k cell 0 (omega (arith, h .cells-long))) held)
+        subst (λ (i : ℕ). isHeld (placeOf (getD (set cells k cell) i 0)) ≡ true) (eqb→eq k j (true→T e))
+        (rw (getD-set-same cells k cell 0 (omega (arith, h .cells-long))) held)
         ∙ sym (rw (keys-snoc lines x, member-snoc j k (keys lines), e) (or-yes (member j (keys lines))))
     | failed e ↦
         ap (λ (c : ℕ). isHeld (placeOf c)) (getD-set-other cells k j cell 0 (λ u. not-false e (subst (λ (i : ℕ). T (eqb k i)) (sym u) (eqb-refl k))))

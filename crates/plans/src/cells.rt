@@ -1,9 +1,7 @@
 // The state of a plan tuner in one block of numbers. Every content of a block is some state: `specs/PlanBlock.antt` says which.
 
 ghost use mathlib.Core.Path.{_≡_};
-ghost use mathlib.Core.Bool.{true};
 ghost use Prim.Native.Nat.{_<_, _+_, _%_};
-ghost use lib.Ieee.{Float};
 ghost use lib.ListN.{getD};
 ghost use Rattle.channels.specs.Keys.{keyCount};
 ghost use Rattle.plans.specs.PlanBlock.{detuningOf, stored};

@@ -63,7 +63,8 @@ pub(crate) fn commit(
     detunings: &[f64],
 ) -> PlanAnswer
     requires { ⌜ (length (now cells) ≡ planCellCount) × (length (now records) ≡ keyCount) × (length (now detunings) ≡ keyCount) ⌝ }
-    ensures { λ r. ⌜ ((lines : Outcome (List Line)) → Plans (planAt (now (cells .entry)) .groupBy) lines planning (now (records .entry)) (now (detunings .entry))
+    ensures { λ r. ⌜ ((lines : Outcome (List Line))
+        → Plans (planAt (now (cells .entry)) .groupBy) lines planning (now (records .entry)) (now (detunings .entry))
         → Tunes (planned (planAt (now (cells .entry))) lines) (now (cells .entry)) (now (cells .exit)) (planAnswer r)) ⌝ }
 {
     let refusal = planning.refusal;

@@ -69,7 +69,8 @@ pub(crate) fn put_settings(
 )
     requires { ⌜ length (now cells) ≡ cellCount ⌝ }
     ensures { λ r. ⌜ Kept settings 20 (now (cells .entry)) (now (cells .exit)) × (channelsAt (now (cells .exit)) ≡ entries channels)
-        × (groupOf (getD (now (cells .exit)) (settings + 17) 0) ≡ group) × (modeOf (getD (now (cells .exit)) (settings + 18) 0) ≡ mode) × (kindAt (now (cells .exit)) ≡ kind) ⌝ }
+        × (groupOf (getD (now (cells .exit)) (settings + 17) 0) ≡ group) × (modeOf (getD (now (cells .exit)) (settings + 18) 0) ≡ mode)
+        × (kindAt (now (cells .exit)) ≡ kind) ⌝ }
 {
     put_list(cells, CHANNELS, channels);
     cells[GROUP_BY] = group_number(group);

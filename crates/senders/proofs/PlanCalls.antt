@@ -38,7 +38,8 @@ use Rattle.plans.proofs.PlanBlocks.{zero-below}
 use Rattle.plans.proofs.PlanEntries.{planned-positive}
 use Rattle.senders.specs.Midi.{bytesOf}
 use Rattle.senders.specs.Lent.{Effect, fitted, told, Steps, Put, settled}
-use Rattle.senders.specs.Aot.{Tuner, view, tuner, withPlan, Planned, tunes, cannot, planMessages, planEffect, SomeFits, Smallest, Measurable, Ready, entryOf, placed}
+use Rattle.senders.specs.Aot.{Tuner, view, tuner, withPlan, Planned, tunes, planMessages, planEffect, SomeFits, Smallest, Measurable, Ready}
+use Rattle.senders.specs.Aot.{entryOf, placed}
 use Rattle.senders.specs.declared.aot.AotTuner.{AotTuner}
 use Rattle.senders.proofs.Lent.{ends-sent, handed-back, steps-held}
 
@@ -78,7 +79,8 @@ unfolding planned
 planned-few m lines = go (leb (count (m .groupBy) lines) (length (m .channels))) refl
   where
     go : (b : Bool) → leb (count (m .groupBy) lines) (length (m .channels)) ≡ b
-        → cond {A = Model × M.Answer} b (M.holding m lines, M.tuned (count (m .groupBy) lines)) (M.empty (m .channels) (m .groupBy), M.untuned (count (m .groupBy) lines)) .0 .numChannels
+        → cond {A = Model × M.Answer} b (M.holding m lines, M.tuned (count (m .groupBy) lines))
+        (M.empty (m .channels) (m .groupBy), M.untuned (count (m .groupBy) lines)) .0 .numChannels
         ≤ length (m .channels)
     go true e = leb-true (count (m .groupBy) lines) (length (m .channels)) e
     go false e = omega arith
@@ -91,7 +93,8 @@ list-few l = omega (arith, length-digits (min (getD l planSettings 0) 16) (getD 
 pub ready : (l : List ℕ) (o : Outcome (List Line)) (r : Model × M.Answer) → Fine o → r ≡ planned (planAt l) o → Ready r
 ready l o (n, M.untuned k) f e = tt
 ready l o (n, M.refused k) f e = tt
-ready l (refused j) (n, M.tuned k) f e = unfold planned in (let q = ap (λ (x : Model × M.Answer). x .1) e in let z : _≡_ {A = ℕ} 0 1 = cc in absurd (omega arith))
+ready l (refused j) (n, M.tuned k) f e = unfold planned in (let q = ap (λ (x : Model × M.Answer). x .1) e in let z : _≡_ {A = ℕ} 0 1 = cc in
+    absurd (omega arith))
 ready l (value lines) (n, M.tuned k) f e = (
   λ i. by i (n .detunings i (pos 0)) refl,
   omega (arith, planned-few (planAt l) lines, ap (λ (x : Model × M.Answer). x .0 .numChannels) e, list-few l),
@@ -114,7 +117,8 @@ ends-tuned {view = view} {rule = rule} {s = s} {back = back} {next = next} {bs =
 -- ---- demand 3
 
 -- a plan that is tuned is a placing that fits
-some-fits : (by : GroupBy) (lines : List Line) (present : ℕ) {find : ℕ → Option (ℕ × ℤ)} {n : ℕ} → Demand3 by lines present find true n → SomeFits by lines present
+some-fits : (by : GroupBy) (lines : List Line) (present : ℕ) {find : ℕ → Option (ℕ × ℤ)} {n : ℕ} → Demand3 by lines present find true n
+    → SomeFits by lines present
 some-fits by lines present {n = n} d = go (leb n present) refl
   where
     go : (b : Bool) → leb n present ≡ b → SomeFits by lines present
@@ -124,7 +128,8 @@ some-fits by lines present {n = n} d = go (leb n present) refl
 module _ (t : Tuner) (room : ℕ) where
   sent-smallest :
       (lines : List Line) (m : Model) (n : ℕ) (bs : List ℕ) → Demand3 (t .plan .groupBy) lines (length (t .plan .channels)) (m .keys) true n → (b : Bool)
-      → let f : Outcome (Effect Planned Tuner) = cond b (value (record { says = tunes n (length bs); bytes = bs; next = withPlan t m })) (refused bufferTooShort) in
+      → let f : Outcome (Effect Planned Tuner) = cond b (value (record { says = tunes n (length bs); bytes = bs; next = withPlan t m }))
+      (refused bufferTooShort) in
       Smallest t (value lines) (told f) (settled t f)
   sent-smallest lines m n bs d true = d
   sent-smallest lines m n bs d false = (refl, some-fits (t .plan .groupBy) lines (length (t .plan .channels)) d)
@@ -152,7 +157,8 @@ pub answers :
 answers s back old new answer lines r e d p = (
   subst (λ (x : Model × M.Answer). Steps view (planEffect (view s) x) s old answer back new) e p,
   subst (λ (x : Outcome Planned). Smallest (view s) lines x (view back)) (sym (p .told-is))
-      (subst (λ (x : Tuner). Smallest (view s) lines (told (fitted (length old) (planEffect (view s) r))) x) (sym (handed-back p)) (smallest (view s) (length old) lines r d)),
+      (subst (λ (x : Tuner). Smallest (view s) lines (told (fitted (length old) (planEffect (view s) r))) x) (sym (handed-back p))
+      (smallest (view s) (length old) lines r d)),
 )
 
 -- the tuner of a block with another plan

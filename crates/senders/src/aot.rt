@@ -5,7 +5,8 @@ ghost use Rattle.plans.specs.Plan.{accessAnswer};
 ghost use Rattle.plans.specs.PlanLists.{noteLists, pitchLists};
 ghost use Rattle.senders.specs.Lent.{Answers, Steps};
 ghost use Rattle.senders.specs.Answers.{sentAnswer, planSent};
-ghost use Rattle.senders.specs.Aot.{tuner, opened, startRule, setTuningRule, setTuningOfPitchesRule, Smallest, noteOnRule, noteOffRule, noteAttrRule, globalAttrRule, stopRule};
+ghost use Rattle.senders.specs.Aot.{tuner, opened, startRule, setTuningRule, setTuningOfPitchesRule, Smallest, noteOnRule, noteOffRule, noteAttrRule};
+ghost use Rattle.senders.specs.Aot.{globalAttrRule, stopRule};
 use crate::midi::ChannelMessageType;
 use crate::midi::Sent;
 use crate::plan_block::global_attr;
@@ -63,19 +64,24 @@ impl AotTuner {
         Opened { answer, tuner }
     }
 
-    // Plans keys with their notes and detunings, and tunes each channel used, in order. Refuses 12, then line by line 4, 3, 5; then 10, unless there are too few channels.
+    // Plans keys with their notes and detunings, and tunes each channel used, in order. Refuses 12, then line by line 4, 3, 5; then 10, unless there are too
+    // few channels.
     pub fn set_tuning(self, keys: &[u8], notes: &[i32], detunings: &[f64], out: &mut [u8]) -> Tuned
-        ensures { λ r. ⌜ Steps tuner (setTuningRule (tuner self) (now (keys .entry)) (now (notes .entry)) (now (detunings .entry))) self (now (out .entry)) (planSent (r .answer)) (r .tuner) (now (out .exit)) ⌝ }
-        ensures { λ r. ⌜ Smallest (tuner self) (noteLists (now (keys .entry)) (now (notes .entry)) (now (detunings .entry))) (planSent (r .answer)) (tuner (r .tuner)) ⌝ }
+        ensures { λ r. ⌜ Steps tuner (setTuningRule (tuner self) (now (keys .entry)) (now (notes .entry)) (now (detunings .entry))) self (now (out .entry))
+            (planSent (r .answer)) (r .tuner) (now (out .exit)) ⌝ }
+        ensures { λ r. ⌜ Smallest (tuner self) (noteLists (now (keys .entry)) (now (notes .entry)) (now (detunings .entry))) (planSent (r .answer))
+            (tuner (r .tuner)) ⌝ }
     {
         let mut tuner = self;
         let answer = set_tuning(&mut tuner.cells, keys, notes, detunings, out);
         Tuned { answer, tuner }
     }
 
-    // Plans keys with their pitches in Hz, and tunes each channel used, in order. Refuses 12, then line by line 1, 5; then 10, unless there are too few channels.
+    // Plans keys with their pitches in Hz, and tunes each channel used, in order. Refuses 12, then line by line 1, 5; then 10, unless there are too few
+    // channels.
     pub fn set_tuning_of_pitches(self, keys: &[u8], pitches: &[f64], out: &mut [u8]) -> Tuned
-        ensures { λ r. ⌜ Steps tuner (setTuningOfPitchesRule (tuner self) (now (keys .entry)) (now (pitches .entry))) self (now (out .entry)) (planSent (r .answer)) (r .tuner) (now (out .exit)) ⌝ }
+        ensures { λ r. ⌜ Steps tuner (setTuningOfPitchesRule (tuner self) (now (keys .entry)) (now (pitches .entry))) self (now (out .entry))
+            (planSent (r .answer)) (r .tuner) (now (out .exit)) ⌝ }
         ensures { λ r. ⌜ Smallest (tuner self) (pitchLists (now (keys .entry)) (now (pitches .entry))) (planSent (r .answer)) (tuner (r .tuner)) ⌝ }
     {
         let mut tuner = self;

@@ -50,7 +50,8 @@ pub fn channel_pitch_bend(channel: u8, detuning: Ratio, out: &mut [u8]) -> Sent
     channel_tuning(TuningKind::Bend, channel, detuning, out)
 }
 
-fn channel_tuning(kind: TuningKind, channel: u8, detuning: Ratio, out: &mut [u8]) -> Sent
+// Writes the tuning of a channel by a detuning, in the steps of the kind, to the buffer's start. Refuses 6, 2, 10.
+pub fn channel_tuning(kind: TuningKind, channel: u8, detuning: Ratio, out: &mut [u8]) -> Sent
     ensures { λ r. ⌜ Answers (channelTuningRule kind channel (detuning .«float_value»)) (now (out .entry)) (sentAnswer r) (now (out .exit)) ⌝ }
 {
     if HIGHEST_CHANNEL < channel {

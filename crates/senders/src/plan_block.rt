@@ -10,7 +10,9 @@ ghost use Rattle.plans.specs.PlanLists.{noteLists, pitchLists};
 ghost use Rattle.senders.specs.Lent.{Put, Answers, Steps};
 ghost use Rattle.senders.specs.Answers.{sentAnswer, planSent};
 ghost use Rattle.senders.specs.Midi.{bytesOf};
-ghost use Rattle.senders.specs.Aot.{view, startRule, Starts, channelMessages, planMessages, planEffect, setTuningRule, setTuningOfPitchesRule, Smallest, Measurable, Sendable, Ready, entryOf, Entries, noteOnRule, noteOffRule, noteAttrRule, globalAttrRule, stopRule, found};
+ghost use Rattle.senders.specs.Aot.{view, startRule, Starts, channelMessages, planMessages, planEffect, setTuningRule, setTuningOfPitchesRule, Smallest};
+ghost use Rattle.senders.specs.Aot.{Measurable, Sendable, Ready, entryOf, Entries, noteOnRule, noteOffRule, noteAttrRule, globalAttrRule, stopRule};
+ghost use Rattle.senders.specs.Aot.{found};
 ghost use Rattle.senders.specs.Tuner.{keyRule};
 use crate::aot::PlanSent;
 use crate::midi::ChannelMessageType;
@@ -257,7 +259,8 @@ fn put_channel(
     i: u8,
     detuning: DetuningAnswer,
 ) -> usize
-    requires { ⌜ Measurable (detuningAnswer detuning) × (at + length (bytesOf (channelMessages kind (entries channels) i (detuningAnswer detuning))) ≤ length (now out)) ⌝ }
+    requires { ⌜ Measurable (detuningAnswer detuning)
+        × (at + length (bytesOf (channelMessages kind (entries channels) i (detuningAnswer detuning))) ≤ length (now out)) ⌝ }
     ensures { λ r. ⌜ Put at (bytesOf (channelMessages kind (entries channels) i (detuningAnswer detuning))) r (now (out .entry)) (now (out .exit)) ⌝ }
 {
     let DetuningAnswer::Detuning(d) = detuning else {

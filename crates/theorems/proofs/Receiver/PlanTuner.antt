@@ -4,13 +4,13 @@ use mathlib.Core.Path.{_≡_, refl, sym, ap, subst, _∙_}
 use mathlib.Core.Bool.{Bool, true, false, cond}
 use mathlib.Core.Option.{Option, some, none}
 use mathlib.Core.List.{List, [], _∷_, _++_}
-use Prim.Native.Nat.{ℕ, zero, suc, _<_}
+use Prim.Native.Nat.{ℕ, zero, suc, _+_, _<_}
 use native.Mathlib.Nat.{zero-add}
 use native.Mathlib.Omega.{arith}
 use lib.Dec.{eqb, eqb→eq, leb}
 use lib.IntN.{pos}
 use lib.Ieee.{Float}
-use lib.ListN.{length, take, drop, getElem?}
+use lib.ListN.{length, getD, take, drop, getElem?}
 use lib.Seq.{take-at}
 use borrow.Author.Tests.{eq-eqb}
 use Rattle.channels.specs.Outcome.{Outcome, value, refused}
@@ -20,8 +20,8 @@ use Rattle.plans.specs.Line.{Line}
 use Rattle.channels.specs.Refusal.{bufferTooShort}
 use Rattle.plans.specs.Walk.{count}
 use Rattle.plans.specs.Plan as M
-use Rattle.plans.specs.Plan.{Model, planned, openRule}
-use Rattle.models.specs.AotModel.{modelOf}
+use Rattle.plans.specs.Plan.{Model, planAt, planned, openRule}
+use Rattle.plans.specs.PlanBlock.{planSettings, listAt}
 use Rattle.channels.specs.TuningValue.{sentAs}
 use Rattle.channels.specs.declared.list.ChannelList.{ChannelList}
 use Rattle.channels.specs.declared.tuning_value.TuningKind.{TuningKind}
@@ -58,12 +58,20 @@ module _ (other : Other) (kind : TuningKind) (l : ChannelList) where
       (sym e)
       (conveys-each other (λ i. channelMessages kind (entries l) i (m .detunings i (pos 0))) (λ i. channelMeant kind (entries l) i (m .detunings i (pos 0))) (upward 0 (m .numChannels)) (λ i. channel-conveyed i (m .detunings i (pos 0))))
 
+-- the channel list of a block
+abbrev pub listOf : List ℕ → ChannelList
+listOf l = record { digits = getD l (planSettings + 1) 0; count = getD l planSettings 0 }
+
+list-of : (l : List ℕ) → planAt l .channels ≡ entries (listOf l)
+unfolding entries listAt
+list-of l = refl
+
 module _ (other : Other) (st : State) (r : Receiver) (t : Tuner) (o : Model × M.Answer) {s back : AotTuner} {old new : List ℕ} {n w : ℕ}
     (call : Steps tuner (planEffect t o) s old (value (tunes n w)) back new) where
   -- what was sent was the tunings of the plan that the tuner now has
   record Sent : Type 0 where
-    kind-is : t .kind ≡ back .kind
-    starts : take w new ≡ bytesOf (planMessages (back .kind) (modelOf (back .model)))
+    kind-is : t .kind ≡ tuner back .kind
+    starts : take w new ≡ bytesOf (planMessages (tuner back .kind) (tuner back .plan))
 
   sent-plan : Sent
   sent-plan = by o call
@@ -77,8 +85,8 @@ module _ (other : Other) (st : State) (r : Receiver) (t : Tuner) (o : Model × M
           let next : tuner back ≡ withPlan t m = a .next-is ∙ sym (ap (λ (x : Effect Planned Tuner). x .next) same) in
           let says : tunes n w ≡ tunes k (length bs) = a .answer-is ∙ sym (ap (λ (x : Effect Planned Tuner). x .says) same) in
           let long : w ≡ length bs = cc in
-          let kinds : back .kind ≡ t .kind = ap (λ (x : Tuner). x .kind) next in
-          let models : modelOf (back .model) ≡ m = ap (λ (x : Tuner). x .plan) next in
+          let kinds : tuner back .kind ≡ t .kind = ap (λ (x : Tuner). x .kind) next in
+          let models : tuner back .plan ≡ m = ap (λ (x : Tuner). x .plan) next in
           record {
             kind-is = sym kinds;
             starts =
@@ -86,7 +94,7 @@ module _ (other : Other) (st : State) (r : Receiver) (t : Tuner) (o : Model × M
                 ∙ ap (λ (x : Effect Planned Tuner). take w (written (x .bytes) old)) (sym same)
                 ∙ take-at bs (drop (length bs) old) w (sym long)
                 ∙ ap (λ (x : TuningKind). bytesOf (planMessages x m)) (sym kinds)
-                ∙ ap (λ (x : Model). bytesOf (planMessages (back .kind) x)) (sym models);
+                ∙ ap (λ (x : Model). bytesOf (planMessages (tuner back .kind) x)) (sym models);
           }
       by (m, M.untuned k) p =
           let a = accepted p in
@@ -97,15 +105,15 @@ module _ (other : Other) (st : State) (r : Receiver) (t : Tuner) (o : Model × M
           let z : _≡_ {A = ℕ} 0 1 = cc in
           absurd (omega arith)
 
-  conveyed : Conveys other (planMessages (back .kind) (modelOf (back .model))) (planMeant (back .kind) (modelOf (back .model)))
-  conveyed = plan-conveyed other (back .kind) (back .model .channels) (modelOf (back .model)) refl
+  conveyed : Conveys other (planMessages (tuner back .kind) (tuner back .plan)) (planMeant (tuner back .kind) (tuner back .plan))
+  conveyed = plan-conveyed other (tuner back .kind) (listOf (back .cells)) (tuner back .plan) (list-of (back .cells))
 
   -- After a tuned answer a reader finds the tunings of the plan's channels.
-  pub plan-read : read st (take w new) ≡ planMessages (back .kind) (modelOf (back .model))
-  plan-read = ap (read st) (sent-plan .starts) ∙ read-plain st (planMessages (back .kind) (modelOf (back .model))) (conveyed .plain)
+  pub plan-read : read st (take w new) ≡ planMessages (tuner back .kind) (tuner back .plan)
+  plan-read = ap (read st) (sent-plan .starts) ∙ read-plain st (planMessages (tuner back .kind) (tuner back .plan)) (conveyed .plain)
 
   -- And a receiver has them.
-  pub plan-received : hearBytes other st (take w new) r ≡ planMeant (back .kind) (modelOf (back .model)) r
+  pub plan-received : hearBytes other st (take w new) r ≡ planMeant (tuner back .kind) (tuner back .plan) r
   plan-received = ap (λ (x : List Message). hearAll other x r) plan-read ∙ conveyed .heard r
 
 -- ---- channel by channel
@@ -228,25 +236,25 @@ planned-kept m (value lines) = by (leb (count (m .groupBy) lines) (length (m .ch
 -- A tuning, of whatever lists and however it ends, leaves the channels.
 pub channels-kept :
     (s back : AotTuner) (lines : Outcome (List Line)) {old new : List ℕ} {answer : Outcome Planned}
-    → Steps tuner (planEffect (tuner s) (planned (modelOf (s .model)) lines)) s old answer back new → modelOf (back .model) .channels ≡ modelOf (s .model) .channels
-channels-kept s back lines {old} p = by (planned (modelOf (s .model)) lines) (planned-kept (modelOf (s .model)) lines .0) (p .moved-is)
+    → Steps tuner (planEffect (tuner s) (planned (tuner s .plan) lines)) s old answer back new → tuner back .plan .channels ≡ tuner s .plan .channels
+channels-kept s back lines {old} p = by (planned (tuner s .plan) lines) (planned-kept (tuner s .plan) lines .0) (p .moved-is)
   where
     at :
-        (e : Effect Planned Tuner) → e .next .plan .channels ≡ modelOf (s .model) .channels → (b : Bool) → Moved tuner (cond b (value e) (refused bufferTooShort)) s back
-        → modelOf (back .model) .channels ≡ modelOf (s .model) .channels
+        (e : Effect Planned Tuner) → e .next .plan .channels ≡ tuner s .plan .channels → (b : Bool) → Moved tuner (cond b (value e) (refused bufferTooShort)) s back
+        → tuner back .plan .channels ≡ tuner s .plan .channels
     at e q true h = ap (λ (x : Tuner). x .plan .channels) h ∙ q
-    at e q false h = ap (λ (x : AotTuner). modelOf (x .model) .channels) h
+    at e q false h = ap (λ (x : AotTuner). tuner x .plan .channels) h
 
     by :
-        (o : Model × M.Answer) → o .0 .channels ≡ modelOf (s .model) .channels → Moved tuner (fitted (length old) (planEffect (tuner s) o)) s back
-        → modelOf (back .model) .channels ≡ modelOf (s .model) .channels
-    by (m, M.tuned n) q h = at _ q (leb (length (bytesOf (planMessages (s .kind) m))) (length old)) h
+        (o : Model × M.Answer) → o .0 .channels ≡ tuner s .plan .channels → Moved tuner (fitted (length old) (planEffect (tuner s) o)) s back
+        → tuner back .plan .channels ≡ tuner s .plan .channels
+    by (m, M.tuned n) q h = at _ q (leb (length (bytesOf (planMessages (tuner s .kind) m))) (length old)) h
     by (m, M.untuned n) q h = at _ q (leb 0 (length old)) h
-    by (m, M.refused n) q h = ap (λ (x : AotTuner). modelOf (x .model) .channels) h
+    by (m, M.refused n) q h = ap (λ (x : AotTuner). tuner x .plan .channels) h
 
 pub tuned-sound :
     (s back : AotTuner) (lines : Outcome (List Line)) {old new : List ℕ} {answer : Outcome Planned}
-    → Steps tuner (planEffect (tuner s) (planned (modelOf (s .model)) lines)) s old answer back new → Sound (tuner s) → Sound (tuner back)
+    → Steps tuner (planEffect (tuner s) (planned (tuner s .plan) lines)) s old answer back new → Sound (tuner s) → Sound (tuner back)
 tuned-sound s back lines p f = subst (Channels []) (sym (channels-kept s back lines p)) f
 
 -- ---- what a plan comes to
@@ -255,18 +263,18 @@ module _ (other : Other) (st : State) (r : Receiver) (t : Tuner) (o : Model × M
     (call : Steps tuner (planEffect t o) s old (value (tunes n w)) back new) (ch : ℕ) where
   -- After a tuned answer each channel of the plan is tuned by its detuning, from whatever it was.
   pub plan-tunes :
-      Sound (tuner back) → (i : ℕ) (d : Float) → i < modelOf (back .model) .numChannels → getElem? (modelOf (back .model) .channels) i ≡ some ch
-      → modelOf (back .model) .detunings i (pos 0) ≡ some d → hearBytes other st (take w new) r ch ≡ tuned (sentAs (back .kind) d) (r ch)
+      Sound (tuner back) → (i : ℕ) (d : Float) → i < tuner back .plan .numChannels → getElem? (tuner back .plan .channels) i ≡ some ch
+      → tuner back .plan .detunings i (pos 0) ≡ some d → hearBytes other st (take w new) r ch ≡ tuned (sentAs (tuner back .kind) d) (r ch)
   plan-tunes f i d h e q =
-      let m = modelOf (back .model) in
+      let m = tuner back .plan in
       ap (λ (x : Receiver). x ch) (plan-received other st r t o call)
-      ∙ touched (back .kind) (m .channels) (λ j. m .detunings j (pos 0)) ch (m .numChannels) i d r h e q (λ j g. only-place [] (m .channels) ch i j f e g)
+      ∙ touched (tuner back .kind) (m .channels) (λ j. m .detunings j (pos 0)) ch (m .numChannels) i d r h e q (λ j g. only-place [] (m .channels) ch i j f e g)
 
   -- Every other channel is as it was.
   pub plan-spares :
-      ((i : ℕ) → i < modelOf (back .model) .numChannels → getElem? (modelOf (back .model) .channels) i ≡ some ch → ⊥)
+      ((i : ℕ) → i < tuner back .plan .numChannels → getElem? (tuner back .plan .channels) i ≡ some ch → ⊥)
       → hearBytes other st (take w new) r ch ≡ r ch
   plan-spares h =
-      let m = modelOf (back .model) in
+      let m = tuner back .plan in
       ap (λ (x : Receiver). x ch) (plan-received other st r t o call)
-      ∙ untouched (back .kind) (m .channels) (λ j. m .detunings j (pos 0)) ch (m .numChannels) r h
+      ∙ untouched (tuner back .kind) (m .channels) (λ j. m .detunings j (pos 0)) ch (m .numChannels) r h

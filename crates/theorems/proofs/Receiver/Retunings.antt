@@ -12,7 +12,8 @@ use lib.IntN.{ℤ, pos}
 use lib.Ieee.{Float}
 use lib.ListN.{length, take, getElem?}
 use Rattle.channels.specs.Outcome.{Outcome, value, refused}
-use Rattle.channels.specs.ChannelList.{listRule, present}
+use Rattle.channels.specs.ChannelList.{entries, listRule, present}
+use Rattle.plans.specs.PlanBlock.{listAt}
 use Rattle.channels.specs.Lists.{Each}
 use Rattle.plans.specs.Line.{Line, group}
 use Rattle.channels.specs.Places.{Place}
@@ -46,7 +47,7 @@ use Rattle.theorems.proofs.Bytes.Accepted.{accepted}
 use Rattle.senders.proofs.Lent.{handed-back}
 use Rattle.theorems.proofs.Receiver.PoolTunerCalls.{listed}
 use Rattle.theorems.proofs.Receiver.Received.{tuned-value}
-use Rattle.theorems.proofs.Receiver.PlanTuner.{Sound, started-sound, planned-kept, plan-tunes}
+use Rattle.theorems.proofs.Receiver.PlanTuner.{Sound, started-sound, planned-kept, plan-tunes, listOf}
 
 -- ---- what no tuning alters
 
@@ -156,7 +157,7 @@ result s back (value lines) {old} {new} {n} {w} call = by (planned (tuner s .pla
         → Result (tuner s) (tuner back) n (value lines)
     by (m, M.tuned k) e p =
         let a = accepted p in
-        let bs : List ℕ = bytesOf (planMessages (s .kind) m) in
+        let bs : List ℕ = bytesOf (planMessages (tuner s .kind) m) in
         let f : Effect Planned Tuner = record { says = tunes k (length bs); bytes = bs; next = withPlan (tuner s) m } in
         let same : f ≡ a .effect = cc in
         let says : tunes n w ≡ tunes k (length bs) = a .answer-is ∙ sym (ap (λ (x : Effect Planned Tuner). x .says) same) in
@@ -209,7 +210,7 @@ module _
   next : tuner back ≡ reached channels kind (calls ++ (tune lists (length old) ∷ []))
   next = goes-on channels kind calls s back is lists call
 
-  kind-is : back .kind ≡ kind
+  kind-is : tuner back .kind ≡ kind
   kind-is = ap (λ (t : Tuner). t .kind) next ∙ reached-kind channels kind (calls ++ (tune lists (length old) ∷ []))
 
   channels-is : tuner back .plan .channels ≡ present (listRule channels)
@@ -271,9 +272,10 @@ module _
         → ((other : Other) (st : State) (r : Receiver) → hearBytes other st (take w new) r midi ≡ tuned (sentAs kind d) (r midi))
         → (other : Other) (st before : State) (r : Receiver) (v : ℕ) {old₂ new₂ : List ℕ} {w₂ : ℕ} → Answers (noteOnRule (tuner back) (l .key) v) old₂ (value w₂) new₂
         → hearBytes other st (take w₂ new₂) (hearBytes other before (take w new) r) midi ≡ noteMeant On (l .note) v (tuned (sentAs kind d) (r midi))
+    unfolding entries listAt
     sounding l i midi d f e h other st before r v a =
         let q = hearBytes other before (take w new) r in
-        ap (λ (x : Receiver). x midi) (key-received other st q (back .model .channels) On v (found (tuner back) (l .key)) a)
+        ap (λ (x : Receiver). x midi) (key-received other st q (listOf (back .cells)) On v (found (tuner back) (l .key)) a)
         ∙ ap (λ (o : Option Place). keyMeant On (tuner back .plan .channels) v o q midi) f
         ∙ here (subst (λ (c : List ℕ). getElem? c i ≡ some midi) (sym channels-is) e)
         ∙ ap (noteMeant On (l .note) v) (h other before r)

@@ -27,7 +27,7 @@ use Rattle.senders.specs.declared.tuner.NoteMessage.the-variants.{Off, On, Pres
 use Rattle.theorems.proofs.Tuners.Refusals.{has, Among, among-fitted, message-refusals, tuning-refusals, press-refusals, release-refusals, key-refusals, repitch-refusals, global-refusals, stop-refusals}
 
 -- a list of numbers, with others behind
-member-has : (n : ℕ) (ns ms : List ℕ) → T (member n ns) → has (ns ++ ms) n ≡ true
+pub member-has : (n : ℕ) (ns ms : List ℕ) → T (member n ns) → has (ns ++ ms) n ≡ true
 member-has n [] ms h = absurd h
 member-has n (m ∷ ns) ms h = elim (or-cases (eqb m n) (member n ns) h) [
   | inl e ↦ rw (eq-eqb n m (sym (eqb→eq m n e)))
@@ -40,7 +40,7 @@ member-has n (m ∷ ns) ms h = elim (or-cases (eqb m n) (member n ns) h) [
 
 -- ---- starting: 6, 7
 
-listed-among : (cs : List ℕ) → Among (6 ∷ 7 ∷ []) (listRule cs)
+pub listed-among : (cs : List ℕ) → Among (6 ∷ 7 ∷ []) (listRule cs)
 listed-among cs = by (listRule cs) refl
   where
     by : (o : Outcome (List ℕ)) → listRule cs ≡ o → Among (6 ∷ 7 ∷ []) o

@@ -1,5 +1,5 @@
 -- `block::detuning` meets its contract: a channel beyond the plan's has no entry, and on the others the scan finds it. Assumes nothing.
-use mathlib.Core.Path.{ap, sym, _∙_}
+use mathlib.Core.Path.{ap, _∙_}
 use lib.IntN.{ℤ}
 use mir.Facts.{toZ-ofZ}
 use borrow.Author.Tests.{lt-ltb, le-ltb}

@@ -1,10 +1,8 @@
 -- `block::next_detuning` meets its contract: the least group of the scan is the first of all groups that has an entry. Assumes nothing.
 use mathlib.Core.Path.{_≡_, sym, ap, _∙_}
 use mathlib.Core.Option.{some}
-use Prim.Native.Nat.{_+_, _%_}
 use lib.Dec.{ltb}
 use lib.IntN.{ℤ, pos}
-use lib.ListN.{getD}
 use mir.Syntax.{w32}
 use mir.Val.{SFits, toZ, ofZ}
 use mir.Facts.{toZ-ofZ}
@@ -48,7 +46,8 @@ least-is c =
     ∙ ap (λ (by : GroupBy). leastFrom by (s .args .channel) (s .args .from) (pos 501) rs) (c .before .group-by .ensures)
 
 -- the detuning of that group
-answered : (c : tie.After-detuning) → let s = c .before .before .before in planAt (s .args .cells .now) .detunings (s .args .channel) (least s) ≡ detuningAnswer (c .detuning .result)
+answered : (c : tie.After-detuning)
+    → let s = c .before .before .before in planAt (s .args .cells .now) .detunings (s .args .channel) (least s) ≡ detuningAnswer (c .detuning .result)
 answered c =
     let s = c .before .before .before in
     ap (planAt (s .args .cells .now) .detunings (s .args .channel)) (sym (least-is (c .before))) ∙ sym (c .detuning .ensures)

@@ -6,7 +6,7 @@ use Prim.Native.Nat.{ℕ, _+_, _≤_, _-_}
 use native.Mathlib.Omega.{arith}
 use lib.Dec.{leb}
 use lib.IntN.{ℤ}
-use lib.Ieee.{Float, nan}
+use lib.Ieee.{Float}
 use lib.ListN.{length, getD, drop}
 use mir.Syntax.{w32}
 use mir.Val.{SFits, toZ, ofZ}
@@ -80,16 +80,20 @@ module _ (c : tie.After-record-at Inv-loop μ-loop) where
 
   at-here : getD (rs s) (i - 1) nobody ≡ recordOf cell d
   unfolding recordAt
-  at-here = record-here (s .args .cells .now) (i - 1) (omega (arith, c .before .before .loop .inv .0, c .before .loop-test .taken)) ∙ ap (λ (n : ℕ). recordOf n d) (sym (c .record-at .ensures))
+  at-here = record-here (s .args .cells .now) (i - 1) (omega (arith, c .before .before .loop .inv .0, c .before .loop-test .taken))
+      ∙ ap (λ (n : ℕ). recordOf n d) (sym (c .record-at .ensures))
 
   passed-by : counts by ch g (recordOf cell d) ≡ false → detuningAnswer (c .before .before .loop .best) ≡ highest by ch g (drop (i - 1) (rs s))
-  passed-by e = c .before .before .loop .inv .1 ∙ highest-no by ch g (rs s) i nobody (c .before .loop-test .taken) (omega (arith, long s, c .before .before .loop .inv .0)) (ap (counts by ch g) at-here ∙ e)
+  passed-by e = c .before .before .loop .inv .1
+      ∙ highest-no by ch g (rs s) i nobody (c .before .loop-test .taken) (omega (arith, long s, c .before .before .loop .inv .0))
+      (ap (counts by ch g) at-here ∙ e)
 
   counted : counts by ch g (recordOf cell d) ≡ true → larger d (detuningAnswer (c .before .before .loop .best)) ≡ highest by ch g (drop (i - 1) (rs s))
   counted e =
       ap (larger d) (c .before .before .loop .inv .1)
       ∙ ap (λ (r : KeyRecord). larger (r .detuning) (highest by ch g (drop i (rs s)))) (sym at-here)
-      ∙ highest-yes by ch g (rs s) i nobody (c .before .loop-test .taken) (omega (arith, long s, c .before .before .loop .inv .0)) (ap (counts by ch g) at-here ∙ e)
+      ∙ highest-yes by ch g (rs s) i nobody (c .before .loop-test .taken) (omega (arith, long s, c .before .before .loop .inv .0))
+      (ap (counts by ch g) at-here ∙ e)
 
 up-to : (c : tie.Then1 Inv-loop μ-loop) → let t = c .before .before in (leb (recordOf (cell t) (d t) .channel) (ch t) && isIn (recordOf (cell t) (d t))) ≡ true
 up-to c = sym (c .before .is-up-to .ensures (d (c .before .before))) ∙ c .if1 .taken
@@ -122,16 +126,22 @@ loop-again : tie.Need-loop-again Inv-loop μ-loop
 loop-again c =
     let u = c .before .before .before .before .before .before .before in
     let e = c .before .before .before in
-    let same : group (by u) (noteOf (cell u)) ≡ g u = sym (grouped e) ∙ sym (toZ-ofZ (group-fits e)) ∙ ap (toZ w32) (c .before .before .if2 .taken) in
-    (omega arith, c .larger .ensures ∙ ap (λ (x : Float). larger x (detuningAnswer (u .before .before .loop .best))) (c .before .detuning-at .ensures) ∙ counted u (counts-own (by u) (ch u) (g u) (recordOf (cell u) (d u)) (up-to (c .before .before .before .before .before)) same))
+    let same : group (by u) (noteOf (cell u)) ≡ g u = sym (grouped e) ∙ sym (toZ-ofZ (group-fits e)) ∙ ap (toZ w32) (c .before .before .if2 .taken) in (
+      omega arith,
+      c .larger .ensures ∙ ap (λ (x : Float). larger x (detuningAnswer (u .before .before .loop .best))) (c .before .detuning-at .ensures)
+          ∙ counted u (counts-own (by u) (ch u) (g u) (recordOf (cell u) (d u)) (up-to (c .before .before .before .before .before)) same),
+    )
 
 loop-less-2 : tie.Need-loop-less-2 Inv-loop μ-loop
 loop-less-2 c = omega arith
 
 loop-again-2 : tie.Need-loop-again-2 Inv-loop μ-loop
 loop-again-2 c =
-    let u = c .before .before .before .before .before in
-    (omega arith, passed-by u (counts-other (by u) (ch u) (g u) (recordOf (cell u) (d u)) (λ e. c .if2 .left (ap (ofZ w32) (grouped (c .before) ∙ e ∙ toZ-ofZ (s u .fits .group))))))
+    let u = c .before .before .before .before .before in (
+      omega arith,
+      passed-by u (counts-other (by u) (ch u) (g u) (recordOf (cell u) (d u))
+          (λ e. c .if2 .left (ap (ofZ w32) (grouped (c .before) ∙ e ∙ toZ-ofZ (s u .fits .group))))),
+    )
 
 loop-less-3 : tie.Need-loop-less-3 Inv-loop μ-loop
 loop-less-3 c = omega arith

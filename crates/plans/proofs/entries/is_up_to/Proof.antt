@@ -21,7 +21,8 @@ returns : tie.Need-returns
 unfolding isIn
 returns c d =
     let s = c .before .before .before in
-    rw (le-leb _ _ (c .before .before .if1 .taken)) (c .is-note .ensures ∙ ap isNote (ap (λ (z : ℤ). toZ w32 (ofZ w32 z)) (c .before .note-of .ensures) ∙ note-read (s .args .cell)))
+    rw (le-leb _ _ (c .before .before .if1 .taken))
+    (c .is-note .ensures ∙ ap isNote (ap (λ (z : ℤ). toZ w32 (ofZ w32 z)) (c .before .note-of .ensures) ∙ note-read (s .args .cell)))
 
 returns-2 : tie.Need-returns-2
 returns-2 c d = rw (lt-leb _ _ (c .if1 .left))

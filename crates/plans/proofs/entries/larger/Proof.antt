@@ -24,7 +24,8 @@ returns : tie.Need-returns
 returns c = rw (c .enum-told .given .1)
 
 -- the two detunings, compared
-compared : (c : tie.After-le) → le (c .before .before .before .before .before .before .args .detuning) (c .before .before .before .before .other .given .0 .0) ≡ c .le .result
+compared : (c : tie.After-le) → le (c .before .before .before .before .before .before .args .detuning)
+    (c .before .before .before .before .other .given .0 .0) ≡ c .le .result
 compared c =
     sym
     (c .le .ensures ∙ ap (λ (x : Float). le x (c .before .from-float2 .result .«float_value»)) (c .before .before .from-float .ensures)

@@ -4,7 +4,7 @@ use mathlib.Core.List.{List}
 use Prim.Native.Nat.{ℕ, _≤_, _-_, _+_}
 use native.Mathlib.Omega.{arith}
 use lib.IntN.{ℤ, pos}
-use lib.ListN.{length, getD, drop}
+use lib.ListN.{getD, drop}
 use mir.Syntax.{w32}
 use mir.Val.{SFits, toZ, ofZ}
 use mir.Facts.{toZ-ofZ}
@@ -20,7 +20,8 @@ use Rattle.plans.proofs.entries.least_group.Tie as tie
 
 abbrev Inv-loop : tie.InvT-loop
 Inv-loop cells by channel from least₀ i₀ least i =
-    (i ≤ keyCount) × (leastFrom by channel (toZ w32 from) (pos 501) (recordsAt cells) ≡ leastFrom by channel (toZ w32 from) (toZ w32 least) (drop i (recordsAt cells)))
+    (i ≤ keyCount) × (leastFrom by channel (toZ w32 from) (pos 501) (recordsAt cells) ≡ leastFrom by channel (toZ w32 from) (toZ w32 least)
+    (drop i (recordsAt cells)))
 
 abbrev μ-loop : tie.MeasureT-loop
 μ-loop cells by channel from least₀ i₀ least i = keyCount - i
@@ -56,7 +57,8 @@ loop-again c =
     let from = toZ w32 (ofZ w32 (a .from)) in
     let d = detuningOf (getD (a .cells .now) (keyCount + i) 0) in
     let f : SFits w32 (c .lower .result) = search needs in
-    let here : getD (rs s) i nobody ≡ recordOf (c .before .record-at .result) d = record-here (a .cells .now) i (c .before .before .loop-test .taken) ∙ ap (λ (n : ℕ). recordOf n d) (sym (c .before .record-at .ensures)) in (
+    let here : getD (rs s) i nobody ≡ recordOf (c .before .record-at .result) d = record-here (a .cells .now) i (c .before .before .loop-test .taken)
+    ∙ ap (λ (n : ℕ). recordOf n d) (sym (c .before .record-at .ensures)) in (
       omega arith,
       l .inv .1
           ∙ least-next (a .by) (a .channel) from (toZ w32 (l .least)) (rs s) i nobody (omega (arith, records-count (a .cells .now)))
@@ -71,7 +73,8 @@ returns c =
     let l = c .before .loop in
     sym
     (ap (λ (z : ℤ). leastFrom (a .by) (a .channel) z (pos 501) (rs s)) (sym (toZ-ofZ (s .fits .from)))
-    ∙ l .inv .1 ∙ least-end (a .by) (a .channel) (toZ w32 (ofZ w32 (a .from))) (toZ w32 (l .least)) (rs s) (l .i) (omega (arith, records-count (a .cells .now))))
+    ∙ l .inv .1 ∙ least-end (a .by) (a .channel) (toZ w32 (ofZ w32 (a .from))) (toZ w32 (l .least)) (rs s) (l .i)
+    (omega (arith, records-count (a .cells .now))))
 
 pub least-group-spec : {M : Type 1} → statement M
 least-group-spec =

@@ -32,7 +32,8 @@ returns c d = rw (sym (c .before .is-up-to .ensures d) ∙ not-true _ (c .if1 .t
 note-of-requires : tie.Need-note-of-requires
 note-of-requires c κs = search needs
 
-up-to : (c : tie.Else1) (d : Float) → let a = c .before .before .args in (leb (recordOf (a .cell) d .channel) (a .channel) && isIn (recordOf (a .cell) d)) ≡ true
+up-to : (c : tie.Else1) (d : Float)
+    → let a = c .before .before .args in (leb (recordOf (a .cell) d .channel) (a .channel) && isIn (recordOf (a .cell) d)) ≡ true
 up-to c d = sym (c .before .is-up-to .ensures d) ∙ not-false _ (c .if1 .left)
 
 a-note : (c : tie.Else1) → isNote (noteOf (c .before .before .args .cell)) ≡ true
@@ -51,7 +52,8 @@ grouped : (c : tie.After-group-of) → c .group-of .result ≡ g (c .before .bef
 grouped c = c .group-of .ensures ∙ ap (group (c .before .before .before .before .args .by)) (read (c .before))
 
 group-fits : (c : tie.After-group-of) → SFits w32 (c .group-of .result)
-group-fits c = let a = c .before .before .before .before .args in note-fits _ (rw (grouped c) (group-note (a .by) (noteOf (a .cell)) (a-note (c .before .before))))
+group-fits c = let a = c .before .before .before .before .args in
+    note-fits _ (rw (grouped c) (group-note (a .by) (noteOf (a .cell)) (a-note (c .before .before))))
 
 returns-2 : tie.Need-returns-2
 unfolding lower
@@ -64,16 +66,36 @@ returns-3 : tie.Need-returns-3
 unfolding lower
 returns-3 c d =
     let s = c .before .before .before .before .before .before in
-    let b : ltZ (g s) (s .args .from) ≡ false = rw (toZ-ofZ (group-fits (c .before .before)), toZ-ofZ (s .fits .from), grouped (c .before .before)) at (c .before .if2 .left) in
-    let e : leZ (s .args .least) (g s) ≡ true = rw (toZ-ofZ (group-fits (c .before .before)), toZ-ofZ (s .fits .least), grouped (c .before .before)) at (c .if3 .taken) in
+    let b : ltZ (g s) (s .args .from) ≡ false = rw (
+      toZ-ofZ (group-fits (c .before .before)),
+      toZ-ofZ (s .fits .from),
+      grouped
+          (c .before .before),
+    ) at (c .before .if2 .left) in
+    let e : leZ (s .args .least) (g s) ≡ true = rw (
+      toZ-ofZ (group-fits (c .before .before)),
+      toZ-ofZ (s .fits .least),
+      grouped
+          (c .before .before),
+    ) at (c .if3 .taken) in
     rw (up-to (c .before .before .before .before) d, b, e) (toZ-ofZ (s .fits .least))
 
 returns-4 : tie.Need-returns-4
 unfolding lower
 returns-4 c d =
     let s = c .before .before .before .before .before .before in
-    let b : ltZ (g s) (s .args .from) ≡ false = rw (toZ-ofZ (group-fits (c .before .before)), toZ-ofZ (s .fits .from), grouped (c .before .before)) at (c .before .if2 .left) in
-    let e : leZ (s .args .least) (g s) ≡ false = rw (toZ-ofZ (group-fits (c .before .before)), toZ-ofZ (s .fits .least), grouped (c .before .before)) at (c .if3 .left) in
+    let b : ltZ (g s) (s .args .from) ≡ false = rw (
+      toZ-ofZ (group-fits (c .before .before)),
+      toZ-ofZ (s .fits .from),
+      grouped
+          (c .before .before),
+    ) at (c .before .if2 .left) in
+    let e : leZ (s .args .least) (g s) ≡ false = rw (
+      toZ-ofZ (group-fits (c .before .before)),
+      toZ-ofZ (s .fits .least),
+      grouped
+          (c .before .before),
+    ) at (c .if3 .left) in
     rw (up-to (c .before .before .before .before) d, b, e) (toZ-ofZ (group-fits (c .before .before)) ∙ grouped (c .before .before))
 
 pub lower-spec : {M : Type 1} → statement M

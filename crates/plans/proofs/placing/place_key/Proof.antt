@@ -36,7 +36,8 @@ note-of-requires : tie.Need-note-of-requires
 note-of-requires c κs = search needs
 
 read : (c : tie.After-note-of) → toZ w32 (ofZ w32 (c .note-of .result)) ≡ noteAt (c .before .before .before .before .before)
-read c = let s = c .before .before .before .before .before in ap (λ (z : ℤ). toZ w32 (ofZ w32 z)) (c .note-of .ensures) ∙ note-read (getD (s .args .records .now) (s .args .key) 0)
+read c = let s = c .before .before .before .before .before in ap (λ (z : ℤ). toZ w32 (ofZ w32 z)) (c .note-of .ensures)
+    ∙ note-read (getD (s .args .records .now) (s .args .key) 0)
 
 group-of-requires : tie.Need-group-of-requires
 group-of-requires c κs = rw (read c) (c .before .before .before .before .before .pre .4)
@@ -90,7 +91,12 @@ slice-write-latest c = omega (arith, in-table (c .before .before .before), s (c 
 some-used : (c : tie.After-with-key) → 0 < c .with-key .result .used
 some-used c =
     let e = c .before .before .before in
-    omega (arith, c .with-key .ensures .0, some-channel (getD (s e .args .used .now) (e .slot .result) 0) (getD (s e .args .latest .now) (e .slot .result) nan) (s e .args .detuning))
+    omega (
+      arith,
+      c .with-key .ensures .0,
+      some-channel (getD (s e .args .used .now) (e .slot .result) 0) (getD (s e .args .latest .now) (e .slot .result) nan)
+          (s e .args .detuning),
+    )
 
 sub-channel : tie.Need-sub-channel
 sub-channel c = omega (arith, some-used c)
@@ -124,7 +130,8 @@ returns c =
     record {
       channels-are = w .ensures .0 ∙ ap (λ (j : ℕ). channelsWith (getD (a .used .now) j 0) (getD (a .latest .now) j nan) (a .detuning)) (slot-at e);
       used-is = ap (λ (j : ℕ). set (a .used .now) j (w .result .used)) (slot-at e);
-      latest-is = ap (λ (j : ℕ). set (a .latest .now) j (w .result .latest)) (slot-at e) ∙ ap (λ (d : Float). set (a .latest .now) (slotOf (group (a .by) (noteAt (s e)))) d) (w .ensures .1);
+      latest-is = ap (λ (j : ℕ). set (a .latest .now) j (w .result .latest)) (slot-at e)
+          ∙ ap (λ (d : Float). set (a .latest .now) (slotOf (group (a .by) (noteAt (s e)))) d) (w .ensures .1);
       cell = c .record-of .result;
       cells-are = refl;
       cell-is =

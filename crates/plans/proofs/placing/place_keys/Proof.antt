@@ -30,8 +30,11 @@ loop-holds : tie.Need-loop-holds Inv-loop μ-loop
 unfolding zeros linesOf
 loop-holds c =
     let s = c .before .before .before in
-    let a = s .args in
-    (omega arith, pass-begins (a .by) _ (s .pre .ok) (s .pre .ordered) (a .records .now) _ _ (own-lines (a .records .now) (a .detunings .now) (take (a .n) (a .order .now)) .0) (s .pre .no-other) (zeros-at 801) (s .pre .cells-long) refl refl)
+    let a = s .args in (
+      omega arith,
+      pass-begins (a .by) _ (s .pre .ok) (s .pre .ordered) (a .records .now) _ _
+          (own-lines (a .records .now) (a .detunings .now) (take (a .n) (a .order .now)) .0) (s .pre .no-other) (zeros-at 801) (s .pre .cells-long) refl refl,
+    )
 
 -- ---- in a turn
 module _ (c : tie.In-loop Inv-loop μ-loop) where
@@ -67,7 +70,8 @@ module _ (c : tie.In-loop Inv-loop μ-loop) where
 
   pass : Pass by all (c .before .loop .records) (c .before .loop .latest) (c .before .loop .used) (c .before .loop .count) i (x ∷ rest)
   pass =
-      subst (λ (l : List ℕ). Pass by all (c .before .loop .records) (c .before .loop .latest) (c .before .loop .used) (c .before .loop .count) i (map line l)) here
+      subst (λ (l : List ℕ). Pass by all (c .before .loop .records) (c .before .loop .latest) (c .before .loop .used) (c .before .loop .count) i (map line l))
+      here
       (c .before .loop .inv .1)
 
   next : (P : Line → Type 0) → Each P all → P x
@@ -127,8 +131,11 @@ loop-again c =
     let t = c .before .before .before .before .before .before .before .before .before .before .before in
     let l = t .before .loop in
     let q = c .before .before .before .before .before .place-key in
-    let grown : c .if1 .count ≡ max (l .count) (q .result) = ⊎-elim (λ w. omega arith) (λ w. omega arith) (c .if1 .came) in
-    (omega arith, pass-next (by t) (all t) (l .records) (l .latest) (l .used) (l .count) (i t) (x t) (rest t) (pass t) (a-note t) (small t) (q .result) _ _ _ (q .ensures) (c .if1 .count) grown)
+    let grown : c .if1 .count ≡ max (l .count) (q .result) = ⊎-elim (λ w. omega arith) (λ w. omega arith) (c .if1 .came) in (
+      omega arith,
+      pass-next (by t) (all t) (l .records) (l .latest) (l .used) (l .count) (i t) (x t) (rest t) (pass t) (a-note t) (small t) (q .result) _ _ _
+          (q .ensures) (c .if1 .count) grown,
+    )
 
 same-length : tie.Need-same-length Inv-loop μ-loop
 same-length c = c .before .loop .inv .1 .cells-long ∙ sym (c .before .before .before .before .before .pre .cells-long)
@@ -143,7 +150,8 @@ returns c =
     let ks = take (a .n) (a .order .now) in
     let nil = rest-nil (a .n) (a .order .now) (l .i) (c .loop-test .left) in
     let p = subst (λ (k : List ℕ). Pass (a .by) (map f ks) (l .records) (l .latest) (l .used) (l .count) (l .i) (map f k)) nil (l .inv .1) in
-    pass-ends (a .by) (map f ks) (s .pre .ok) (s .pre .ordered) (l .records) (a .detunings .now) (p .cells-long ∙ sym (s .pre .detunings-long)) (p .cells-long) (own-lines (a .records .now) (a .detunings .now) ks .1) (l .latest) (l .used) (l .count) (l .i) p
+    pass-ends (a .by) (map f ks) (s .pre .ok) (s .pre .ordered) (l .records) (a .detunings .now) (p .cells-long ∙ sym (s .pre .detunings-long)) (p .cells-long)
+    (own-lines (a .records .now) (a .detunings .now) ks .1) (l .latest) (l .used) (l .count) (l .i) p
 
 pub place-keys-spec : {M : Type 1} → statement M
 place-keys-spec =

@@ -56,7 +56,8 @@ returns : tie.Need-returns
 returns c =
     let k = c .before .before .before .before .before .before .before .before .before .before .before in
     let p = c .before .before .assign in
-    plans (s k .args .by) (o k) (k .pitch-lists .result) (order k) (cells k) (ds k) (n k) (p .result) _ (k .pitch-lists .ensures) (p .ensures .0) (p .ensures .1)
+    plans (s k .args .by) (o k) (k .pitch-lists .result) (order k) (cells k) (ds k) (n k) (p .result) _ (k .pitch-lists .ensures) (p .ensures .0)
+    (p .ensures .1)
 
 pub plan-pitches-spec : {M : Type 1} → statement M
 plan-pitches-spec =

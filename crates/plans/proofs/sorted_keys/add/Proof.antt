@@ -33,7 +33,8 @@ is-found-requires c κs = search needs
 returns : tie.Need-returns
 returns c lines ok h =
     let s = c .before .before .before .before .before .before in
-    came-before (s .args .order .now) (s .args .records .now) (s .args .by-key .now) (s .args .n) (line s) (sound s) lines ok h (sym (c .before .is-found .ensures) ∙ c .if1 .taken) _ _ _
+    came-before (s .args .order .now) (s .args .records .now) (s .args .by-key .now) (s .args .n) (line s) (sound s) lines ok h
+    (sym (c .before .is-found .ensures) ∙ c .if1 .taken) _ _ _
 
 put-requires : tie.Need-put-requires
 put-requires c κs =
@@ -42,7 +43,8 @@ put-requires c κs =
       h .order-long,
       h .cells-long,
       h .detunings-long,
-      room (s .args .order .now) (s .args .records .now) (s .args .by-key .now) (s .args .n) (line s) (sound s) (s .pre .0 .0) (s .pre .0 .1) h (sym (c .before .before .before .before .is-found .ensures) ∙ c .before .before .before .if1 .left),
+      room (s .args .order .now) (s .args .records .now) (s .args .by-key .now) (s .args .n) (line s) (sound s) (s .pre .0 .0) (s .pre .0 .1) h
+          (sym (c .before .before .before .before .is-found .ensures) ∙ c .before .before .before .if1 .left),
       ap isNote (toZ-ofZ (s .fits .note)) ∙ s .pre .2,
       s .pre .3,
     )
@@ -59,11 +61,14 @@ same-length-3 c = search needs
 returns-2 : tie.Need-returns-2
 returns-2 c lines ok h =
     let s = c .before .before .before .before .before .before .before .before .before .before .before .before .before .before .before .before in
-    let e = sym (c .before .before .before .before .before .before .before .before .before .before .before .is-found .ensures) ∙ c .before .before .before .before .before .before .before .before .before .before .if1 .left in
+    let e = sym (c .before .before .before .before .before .before .before .before .before .before .before .is-found .ensures)
+    ∙ c .before .before .before .before .before .before .before .before .before .before .if1 .left in
     let put = c .before .before .before .before .before .before .put in
     let note : toZ w32 (ofZ w32 (s .args .note)) ≡ s .args .note = toZ-ofZ (s .fits .note) in
-    one-more (s .args .order .now) (s .args .records .now) (s .args .by-key .now) (s .args .n) (line s) (sound s) lines ok h e (put .last .0) (put .last .1 .0) (put .last .1 .1 .0)
-    (rw note at (put .ensures lines h ok (new (s .args .order .now) (s .args .records .now) (s .args .by-key .now) (s .args .n) (line s) (sound s) lines ok h e)))
+    one-more (s .args .order .now) (s .args .records .now) (s .args .by-key .now) (s .args .n) (line s) (sound s) lines ok h e (put .last .0) (put .last .1 .0)
+    (put .last .1 .1 .0)
+    (rw note at (put .ensures lines h ok
+    (new (s .args .order .now) (s .args .records .now) (s .args .by-key .now) (s .args .n) (line s) (sound s) lines ok h e)))
 
 pub add-spec : {M : Type 1} → statement M
 add-spec =

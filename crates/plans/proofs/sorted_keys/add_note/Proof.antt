@@ -20,7 +20,9 @@ returns : tie.Need-returns
 returns c =
     let s = c .before .before .before .before .before in
     let a = s .args in
-    line-refused (noteLine (a .key) (a .note) (a .detuning)) 4 (no-note-line (a .key) (a .note) (a .detuning) (no-note (a .note) (s .fits .note) (c .before .is-note .ensures) (c .if1 .taken))) (omega arith) _ _ _ _ _ _ _
+    line-refused (noteLine (a .key) (a .note) (a .detuning)) 4
+    (no-note-line (a .key) (a .note) (a .detuning) (no-note (a .note) (s .fits .note) (c .before .is-note .ensures) (c .if1 .taken)))
+    (omega arith) _ _ _ _ _ _ _
 
 is-planned-requires : tie.Need-is-planned-requires
 is-planned-requires c κs = search needs
@@ -30,7 +32,9 @@ returns-2 c =
     let s = c .before .before .before .before .before .before .before in
     let a = s .args in
     line-refused (noteLine (a .key) (a .note) (a .detuning)) 3
-    (no-detuning-line (a .key) (a .note) (a .detuning) (a-note (a .note) (s .fits .note) (c .before .before .before .is-note .ensures) (c .before .before .if1 .left)) (sym (c .before .is-planned .ensures) ∙ not-true _ (c .if2 .taken))) (omega arith) _ _ _ _ _ _ _
+    (no-detuning-line (a .key) (a .note) (a .detuning)
+    (a-note (a .note) (s .fits .note) (c .before .before .before .is-note .ensures) (c .before .before .if1 .left))
+    (sym (c .before .is-planned .ensures) ∙ not-true _ (c .if2 .taken))) (omega arith) _ _ _ _ _ _ _
 
 -- the line passed by itself
 module _ (c : tie.Else2) where

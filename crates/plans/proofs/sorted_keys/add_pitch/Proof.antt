@@ -75,7 +75,8 @@ returns-2 : tie.Need-returns-2
 returns-2 c lines ok h =
     let k = c .before .before .before .before .before .before .before .before .before .before in
     let a = s k .args in
-    rw (a-pitch-line (a .key) (a .hz) (line k .note) (line k .detuning) (nearest k)) (rw (plain k) at (c .before .before .before .before .before .before .add .ensures lines ok h))
+    rw (a-pitch-line (a .key) (a .hz) (line k .note) (line k .detuning) (nearest k))
+    (rw (plain k) at (c .before .before .before .before .before .before .add .ensures lines ok h))
 
 pub add-pitch-spec : {M : Type 1} → statement M
 add-pitch-spec =

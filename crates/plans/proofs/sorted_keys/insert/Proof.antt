@@ -50,8 +50,12 @@ loop-less c = omega arith
 loop-again : tie.Need-loop-again Inv-loop μ-loop
 loop-again c =
     let s = c .before .before .before .before .before .before .before in
-    let l = c .before .before .loop in
-    (omega arith, omega arith, shift-turn (s .args .n) (s .args .order .now) (l .order) (l .i) (l .inv .2) (omega (arith, s .pre .0, s .pre .2)) (omega arith) (omega arith))
+    let l = c .before .before .loop in (
+      omega arith,
+      omega arith,
+      shift-turn (s .args .n) (s .args .order .now) (l .order) (l .i) (l .inv .2) (omega (arith, s .pre .0, s .pre .2)) (omega arith)
+          (omega arith),
+    )
 
 mul-order-2 : tie.Need-mul-order-2 Inv-loop μ-loop
 mul-order-2 c = omega arith

@@ -14,7 +14,8 @@ use Rattle.arithmetic.specs.Outcome.{Outcome}
 use Rattle.plans.specs.Line.{Line}
 use Rattle.plans.specs.PlanInternal.{Adds}
 use Rattle.plans.specs.PlanLists.{keyCount, lineByLine, noteLine, noteLines, noteLists}
-use Rattle.plans.proofs.Lines.{Turn, begins, turn-refused, turn-next, ended, ended-early, note-line-at, note-lines-end, note-lists-equal, note-lists-unequal}
+use Rattle.plans.proofs.Lines.{Turn, begins, turn-refused, turn-next, ended, ended-early, note-line-at, note-lines-end, note-lists-equal}
+use Rattle.plans.proofs.Lines.{note-lists-unequal}
 use Rattle.plans.proofs.sorted_keys.note_lists.Statement.{statement}
 use Rattle.plans.proofs.sorted_keys.note_lists.Tie as tie
 
@@ -64,7 +65,9 @@ module _ (c : tie.In-loop Inv-loop μ-loop) where
   whole = note-lists-equal ks ns ds (c .before .before .before .if1 .left) (c .before .before .if2 .left)
 
   turn : Turn o (c .before .loop .order) (c .before .loop .records) (c .before .loop .by-key) i (line ∷ rest)
-  turn = subst (Turn o (c .before .loop .order) (c .before .loop .records) (c .before .loop .by-key) i) (note-line-at ks ns ds i (c .loop-test .taken) (omega (arith, c .before .before .before .if1 .left)) (omega (arith, c .before .before .if2 .left))) (c .before .loop .inv .1)
+  turn = subst (Turn o (c .before .loop .order) (c .before .loop .records) (c .before .loop .by-key) i)
+      (note-line-at ks ns ds i (c .loop-test .taken) (omega (arith, c .before .before .before .if1 .left)) (omega (arith, c .before .before .if2 .left)))
+      (c .before .loop .inv .1)
 
   byte : getD ks i 0 < keyCount
   byte = let f : getD ks i 0 < 256 = c .before .before .before .before .before .before .before .before .shared-slice-known .given i .fits in omega arith
@@ -94,8 +97,10 @@ add-note-requires c κs =
 
 -- what the call did, of the line
 added : (c : tie.After-add-note Inv-loop μ-loop) → let t = c .before .before .before .before .before .before .before in
-    Adds (line t) (c .add-note .result) (i t) (t .before .loop .order) (t .before .loop .records) (t .before .loop .by-key) (c .add-note .last .0) (c .add-note .last .1 .0) (c .add-note .last .1 .1 .0)
-added c = let t = c .before .before .before .before .before .before .before in let f : SFits w32 (getD (ns t) (i t) (pos 0)) = search needs in rw (toZ-ofZ f) at (c .add-note .ensures)
+    Adds (line t) (c .add-note .result) (i t) (t .before .loop .order) (t .before .loop .records) (t .before .loop .by-key) (c .add-note .last .0)
+    (c .add-note .last .1 .0) (c .add-note .last .1 .1 .0)
+added c = let t = c .before .before .before .before .before .before .before in let f : SFits w32 (getD (ns t) (i t) (pos 0)) = search needs in
+    rw (toZ-ofZ f) at (c .add-note .ensures)
 
 same-length : tie.Need-same-length Inv-loop μ-loop
 same-length c = search needs
@@ -110,7 +115,8 @@ returns-3 : tie.Need-returns-3 Inv-loop μ-loop
 returns-3 c =
     let t = c .before .before .before .before .before .before .before .before .before .before .before .before .before .before in
     let add = c .before .before .before .before .before .before .before .add-note in
-    rw (whole t) (turn-refused (o t) _ _ _ (i t) (rest t) (add .result) _ _ _ (line t) (turn t) (added (c .before .before .before .before .before .before .before)) (c .if3 .taken) (length (ks t)))
+    rw (whole t) (turn-refused (o t) _ _ _ (i t) (rest t) (add .result) _ _ _ (line t) (turn t)
+    (added (c .before .before .before .before .before .before .before)) (c .if3 .taken) (length (ks t)))
 
 add-i : tie.Need-add-i Inv-loop μ-loop
 add-i c = omega arith
@@ -121,8 +127,11 @@ loop-less c = omega arith
 loop-again : tie.Need-loop-again Inv-loop μ-loop
 loop-again c =
     let t = c .before .before .before .before .before .before .before .before .before .before .before .before .before .before in
-    let add = c .before .before .before .before .before .before .before .add-note in
-    (omega arith, turn-next (o t) _ _ _ (i t) (rest t) (add .result) _ _ _ (line t) (turn t) (added (c .before .before .before .before .before .before .before)) (c .if3 .left))
+    let add = c .before .before .before .before .before .before .before .add-note in (
+      omega arith,
+      turn-next (o t) _ _ _ (i t) (rest t) (add .result) _ _ _ (line t) (turn t)
+          (added (c .before .before .before .before .before .before .before)) (c .if3 .left),
+    )
 
 same-length-4 : tie.Need-same-length-4 Inv-loop μ-loop
 same-length-4 c = c .before .loop .inv .1 .holds .order-long ∙ sym (c .before .before .before .before .before .before .before .before .before .pre .order-long)
@@ -131,7 +140,8 @@ same-length-5 : tie.Need-same-length-5 Inv-loop μ-loop
 same-length-5 c = c .before .loop .inv .1 .holds .cells-long ∙ sym (c .before .before .before .before .before .before .before .before .before .pre .cells-long)
 
 same-length-6 : tie.Need-same-length-6 Inv-loop μ-loop
-same-length-6 c = c .before .loop .inv .1 .holds .detunings-long ∙ sym (c .before .before .before .before .before .before .before .before .before .pre .detunings-long)
+same-length-6 c = c .before .loop .inv .1 .holds .detunings-long
+    ∙ sym (c .before .before .before .before .before .before .before .before .before .pre .detunings-long)
 
 returns-4 : tie.Need-returns-4 Inv-loop μ-loop
 returns-4 c =
@@ -139,7 +149,9 @@ returns-4 c =
     let l = c .before .loop in
     let same : l .i ≡ length (a .keys .now) = omega arith in
     rw (note-lists-equal (a .keys .now) (a .notes .now) (a .detunings .now) (c .before .before .before .if1 .left) (c .before .before .if2 .left), ← same)
-    (ended _ (l .order) (l .records) (l .by-key) (l .i) (subst (Turn _ (l .order) (l .records) (l .by-key) (l .i)) (note-lines-end (a .keys .now) (a .notes .now) (a .detunings .now) (l .i) (c .loop-test .left)) (l .inv .1)))
+    (ended _ (l .order) (l .records) (l .by-key) (l .i)
+    (subst (Turn _ (l .order) (l .records) (l .by-key) (l .i))
+    (note-lines-end (a .keys .now) (a .notes .now) (a .detunings .now) (l .i) (c .loop-test .left)) (l .inv .1)))
 
 pub note-lists-spec : {M : Type 1} → statement M
 note-lists-spec =

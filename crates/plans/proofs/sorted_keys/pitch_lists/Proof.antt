@@ -9,7 +9,8 @@ use borrow.Author.Needs.{needs}
 use Rattle.arithmetic.specs.Outcome.{Outcome}
 use Rattle.plans.specs.Line.{Line}
 use Rattle.plans.specs.PlanLists.{keyCount, lineByLine, pitchLine, pitchLines, pitchLists}
-use Rattle.plans.proofs.Lines.{Turn, begins, turn-refused, turn-next, ended, ended-early, pitch-line-at, pitch-lines-end, pitch-lists-equal, pitch-lists-unequal}
+use Rattle.plans.proofs.Lines.{Turn, begins, turn-refused, turn-next, ended, ended-early, pitch-line-at, pitch-lines-end, pitch-lists-equal}
+use Rattle.plans.proofs.Lines.{pitch-lists-unequal}
 use Rattle.plans.proofs.sorted_keys.pitch_lists.Statement.{statement}
 use Rattle.plans.proofs.sorted_keys.pitch_lists.Tie as tie
 
@@ -53,7 +54,8 @@ module _ (c : tie.In-loop Inv-loop μ-loop) where
   whole = pitch-lists-equal ks hzs (c .before .before .if1 .left)
 
   turn : Turn o (c .before .loop .order) (c .before .loop .records) (c .before .loop .by-key) i (line ∷ rest)
-  turn = subst (Turn o (c .before .loop .order) (c .before .loop .records) (c .before .loop .by-key) i) (pitch-line-at ks hzs i (c .loop-test .taken) (omega (arith, c .before .before .if1 .left))) (c .before .loop .inv .1)
+  turn = subst (Turn o (c .before .loop .order) (c .before .loop .records) (c .before .loop .by-key) i)
+      (pitch-line-at ks hzs i (c .loop-test .taken) (omega (arith, c .before .before .if1 .left))) (c .before .loop .inv .1)
 
   byte : getD ks i 0 < keyCount
   byte = let f : getD ks i 0 < 256 = c .before .before .before .before .before .before .before .shared-slice-known .given i .fits in omega arith
@@ -88,7 +90,8 @@ returns-2 : tie.Need-returns-2 Inv-loop μ-loop
 returns-2 c =
     let t = c .before .before .before .before .before .before .before .before .before .before .before .before .before in
     let add = c .before .before .before .before .before .before .before .add-pitch in
-    rw (whole t) (turn-refused (o t) _ _ _ (i t) (rest t) (add .result) _ _ _ (line t) (turn t) (c .before .before .before .before .before .before .before .add-pitch .ensures) (c .if2 .taken) (length (ks t)))
+    rw (whole t) (turn-refused (o t) _ _ _ (i t) (rest t) (add .result) _ _ _ (line t) (turn t)
+    (c .before .before .before .before .before .before .before .add-pitch .ensures) (c .if2 .taken) (length (ks t)))
 
 add-i : tie.Need-add-i Inv-loop μ-loop
 add-i c = omega arith
@@ -99,8 +102,11 @@ loop-less c = omega arith
 loop-again : tie.Need-loop-again Inv-loop μ-loop
 loop-again c =
     let t = c .before .before .before .before .before .before .before .before .before .before .before .before .before in
-    let add = c .before .before .before .before .before .before .before .add-pitch in
-    (omega arith, turn-next (o t) _ _ _ (i t) (rest t) (add .result) _ _ _ (line t) (turn t) (c .before .before .before .before .before .before .before .add-pitch .ensures) (c .if2 .left))
+    let add = c .before .before .before .before .before .before .before .add-pitch in (
+      omega arith,
+      turn-next (o t) _ _ _ (i t) (rest t) (add .result) _ _ _ (line t) (turn t)
+          (c .before .before .before .before .before .before .before .add-pitch .ensures) (c .if2 .left),
+    )
 
 same-length-4 : tie.Need-same-length-4 Inv-loop μ-loop
 same-length-4 c = c .before .loop .inv .1 .holds .order-long ∙ sym (c .before .before .before .before .before .before .before .before .pre .order-long)
@@ -117,7 +123,8 @@ returns-3 c =
     let l = c .before .loop in
     let same : l .i ≡ length (a .keys .now) = omega arith in
     rw (pitch-lists-equal (a .keys .now) (a .pitches .now) (c .before .before .if1 .left), ← same)
-    (ended _ (l .order) (l .records) (l .by-key) (l .i) (subst (Turn _ (l .order) (l .records) (l .by-key) (l .i)) (pitch-lines-end (a .keys .now) (a .pitches .now) (l .i) (c .loop-test .left)) (l .inv .1)))
+    (ended _ (l .order) (l .records) (l .by-key) (l .i)
+    (subst (Turn _ (l .order) (l .records) (l .by-key) (l .i)) (pitch-lines-end (a .keys .now) (a .pitches .now) (l .i) (c .loop-test .left)) (l .inv .1)))
 
 pub pitch-lists-spec : {M : Type 1} → statement M
 pitch-lists-spec =

@@ -13,7 +13,8 @@ use Rattle.plans.proofs.sorted_keys.place.Statement.{statement}
 use Rattle.plans.proofs.sorted_keys.place.Tie as tie
 
 abbrev Inv-loop : tie.InvT-loop
-Inv-loop order n detuning detunings low₀ high₀ low high = (high ≤ n) × (low ≤ before detunings detuning (take n order)) × (before detunings detuning (take n order) ≤ high)
+Inv-loop order n detuning detunings low₀ high₀ low high = (high ≤ n) × (low ≤ before detunings detuning (take n order))
+    × (before detunings detuning (take n order) ≤ high)
 
 abbrev μ-loop : tie.MeasureT-loop
 μ-loop order n detuning detunings low₀ high₀ low high = high - low
@@ -34,7 +35,9 @@ module _ (c : tie.In-loop Inv-loop μ-loop) where
   byte : getD (s .args .order .now) middle 0 < keyCount
   byte =
       let a = s .args in
-      rw (← getD-take (a .n) (a .order .now) middle 0 (omega arith)) (at-each (λ (k : ℕ). k < keyCount) (take (a .n) (a .order .now)) 0 (s .pre .3) middle (omega (arith, length-take (a .n) (a .order .now), s .pre .0, s .pre .2)))
+      rw (← getD-take (a .n) (a .order .now) middle 0 (omega arith))
+      (at-each (λ (k : ℕ). k < keyCount) (take (a .n) (a .order .now)) 0 (s .pre .3) middle
+      (omega (arith, length-take (a .n) (a .order .now), s .pre .0, s .pre .2)))
 
 add-middle : tie.Need-add-middle Inv-loop μ-loop
 add-middle c = omega arith
@@ -65,7 +68,8 @@ loop-again c =
     let t = c .before .before .before .before in
     let a = s t .args in
     let l = t .before .loop in
-    let most = place-most (a .detunings .now) (a .detuning) (a .n) (a .order .now) (middle t) (omega arith) (omega (arith, s t .pre .0, s t .pre .2)) (sym (c .before .is-below .ensures) ∙ c .if1 .taken) in
+    let most = place-most (a .detunings .now) (a .detuning) (a .n) (a .order .now) (middle t) (omega arith) (omega (arith, s t .pre .0, s t .pre .2))
+    (sym (c .before .is-below .ensures) ∙ c .if1 .taken) in
     (omega arith, l .inv .1, most)
 
 add-low : tie.Need-add-low Inv-loop μ-loop
@@ -79,7 +83,8 @@ loop-again-2 c =
     let t = c .before .before .before .before in
     let a = s t .args in
     let l = t .before .loop in
-    let least = place-least (a .detunings .now) (a .detuning) (a .n) (a .order .now) (middle t) (omega arith) (omega (arith, s t .pre .0, s t .pre .2)) (s t .pre .4) (s t .pre .5) (sym (c .before .is-below .ensures) ∙ c .if1 .left) in
+    let least = place-least (a .detunings .now) (a .detuning) (a .n) (a .order .now) (middle t) (omega arith) (omega (arith, s t .pre .0, s t .pre .2))
+    (s t .pre .4) (s t .pre .5) (sym (c .before .is-below .ensures) ∙ c .if1 .left) in
     (l .inv .0, omega (arith, least), l .inv .2)
 
 returns : tie.Need-returns Inv-loop μ-loop

@@ -30,8 +30,16 @@ insert-requires : tie.Need-insert-requires
 insert-requires c κs =
     let s = c .before .before .before .before .before .before in
     let a = s .args in
-    let r = s .pre .3 in
-    (s .pre .0, length-set (a .by-key .now) (a .key) (a .detuning) ∙ s .pre .2, r .few, r .bytes, rises-kept (a .records .now) (a .by-key .now) (a .key) 0 (a .detuning) (take (a .n) (a .order .now)) (r .others) (r .rises), s .pre .5)
+    let r = s .pre .3 in (
+      s .pre .0,
+      length-set (a .by-key .now) (a .key) (a .detuning)
+          ∙ s .pre .2,
+      r .few,
+      r .bytes,
+      rises-kept (a .records .now) (a .by-key .now) (a .key) 0 (a .detuning) (take (a .n) (a .order .now)) (r .others)
+          (r .rises),
+      s .pre .5,
+    )
 
 same-length : tie.Need-same-length
 same-length c = search needs

@@ -54,7 +54,8 @@ same-length c =
     let k = c .before .before .before .before in
     let s = k .before .before .before .before .before in
     c .before .cells .given
-    ∙ settings-long (s .args .cells .now) (s .pre) (k .before .before .before .len .result) (k .before .before .digits .result) (k .before .group-number .result) (k .kind-number .result)
+    ∙ settings-long (s .args .cells .now) (s .pre) (k .before .before .before .len .result) (k .before .before .digits .result)
+    (k .before .group-number .result) (k .kind-number .result)
     ∙ sym (s .pre)
 
 returns : tie.Need-returns
@@ -69,9 +70,13 @@ returns c =
     let kind = k .kind-number in
     let list = s .args .channels in
     let listed : listAt _ ≡ entries list =
-    settings-list l (s .pre) (n .result) (ds .result) (g .result) (kind .result) ∙ ap (digits (min (n .result) 16)) (ds .ensures) ∙ same-entries (n .result) (list .count) (list .digits) (n .ensures) in
-    let grouped = settings-group l (s .pre) (n .result) (ds .result) (g .result) (kind .result) ∙ g .ensures in
-    (c .before .before .clear .ensures .0 ∙ (λ i. empty (listed i) (grouped i)), c .before .before .clear .ensures .1 ∙ settings-kind l (s .pre) (n .result) (ds .result) (g .result) (kind .result) ∙ kind .ensures)
+    settings-list l (s .pre) (n .result) (ds .result) (g .result) (kind .result) ∙ ap (digits (min (n .result) 16)) (ds .ensures)
+    ∙ same-entries (n .result) (list .count) (list .digits) (n .ensures) in
+    let grouped = settings-group l (s .pre) (n .result) (ds .result) (g .result) (kind .result) ∙ g .ensures in (
+      c .before .before .clear .ensures .0 ∙ (λ i. empty (listed i) (grouped i)),
+      c .before .before .clear .ensures .1
+          ∙ settings-kind l (s .pre) (n .result) (ds .result) (g .result) (kind .result) ∙ kind .ensures,
+    )
 
 pub begin-spec : {M : Type 1} → statement M
 begin-spec =

@@ -1,7 +1,6 @@
 -- `state::clear` meets its contract: no key has a record. Assumes nothing.
 use mathlib.Core.Path.{_≡_, sym, ap, _∙_}
-use mathlib.Core.List.{List}
-use Prim.Native.Nat.{ℕ, _≤_}
+use Prim.Native.Nat.{_≤_}
 use native.Mathlib.Omega.{arith}
 use lib.ListN.{length}
 use Rattle.plans.specs.PlanBlock.{listAt, groupByAt}
@@ -44,7 +43,8 @@ returns c =
     let m-long = same .long ∙ s .pre in
     let counted : n ≡ length (listAt m) = c .before .before .before .before .len .ensures ∙ ap length (list .ensures ∙ sym (list-same l m same)) in
     let few : n ≤ 16 = omega (arith, c .before .before .before .before .len .ensures, entries-few (list .result)) in (
-      put-plan m m-long n 0 ∙ cleared (listAt m) (groupByAt m) n (recordsAt m) counted few (no-records m (c .before .before .clear-records .ensures .1)) ∙ (λ i. empty (list-same l m same i) (group-same l m same i)),
+      put-plan m m-long n 0 ∙ cleared (listAt m) (groupByAt m) n (recordsAt m) counted few (no-records m (c .before .before .clear-records .ensures .1))
+          ∙ (λ i. empty (list-same l m same i) (group-same l m same i)),
       put-kind m m-long n 0 ∙ kind-same l m same,
     )
 

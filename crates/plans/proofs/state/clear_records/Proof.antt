@@ -1,12 +1,11 @@
 -- `state::clear_records` meets its contract. The loop's invariant: the records before `i` are 0, and the settings as they were. Assumes nothing.
-use mathlib.Core.Path.{_≡_, refl, _∙_}
+use mathlib.Core.Path.{_≡_}
 use Prim.Native.Nat.{ℕ, _≤_, _<_, _-_}
 use native.Mathlib.Omega.{arith}
-use lib.ListN.{length, getD}
+use lib.ListN.{getD}
 use Rattle.channels.specs.Keys.{keyCount}
 use Rattle.plans.specs.PlanInternal.{SettingsSame}
 use Rattle.plans.proofs.PlanBlocks.{settings-kept, settings-then, clear-same, clear-more}
-use borrow.Author.Needs.{needs}
 use Rattle.plans.proofs.state.clear_records.Statement.{statement}
 use Rattle.plans.proofs.state.clear_records.Tie as tie
 
@@ -34,8 +33,12 @@ loop-less c = omega arith
 loop-again : tie.Need-loop-again Inv-loop μ-loop
 loop-again c =
     let l = c .before .loop in
-    let h = c .loop-test .taken in
-    (omega arith, settings-then (l .inv .1) (clear-same (l .cells) (l .i) h), clear-more (l .cells) (l .i) h (omega (arith, l .inv .1 .long, c .before .before .pre)) (l .inv .2))
+    let h = c .loop-test .taken in (
+      omega arith,
+      settings-then (l .inv .1) (clear-same (l .cells) (l .i) h),
+      clear-more (l .cells) (l .i) h
+          (omega (arith, l .inv .1 .long, c .before .before .pre)) (l .inv .2),
+    )
 
 same-length : tie.Need-same-length Inv-loop μ-loop
 same-length c = c .before .loop .inv .1 .long

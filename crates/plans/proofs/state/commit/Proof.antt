@@ -1,5 +1,5 @@
 -- `state::commit` meets its contract, by the refusal, the count and the channels present. Assumes nothing.
-use mathlib.Core.Path.{_≡_, refl, sym, ap, _∙_}
+use mathlib.Core.Path.{refl, sym, ap, _∙_}
 use Prim.Native.Nat.{_+_, _≤_, _<_}
 use native.Mathlib.Omega.{arith}
 use lib.ListN.{length, length-set}
@@ -82,8 +82,13 @@ returns-3 c lines h =
     let same = put .ensures .0 in
     let new = put .last .0 in
     let new-long = same .long ∙ s .pre .0 in
-    let seats = seats-stored (m .groupBy) (p .0) (p .1) (a .records .now) (a .detunings .now) (a .planning .count) new (s .pre .1) (s .pre .2) (put .ensures .1) (p .2) in
-    (tuned-block l new new-long same (p .0) (p .1) (a .planning .count) seats fit few ∙ p .3, put-kind new new-long (a .planning .count) 1 ∙ kind-same l new same, tt)
+    let seats = seats-stored (m .groupBy) (p .0) (p .1) (a .records .now) (a .detunings .now) (a .planning .count) new (s .pre .1) (s .pre .2)
+    (put .ensures .1) (p .2) in (
+      tuned-block l new new-long same (p .0) (p .1) (a .planning .count) seats fit few ∙ p .3,
+      put-kind new new-long (a .planning .count) 1
+          ∙ kind-same l new same,
+      tt,
+    )
 
 pub commit-spec : {M : Type 1} → statement M
 commit-spec =

@@ -1,5 +1,6 @@
--- `state::put_records` meets its contract. The loop's invariant: the keys before `i` have their records, and the settings are as they were. Assumes nothing.
-use mathlib.Core.Path.{_≡_, refl, ap, _∙_}
+-- `state::put_records` meets its contract. The loop's invariant: the keys before `i` have their records, and the settings are as they were.
+-- Assumes nothing.
+use mathlib.Core.Path.{_≡_, ap, _∙_}
 use mathlib.Core.List.{List}
 use Prim.Native.Nat.{ℕ, _≤_, _<_, _-_}
 use native.Mathlib.Omega.{arith}
@@ -40,7 +41,12 @@ mul-cells-2 : tie.Need-mul-cells-2 Inv-loop μ-loop
 mul-cells-2 c = omega arith
 
 slice-write-cells : tie.Need-slice-write-cells Inv-loop μ-loop
-slice-write-cells c = omega (arith, c .before .before .loop .inv .1 .long, c .before .before .before .before .before .before .pre .0, c .before .loop-test .taken)
+slice-write-cells c = omega (
+  arith,
+  c .before .before .loop .inv .1 .long,
+  c .before .before .before .before .before .before .pre .0,
+  c .before .loop-test .taken,
+)
 
 mul-bits-of : tie.Need-mul-bits-of Inv-loop μ-loop
 mul-bits-of c = omega arith
@@ -60,7 +66,13 @@ mul-cells-3 c = omega arith
 slice-write-cells-2 : tie.Need-slice-write-cells-2 Inv-loop μ-loop
 slice-write-cells-2 c =
     let l = c .before .before .before .before .loop in
-    omega (arith, l .inv .1 .long, c .before .before .before .before .before .before .before .before .pre .0, c .before .before .before .loop-test .taken, length-set (l .cells) (l .i) (getD (c .before .before .before .before .before .before .before .before .args .records .now) (l .i) 0))
+    omega (
+      arith,
+      l .inv .1 .long,
+      c .before .before .before .before .before .before .before .before .pre .0,
+      c .before .before .before .loop-test .taken,
+      length-set (l .cells) (l .i) (getD (c .before .before .before .before .before .before .before .before .args .records .now) (l .i) 0),
+    )
 
 add-i : tie.Need-add-i Inv-loop μ-loop
 add-i c = omega arith
@@ -77,7 +89,8 @@ loop-again c =
     let cell = getD (s .args .records .now) (l .i) 0 in (
       omega arith,
       settings-then (l .inv .1) (key-same (l .cells) m (l .i) cell (c .bits-of .result) h),
-      key-more (l .cells) m (l .i) cell (c .bits-of .result) h (planned (s .args .records .now) (s .args .detunings .now)) (c .before .before .shared-slice-known3 .given (l .i) .fits) (ap (recordOf cell) (c .bits-of .ensures)) (l .inv .2),
+      key-more (l .cells) m (l .i) cell (c .bits-of .result) h (planned (s .args .records .now) (s .args .detunings .now))
+          (c .before .before .shared-slice-known3 .given (l .i) .fits) (ap (recordOf cell) (c .bits-of .ensures)) (l .inv .2),
     )
 
 same-length : tie.Need-same-length Inv-loop μ-loop

@@ -1,5 +1,5 @@
 -- `senders::plan_block::channel_len` meets its contract: the channel has a detuning and the list the entry, or not. Assumes nothing.
-use mathlib.Core.Path.{_≡_, refl, sym, ap, _∙_}
+use mathlib.Core.Path.{refl, sym, ap, _∙_}
 use Rattle.channels.specs.ChannelList.{entries, entryAnswer}
 use Rattle.channels.specs.TuningValue.{sentAs}
 use Rattle.senders.proofs.Sizes.{tuning-size}

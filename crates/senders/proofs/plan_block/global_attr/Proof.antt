@@ -16,7 +16,10 @@ same-length : tie.Need-same-length
 same-length c = search needs
 
 returns : tie.Need-returns
-returns c = rw (c .before .before .before .before .channel-list .ensures, c .before .before .before .before .before .tuning-kind .ensures) at (c .before .before .send-checked-to-all .ensures)
+returns c = rw (
+  c .before .before .before .before .channel-list .ensures,
+  c .before .before .before .before .before .tuning-kind .ensures,
+) at (c .before .before .send-checked-to-all .ensures)
 
 pub global-attr-spec : {M : Type 1} → statement M
 global-attr-spec =

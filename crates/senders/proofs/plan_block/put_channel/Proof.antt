@@ -1,4 +1,5 @@
--- `senders::plan_block::put_channel` meets its contract: the channel has a detuning and the list the entry, and then the tuning is put, or not. Assumes nothing.
+-- `senders::plan_block::put_channel` meets its contract: the channel has a detuning and the list the entry, and then the tuning is put, or not. Assumes
+-- nothing.
 use mathlib.Core.Path.{_≡_, sym, ap, _∙_}
 use mathlib.Core.Option.{some}
 use lib.ListN.{getElem?}
@@ -70,7 +71,8 @@ returns-3 c =
     let k = h .before .before .before .before in
     let a = k .before .before .before .args in
     let d = k .detuning .given .0 .0 in
-    rw (k .detuning .given .1) (rw (channel-sent (a .kind) (entries (a .channels)) (a .i) d (known h)) (rw (p .before .sent-as .ensures) at (p .put-tuning .ensures)))
+    rw (k .detuning .given .1) (rw (channel-sent (a .kind) (entries (a .channels)) (a .i) d (known h))
+    (rw (p .before .sent-as .ensures) at (p .put-tuning .ensures)))
 
 pub put-channel-spec : {M : Type 1} → statement M
 put-channel-spec =

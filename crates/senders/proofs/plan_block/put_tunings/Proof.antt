@@ -24,7 +24,8 @@ abbrev tunings : List ℕ → ℕ → List Message
 tunings cells i = channelMessages (planKindAt cells) (planAt cells .channels) i (planAt cells .detunings i (pos 0))
 
 abbrev Inv-loop : tie.InvT-loop
-Inv-loop cells entries out₀ kind channels count at₀ i₀ out at i = (i ≤ planAt cells .numChannels) × Put 0 (upTo (tunings cells) i) at out₀ out × (length out ≡ length out₀)
+Inv-loop cells entries out₀ kind channels count at₀ i₀ out at i = (i ≤ planAt cells .numChannels) × Put 0 (upTo (tunings cells) i) at out₀ out
+    × (length out ≡ length out₀)
 
 abbrev μ-loop : tie.MeasureT-loop
 μ-loop cells entries out₀ kind channels count at₀ i₀ out at i = planAt cells .numChannels - i
@@ -72,12 +73,14 @@ entry-of-requires : tie.Need-entry-of-requires Inv-loop μ-loop
 entry-of-requires c κs = search needs
 
 -- the detuning that was put down
-read : (c : tie.After-entry-of Inv-loop μ-loop) → let t = c .before .before in detuningAnswer (c .entry-of .result) ≡ planAt (s t .args .cells .now) .detunings (i t) (pos 0)
+read : (c : tie.After-entry-of Inv-loop μ-loop)
+    → let t = c .before .before in detuningAnswer (c .entry-of .result) ≡ planAt (s t .args .cells .now) .detunings (i t) (pos 0)
 read c = let t = c .before .before in c .entry-of .ensures ∙ s t .pre .2 (i t) (below t)
 
 -- and so its messages
 sent : (c : tie.After-entry-of Inv-loop μ-loop) → let t = c .before .before in let l = t .before .before in
-    channelMessages (l .before .before .tuning-kind .result) (entries (l .before .channel-list .result)) (i t) (detuningAnswer (c .entry-of .result)) ≡ tunings (s t .args .cells .now) (i t)
+    channelMessages (l .before .before .tuning-kind .result) (entries (l .before .channel-list .result)) (i t) (detuningAnswer (c .entry-of .result)) ≡ tunings
+    (s t .args .cells .now) (i t)
 sent c =
     let t = c .before .before in
     let l = t .before .before in
@@ -113,7 +116,8 @@ loop-again c =
       omega (arith, below t),
       rw (first-more f (i t))
           (put-then (l .loop .inv .1)
-          (subst (λ (ms : List Message). Put (l .loop .at) (bytesOf ms) (p .put-channel .result) (l .loop .out) (p .put-channel .last .0)) (sent (p .before .before)) (p .put-channel .ensures)) (omega arith)),
+          (subst (λ (ms : List Message). Put (l .loop .at) (bytesOf ms) (p .put-channel .result) (l .loop .out) (p .put-channel .last .0))
+          (sent (p .before .before)) (p .put-channel .ensures)) (omega arith)),
       omega arith,
     )
 

@@ -68,7 +68,8 @@ returns-2 c =
     let k = t .before .before .before in
     let s = k .before .before .before in
     let a = s .args in
-    let put = subst (λ (d : TuningKind). Put 0 (bytesOf (planMessages d (planAt (a .next .now)))) (p .put-tunings .result) (a .out .now) (p .put-tunings .last .1 .1 .0)) (s .pre .1) (p .put-tunings .ensures) in
+    let put = subst (λ (d : TuningKind). Put 0 (bytesOf (planMessages d (planAt (a .next .now)))) (p .put-tunings .result) (a .out .now)
+    (p .put-tunings .last .1 .1 .0)) (s .pre .1) (p .put-tunings .ensures) in
     rw (k .answer .given .1) (ends-tuned refl put (omega (arith, counted t, i .if1 .left)) (view-planned (a .cells .now) (a .next .now) (s .pre .1)))
 
 returns-3 : tie.Need-returns-3

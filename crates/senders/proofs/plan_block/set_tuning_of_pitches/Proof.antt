@@ -16,8 +16,12 @@ send-requires c κs =
     let s = m .before .before .before .before .before .before in
     let a = s .args in
     let t = m .set-tuning-of-pitches .ensures .0 in
-    let fine = pitches-fine (a .keys .now) (a .pitches .now) (λ i. omega (arith, m .before .before .before .before .before .shared-slice-known .given i .fits)) in
-    (ready (a .cells .now) (pitchLists (a .keys .now) (a .pitches .now)) (planAt (m .set-tuning-of-pitches .last .0), planAnswer (m .set-tuning-of-pitches .result)) fine (t .0), t .1)
+    let fine = pitches-fine (a .keys .now) (a .pitches .now)
+    (λ i. omega (arith, m .before .before .before .before .before .shared-slice-known .given i .fits)) in (
+      ready (a .cells .now) (pitchLists (a .keys .now) (a .pitches .now))
+          (planAt (m .set-tuning-of-pitches .last .0), planAnswer (m .set-tuning-of-pitches .result)) fine (t .0),
+      t .1,
+    )
 
 same-length : tie.Need-same-length
 same-length c = search needs
@@ -28,7 +32,8 @@ returns c =
     let m = p .before .before .before .before in
     let a = m .before .before .before .before .before .before .args in
     let t = m .set-tuning-of-pitches .ensures in
-    answers (a .cells .now) _ _ _ _ (pitchLists (a .keys .now) (a .pitches .now)) (planAt (m .set-tuning-of-pitches .last .0), planAnswer (m .set-tuning-of-pitches .result)) (t .0 .0) (t .1) (p .send .ensures)
+    answers (a .cells .now) _ _ _ _ (pitchLists (a .keys .now) (a .pitches .now))
+    (planAt (m .set-tuning-of-pitches .last .0), planAnswer (m .set-tuning-of-pitches .result)) (t .0 .0) (t .1) (p .send .ensures)
 
 pub set-tuning-of-pitches-spec : {M : Type 1} → statement M
 set-tuning-of-pitches-spec = tie.close (tie.spec set-tuning-of-pitches-requires send-requires same-length returns)

@@ -1,12 +1,10 @@
 -- `senders::plan_block::start` meets its contract, by the channel list's answer. Assumes nothing.
-use mathlib.Core.Path.{_≡_, refl, sym, ap, _∙_}
-use Rattle.channels.specs.Outcome.{value}
+use mathlib.Core.Path.{refl, sym, ap, _∙_}
 use Rattle.channels.specs.ChannelList.{entries, channelsAnswer}
 use Rattle.plans.specs.Plan.{Model, openRule, empty}
 use Rattle.plans.specs.PlanBlock.{planKindAt}
 use Rattle.plans.specs.declared.block.GroupBy.the-variants.{Channel}
 use Rattle.channels.specs.declared.tuning_value.TuningKind.{TuningKind}
-use Rattle.senders.specs.Aot.{Tuner}
 use borrow.Author.Needs.{needs}
 use Rattle.senders.proofs.plan_block.start.Statement.{statement}
 use Rattle.senders.proofs.plan_block.start.Tie as tie
@@ -29,8 +27,11 @@ returns c =
     let list = c .before .before .before .answer .given .0 .0 in
     let listed = sym (ap channelsAnswer (c .before .before .before .answer .given .1)) ∙ c .before .before .before .before .before .of .ensures in
     let opened = c .«open» in
-    rw (sym listed)
-    (refl, ap (λ (m : Model). record { plan = m; kind = planKindAt (opened .last .0) }) (opened .ensures .0) ∙ ap (λ (k : TuningKind). record { plan = empty (entries list) Channel; kind = k }) (opened .ensures .1))
+    rw (sym listed) (
+      refl,
+      ap (λ (m : Model). record { plan = m; kind = planKindAt (opened .last .0) }) (opened .ensures .0)
+          ∙ ap (λ (k : TuningKind). record { plan = empty (entries list) Channel; kind = k }) (opened .ensures .1),
+    )
 
 returns-2 : tie.Need-returns-2
 unfolding channelsAnswer openRule

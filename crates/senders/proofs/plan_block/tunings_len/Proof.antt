@@ -1,7 +1,8 @@
--- `senders::plan_block::tunings_len` meets its contract. The loop's invariant: the tunings of the channels before `i` were counted, and their detunings put down. Assumes nothing.
+-- `senders::plan_block::tunings_len` meets its contract. The loop's invariant: the tunings of the channels before `i` were counted, and their detunings put
+-- down. Assumes nothing.
 use mathlib.Core.Path.{_≡_, refl, sym, ap, _∙_}
 use mathlib.Core.List.{List}
-use Prim.Native.Nat.{ℕ, _-_, _+_, _≤_, _<_}
+use Prim.Native.Nat.{ℕ, _-_, _≤_, _<_}
 use native.Mathlib.Omega.{arith}
 use lib.IntN.{pos}
 use lib.Ieee.{nan}
@@ -84,7 +85,11 @@ counted : (c : tie.After-channel-len Inv-loop μ-loop) → let t = c .before .be
     c .channel-len .result ≡ length (bytesOf (tunings (s t .args .cells .now) (i t)))
 counted c =
     let l = c .before .before .before .before in
-    rw (c .before .before .detuning .ensures, l .before .before .channel-list .ensures, l .before .before .before .tuning-kind .ensures) at (c .channel-len .ensures)
+    rw (
+      c .before .before .detuning .ensures,
+      l .before .before .channel-list .ensures,
+      l .before .before .before .tuning-kind .ensures,
+    ) at (c .channel-len .ensures)
 
 add-len : tie.Need-add-len Inv-loop μ-loop
 add-len c =
@@ -108,7 +113,8 @@ loop-again c =
       omega (arith, t .loop-test .taken, t .before .before .num-channels .ensures),
       omega (arith, l .inv .1, counted c, ap length (first-more f (i t)), length-append (upTo f (i t)) (bytesOf (f (i t)))),
       length-set (l .entries) (i t) d ∙ l .inv .2,
-      entries-more (λ k. planAt cells .detunings k (pos 0)) (l .entries) (i t) d (omega (arith, few t, l .inv .2)) (c .before .number-of .ensures ∙ c .before .before .detuning .ensures) (l .inv .3),
+      entries-more (λ k. planAt cells .detunings k (pos 0)) (l .entries) (i t) d (omega (arith, few t, l .inv .2))
+          (c .before .number-of .ensures ∙ c .before .before .detuning .ensures) (l .inv .3),
     )
 
 same-length : tie.Need-same-length Inv-loop μ-loop

@@ -11,7 +11,8 @@ next-detuning-requires : tie.Need-next-detuning-requires
 next-detuning-requires c κs = search needs
 
 returns : tie.Need-returns
-returns c = let s = c .before .before .before in c .next-detuning .ensures ∙ ap (nextRule (modelOf (s .args .self)) (s .args .channel)) (toZ-ofZ (s .fits .from))
+returns c = let s = c .before .before .before in c .next-detuning .ensures
+    ∙ ap (nextRule (modelOf (s .args .self)) (s .args .channel)) (toZ-ofZ (s .fits .from))
 
 pub next-detuning-spec : {M : Type 1} → statement M
 next-detuning-spec = tie.close (tie.spec next-detuning-requires returns)
