@@ -11,7 +11,7 @@ use Rattle.plans.specs.Plan as M
 use Rattle.channels.specs.declared.tuning_value.TuningKind.{TuningKind}
 use Rattle.senders.specs.Lent.{Effect, Steps}
 use Rattle.senders.specs.Jit.{view}
-use Rattle.senders.specs.Aot as Aot
+use Rattle.plan_tuner.specs.Aot as Aot
 use Rattle.capi.specs.Answers.{ofPlan, ofPlanSent, planIn, planSentIn}
 use Rattle.capi.specs.Entry.{EntryMeets}
 use Rattle.capi.specs.declared.answer.Answer.{Answer}

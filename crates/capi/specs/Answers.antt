@@ -13,7 +13,7 @@ use Rattle.channels.specs.Places.{Place}
 use Rattle.pools.specs.Pool.{Press, accepted, rejected}
 use Rattle.channels.specs.declared.tuning_value.Tuning.{Tuning}
 use Rattle.channels.specs.declared.tuning_value.Tuning.the-variants.{Fine, Bend}
-use Rattle.senders.specs.Aot.{Planned, tunes, cannot}
+use Rattle.plan_tuner.specs.Aot.{Planned, tunes, cannot}
 use Rattle.senders.specs.Jit.{Pressed, sounds, rejects}
 use Rattle.capi.specs.declared.answer.Answer.{Answer}
 use Rattle.capi.specs.declared.answer.Note.{Note}

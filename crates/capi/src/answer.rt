@@ -8,7 +8,8 @@ ghost use Rattle.plans.specs.Plan.{planAnswer, detuningAnswer, nextAnswer};
 ghost use Rattle.channels.specs.ChannelList.{channelsAnswer};
 ghost use Rattle.channels.specs.Places.{place};
 ghost use Rattle.pools.specs.PoolAnswers.{press, repitched, stoppedNote};
-ghost use Rattle.senders.specs.Answers.{sentAnswer, pressAnswer, planSent};
+ghost use Rattle.senders.specs.Answers.{sentAnswer, pressAnswer};
+ghost use Rattle.plan_tuner.specs.Aot.{planSent};
 ghost use Rattle.capi.specs.Answers.{answerOf, ofSent, ofPress, ofList, ofPlan, ofPlanSent, registeredOf, ofRegistered, isStopped, noteOr0};
 ghost use Rattle.capi.specs.Answers.{noteOf, ofPlace, ofDetuning, ofEntry, ofRepitched, ofNearest, ofPitch, numberOf, ofMeasure, ofTuning};
 use arithmetic::pitch::Measured;
@@ -24,7 +25,7 @@ use pools::block::StoppedNote;
 use channels::keys::AccessKeyResult;
 use channels::tuning_value::Tuning;
 use channels::tuning_value::TuningAnswer;
-use senders::aot::PlanSent;
+use plan_tuner::aot::PlanSent;
 use senders::jit::PressAnswer;
 use senders::midi::Sent;
 

@@ -7,8 +7,8 @@ ghost use Rattle.plans.specs.Plan.{openRule, setTuning, setTuningOfPitches, nex
 ghost use Rattle.plans.specs.Plan as Model;
 ghost use Rattle.channels.specs.TuningValue.{kindOf};
 ghost use Rattle.channels.specs.declared.tuning_value.TuningKind.the-variants.{FineTuning};
-ghost use Rattle.senders.specs.Aot.{view, startRule, Starts, setTuningRule, setTuningOfPitchesRule, Smallest, found};
-ghost use Rattle.senders.specs.Aot.{noteOnRule, noteOffRule, noteAttrRule, globalAttrRule, stopRule};
+ghost use Rattle.plan_tuner.specs.Aot.{view, startRule, Starts, setTuningRule, setTuningOfPitchesRule, Smallest, found};
+ghost use Rattle.plan_tuner.specs.Aot.{noteOnRule, noteOffRule, noteAttrRule, globalAttrRule, stopRule};
 ghost use Rattle.capi.specs.Answers.{ofSent, ofList, ofPlan, ofPlanSent, planIn, planSentIn, ofPlace, ofDetuning, ofEntry};
 ghost use Rattle.capi.specs.Message.{messageOf};
 ghost use Rattle.capi.specs.Entry.{EntryMeets, EntryWrites};
@@ -32,7 +32,7 @@ pub extern "C" fn tarvoued_plan_open(plan: &mut Plan, channels: &[u8], tuning_ki
         let rule = startRule (now (channels .entry)) (kindOf «tuning_kind») in
         ⌜ (r ≡ ofList (rule .0)) × Starts (rule .0) (rule .1) (now (plan .entry)) (now (plan .exit)) ⌝ }
 {
-    answer::of_list(senders::plan_block::start(
+    answer::of_list(plan_tuner::block::start(
         plan,
         channels,
         settings::tuning_kind_of(tuning_kind),
@@ -53,7 +53,7 @@ pub extern "C" fn tarvoued_plan_set_tuning(
     ensures { λ r. ⌜ Smallest (view (now (plan .entry))) (noteLists (now (keys .entry)) (now (notes .entry)) (now (detunings .entry)))
         (planSentIn r) (view (now (plan .exit))) ⌝ }
 {
-    answer::of_plan_sent(senders::plan_block::set_tuning(plan, keys, notes, detunings, out))
+    answer::of_plan_sent(plan_tuner::block::set_tuning(plan, keys, notes, detunings, out))
 }
 
 // Plans keys with their pitches in Hz, and tunes each channel used, in order. Refuses 12, then line by line 1, 5; then 10.
@@ -68,7 +68,7 @@ pub extern "C" fn tarvoued_plan_set_tuning_of_pitches(
         (now (plan .entry)) (now (out .entry)) r (now (plan .exit)) (now (out .exit)) ⌝ }
     ensures { λ r. ⌜ Smallest (view (now (plan .entry))) (pitchLists (now (keys .entry)) (now (pitches .entry))) (planSentIn r) (view (now (plan .exit))) ⌝ }
 {
-    answer::of_plan_sent(senders::plan_block::set_tuning_of_pitches(plan, keys, pitches, out))
+    answer::of_plan_sent(plan_tuner::block::set_tuning_of_pitches(plan, keys, pitches, out))
 }
 
 // A press: the note-on of a key of the plan. Refuses 8, 10.
@@ -81,7 +81,7 @@ pub extern "C" fn tarvoued_plan_note_on(
 ) -> Answer
     ensures { λ r. ⌜ EntryWrites (noteOnRule (view (now (plan .entry))) key velocity) (now (out .entry)) r (now (out .exit)) ⌝ }
 {
-    answer::of_sent(senders::plan_block::note_on(plan, key, velocity, out))
+    answer::of_sent(plan_tuner::block::note_on(plan, key, velocity, out))
 }
 
 // A release: the note-off of a key of the plan. Refuses 8, 10.
@@ -94,7 +94,7 @@ pub extern "C" fn tarvoued_plan_note_off(
 ) -> Answer
     ensures { λ r. ⌜ EntryWrites (noteOffRule (view (now (plan .entry))) key velocity) (now (out .entry)) r (now (out .exit)) ⌝ }
 {
-    answer::of_sent(senders::plan_block::note_off(plan, key, velocity, out))
+    answer::of_sent(plan_tuner::block::note_off(plan, key, velocity, out))
 }
 
 // The pressure of a key of the plan. Refuses 8, 10.
@@ -107,7 +107,7 @@ pub extern "C" fn tarvoued_plan_note_attr(
 ) -> Answer
     ensures { λ r. ⌜ EntryWrites (noteAttrRule (view (now (plan .entry))) key pressure) (now (out .entry)) r (now (out .exit)) ⌝ }
 {
-    answer::of_sent(senders::plan_block::note_attr(plan, key, pressure, out))
+    answer::of_sent(plan_tuner::block::note_attr(plan, key, pressure, out))
 }
 
 // A message to every channel, except bends of a tuner that tunes by bends. Refuses 8 from left, 9, 10.
@@ -115,7 +115,7 @@ pub extern "C" fn tarvoued_plan_note_attr(
 pub extern "C" fn tarvoued_plan_global_attr(plan: &Plan, message: Message, out: &mut [u8]) -> Answer
     ensures { λ r. ⌜ EntryWrites (globalAttrRule (view (now (plan .entry))) (messageOf message)) (now (out .entry)) r (now (out .exit)) ⌝ }
 {
-    answer::of_sent(senders::plan_block::global_attr(plan, message::message_of(message), out))
+    answer::of_sent(plan_tuner::block::global_attr(plan, message::message_of(message), out))
 }
 
 // Sends nothing: a plan tuner does not know which keys are pressed.
@@ -123,7 +123,7 @@ pub extern "C" fn tarvoued_plan_global_attr(plan: &Plan, message: Message, out: 
 pub extern "C" fn tarvoued_plan_stop(plan: &Plan, out: &mut [u8]) -> Answer
     ensures { λ r. ⌜ EntryWrites (stopRule (view (now (plan .entry)))) (now (out .entry)) r (now (out .exit)) ⌝ }
 {
-    answer::of_sent(senders::plan_block::stop(plan, out))
+    answer::of_sent(plan_tuner::block::stop(plan, out))
 }
 
 // The channel and the note of a key of the plan.

@@ -13,7 +13,7 @@ use Rattle.pools.specs.Pool.{State, found, released, accepted, rejected, regist
 use Rattle.pools.specs.Block.{stateOf, kindAt}
 use Rattle.channels.specs.TuningValue.{sentAs}
 use Rattle.channels.specs.declared.tuning_value.TuningKind.{TuningKind}
-use Rattle.senders.specs.Lent.{Effect, sends, sent, Answers, Steps}
+use Rattle.senders.specs.Lent.{Effect, sends, sent, fitted, Moved, Answers, Steps}
 use Rattle.senders.specs.Midi.{bytesOf}
 use Rattle.senders.specs.Tuner.{onChannel, pressMessages, keyMessages}
 use Rattle.senders.specs.Jit.{Tuner, view, tuner, withPool, Pressed, sounds, rejects, noteOnRule, noteOffRule}

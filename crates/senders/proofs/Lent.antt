@@ -12,7 +12,7 @@ use borrow.Author.Tests.{lt-leb, le-leb}
 use mathlib.Core.Bool.{Bool, true, false, cond}
 use Rattle.channels.specs.Outcome.{Outcome, value, refused}
 use Rattle.channels.specs.Refusal.{bufferTooShort}
-use Rattle.senders.specs.Lent.{Effect, sends, sent, told, left, fitted, Moved, Steps, Answers, Put, settled}
+use Rattle.senders.specs.Lent.{Effect, sends, sent, told, written, left, fitted, Moved, Steps, Answers, Put, settled}
 
 -- ---- bytes put into a buffer
 
@@ -70,6 +70,34 @@ tail-part l w = take-all (length l - w) (drop w l) (le-of-eq (length-drop w l))
 
 pub tail-back : (l ys : List ℕ) (w : ℕ) → take w l ++ (ys ++ drop (length l - w) (drop w l)) ≡ take w l ++ ys
 tail-back l ys w = rw (drop-of-length-le (drop w l) {i = length l - w} (le-of-eq (length-drop w l)), append-nil)
+
+-- a call with room for its bytes sends them
+room-sent :
+    {bs old new : List ℕ} {r : Outcome ℕ} → length bs ≤ length old → Answers (sent bs) old r new
+    → (r ≡ value (length bs)) × (new ≡ written bs old)
+room-sent {bs} {old} h p =
+    let t : leb (length bs) (length old) ≡ true = le-leb (length bs) (length old) h in
+    (rw t at (p .told-is), rw t at (p .left-is))
+
+-- and puts them into the buffer that has lent it its part
+pub part-put :
+    {at : ℕ} {bs l ys : List ℕ} {r : Outcome ℕ} → at + length bs ≤ length l → Answers (sent bs) (take (length l - at) (drop at l)) r ys
+    → (r ≡ value (length bs)) × Put at bs (at + length bs) l (take at l ++ (ys ++ drop (length l - at) (drop at l)))
+part-put {at} {bs} {l} {ys} {r} h p =
+    let part : List ℕ = take (length l - at) (drop at l) in
+    let room : length part ≡ length l - at = ap length (tail-part l at) ∙ length-drop at l in
+    let q = room-sent {bs = bs} {old = part} {new = ys} {r = r} (omega (arith, room)) p in (
+      q .0,
+      record {
+        next-is = refl;
+        new-is =
+            tail-back l ys at
+            ∙ ap (λ (k : List ℕ). take at l ++ k) (q .1)
+            ∙ ap (λ (k : List ℕ). take at l ++ (bs ++ drop (length bs) k)) (tail-part l at)
+            ∙ ap (λ (k : List ℕ). take at l ++ (bs ++ k)) (drop-drop (length bs) at l)
+            ∙ sym (append-assoc (take at l) bs (drop (at + length bs) l));
+      },
+    )
 
 -- ---- the three ways a call ends
 

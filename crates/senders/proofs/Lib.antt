@@ -7,7 +7,5 @@ pub mod Room
 pub mod Notes
 pub mod Each
 pub mod Channels
-pub mod Tunings
-pub mod PlanCalls
 pub mod Stops
 pub mod Calls

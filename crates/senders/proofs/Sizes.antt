@@ -5,11 +5,15 @@ use mathlib.Core.List.{List, _++_}
 use Prim.Native.Nat.{ℕ, _+_, _≤_}
 use native.Mathlib.Omega.{arith}
 use lib.IntN.{ℤ}
+use lib.Ieee.{Float}
 use lib.ListN.{length, length-append}
 use Rattle.senders.specs.Message.{Message}
 use Rattle.senders.specs.Midi.{bytesOf, meant}
-use Rattle.senders.specs.Mts.{tuningMessages}
+use Rattle.senders.specs.Mts.{tuningMessages, tuningSize}
 use Rattle.senders.specs.Tuner.{numberOf, numbered, noteType, noteMessages, stopMessages, pressMessages}
+use Rattle.channels.specs.TuningValue.{tuningOf, sentAs}
+use Rattle.channels.specs.declared.tuning_value.TuningKind.{TuningKind}
+use Rattle.channels.specs.declared.tuning_value.TuningKind.the-variants.{FineTuning, Bend as Bends}
 use Rattle.channels.specs.declared.tuning_value.Tuning.{Tuning}
 use Rattle.channels.specs.declared.tuning_value.Tuning.the-variants.{Fine, Bend}
 use Rattle.senders.specs.declared.tuner.NoteMessage.{NoteMessage}
@@ -63,6 +67,12 @@ stop-size ch (some note) v = note-size Off ch note v
 pub tuning-size : (ch : ℕ) (t : Tuning) → length (bytesOf (tuningMessages ch t)) ≡ length (bytesOf (tuningMessages 0 t))
 tuning-size ch (Fine v) = refl
 tuning-size ch (Bend b) = refl
+
+-- by any detuning the same
+pub sent-size : (kind : TuningKind) (ch : ℕ) (v : Float) → length (bytesOf (tuningMessages ch (sentAs kind v))) ≡ tuningSize kind
+unfolding sentAs tuningOf tuningSize
+sent-size FineTuning ch v = refl
+sent-size Bends ch v = refl
 
 -- a press takes what its parts take
 pub press-parts :

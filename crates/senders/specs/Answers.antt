@@ -3,13 +3,11 @@ use mathlib.Core.Option.{Option, some, none}
 use Prim.Native.Nat.{ℕ}
 use Rattle.channels.specs.Outcome.{Outcome, value, refused}
 use Rattle.senders.specs.Jit.{Pressed, sounds, rejects}
-use Rattle.senders.specs.Aot.{Planned, tunes, cannot}
 use Rattle.senders.specs.declared.midi.Sent.{Sent}
 use Rattle.senders.specs.declared.midi.Sent.the-variants.{Written, Refused}
 use Rattle.senders.specs.declared.midi.Check.{Check}
 use Rattle.senders.specs.declared.midi.Check.the-variants.{Passed, Refused as FailedBy}
 use Rattle.senders.specs.declared.jit.PressAnswer as P
-use Rattle.senders.specs.declared.aot.PlanSent as S
 use Rattle.senders.specs.declared.tuner.NoteNumber.{NoteNumber}
 use Rattle.senders.specs.declared.tuner.NoteNumber.the-variants.{Number, Unnumbered}
 
@@ -28,12 +26,6 @@ abbrev pub pressAnswer : P.PressAnswer → Outcome Pressed
 pressAnswer (P.the-variants.Written n) = value (sounds n)
 pressAnswer P.the-variants.Rejected = value rejects
 pressAnswer (P.the-variants.Refused n) = refused n
-
--- a plan was sent, or there are too few channels for it
-abbrev pub planSent : S.PlanSent → Outcome Planned
-planSent (S.the-variants.Tuned channels written) = value (tunes channels written)
-planSent (S.the-variants.Untuned channels) = value (cannot channels)
-planSent (S.the-variants.Refused n) = refused n
 
 -- a note's number, if it has one
 abbrev pub numberAnswer : NoteNumber → Option ℕ

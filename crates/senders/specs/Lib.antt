@@ -4,6 +4,5 @@ pub mod Message
 pub mod Midi
 pub mod Mts
 pub mod Tuner
-pub mod Aot
 pub mod Jit
 pub mod Answers

@@ -22,6 +22,17 @@ use crate::tuner::send_press;
 use crate::tuner::send_tuning;
 use crate::tuner::sent_as;
 use channels::Pitch;
+use channels::keys::KEYS;
+use channels::keys::NextKey;
+use channels::list::ChannelList;
+use channels::list::ChannelsAnswer;
+use channels::refusal::BUFFER_TOO_SHORT;
+use channels::refusal::DATA_BYTE_OVER_127;
+use channels::tuning_value::TuningKind;
+use pools::block::PoolGroupBy;
+use pools::block::PoolingMode;
+use pools::block::RegisterKeyResult;
+use pools::block::RepitchKeyResult;
 use pools::block::access_key;
 use pools::block::allocate_key;
 use pools::block::channel_list;
@@ -33,17 +44,6 @@ use pools::block::register_note;
 use pools::block::repitch_key;
 use pools::block::tuning_kind;
 use pools::cells::CELLS;
-use channels::list::ChannelList;
-use channels::list::ChannelsAnswer;
-use pools::block::PoolGroupBy;
-use pools::block::PoolingMode;
-use pools::block::RegisterKeyResult;
-use pools::block::RepitchKeyResult;
-use channels::keys::KEYS;
-use channels::keys::NextKey;
-use channels::refusal::BUFFER_TOO_SHORT;
-use channels::refusal::DATA_BYTE_OVER_127;
-use channels::tuning_value::TuningKind;
 
 // A tuner of the channels listed, in which no key is found. Refuses 6 or 7 as the channel list does.
 pub fn start(

@@ -15,16 +15,16 @@ use crate::block::stop;
 use crate::midi::ChannelMessageType;
 use crate::midi::Sent;
 use channels::Pitch;
-use pools::block::access_key;
-use pools::block::open;
-use pools::cells::CELLS;
+use channels::keys::AccessKeyResult;
 use channels::list::ChannelList;
 use channels::list::ChannelsAnswer;
 use channels::list::present;
+use channels::tuning_value::TuningKind;
 use pools::block::PoolGroupBy;
 use pools::block::PoolingMode;
-use channels::keys::AccessKeyResult;
-use channels::tuning_value::TuningKind;
+use pools::block::access_key;
+use pools::block::open;
+use pools::cells::CELLS;
 
 pub struct JitTuner {
     cells: [u16; CELLS],

@@ -8,7 +8,7 @@ ghost use Rattle.senders.specs.Answers.{sentAnswer};
 ghost use Rattle.senders.specs.Midi.{bytesOf};
 ghost use Rattle.channels.specs.TuningValue.{InSteps};
 ghost use Rattle.channels.specs.declared.tuning_value.TuningKind.{TuningKind};
-ghost use Rattle.senders.specs.Mts.{tuningMessages, channelTuningRule};
+ghost use Rattle.senders.specs.Mts.{tuningMessages, tuningSize, channelTuningRule};
 use crate::midi::ChannelMessageType;
 use crate::midi::HIGHEST_CHANNEL;
 use crate::midi::Sent;
@@ -50,7 +50,7 @@ pub fn channel_pitch_bend(channel: u8, detuning: Ratio, out: &mut [u8]) -> Sent
     channel_tuning(TuningKind::Bend, channel, detuning, out)
 }
 
-// Writes the tuning of a channel by a detuning, in the steps of the kind, to the buffer's start. Refuses 6, 2, 10.
+// Writes the tuning of a channel by a detuning, of either kind, to the buffer's start. Refuses 6, 2, 10.
 pub fn channel_tuning(kind: TuningKind, channel: u8, detuning: Ratio, out: &mut [u8]) -> Sent
     ensures { λ r. ⌜ Answers (channelTuningRule kind channel (detuning .«float_value»)) (now (out .entry)) (sentAnswer r) (now (out .exit)) ⌝ }
 {
@@ -60,6 +60,22 @@ pub fn channel_tuning(kind: TuningKind, channel: u8, detuning: Ratio, out: &mut 
     match tuning_of(kind, detuning) {
         TuningAnswer::Value(tuning) => write_tuning(channel, tuning, out),
         TuningAnswer::Refused(number) => Sent::Refused(number),
+    }
+}
+
+// How many bytes a tuning of a kind takes, on any channel and by any detuning.
+pub fn channel_tuning_len(kind: TuningKind) -> usize
+    ensures { λ r. ⌜ r ≡ tuningSize kind ⌝ }
+{
+    match kind {
+        TuningKind::FineTuning => {
+            let control = message_len(ChannelMessageType::ControlChange {
+                controller: DATA_ENTRY_MSB,
+                value: 0,
+            });
+            control + control + control + control
+        }
+        TuningKind::Bend => message_len(ChannelMessageType::PitchBendChange { value: 0 }),
     }
 }
 
@@ -80,14 +96,8 @@ pub(crate) fn tuning_len(tuning: Tuning) -> usize
     ensures { λ r. ⌜ r ≡ length (bytesOf (tuningMessages 0 tuning)) ⌝ }
 {
     match tuning {
-        Tuning::Fine(_) => {
-            let control = message_len(ChannelMessageType::ControlChange {
-                controller: DATA_ENTRY_MSB,
-                value: 0,
-            });
-            control + control + control + control
-        }
-        Tuning::Bend(value) => message_len(ChannelMessageType::PitchBendChange { value }),
+        Tuning::Fine(_) => channel_tuning_len(TuningKind::FineTuning),
+        Tuning::Bend(_) => channel_tuning_len(TuningKind::Bend),
     }
 }
 

@@ -27,16 +27,16 @@ use crate::mts::put_tuning;
 use crate::mts::tuning_len;
 use crate::mts::write_tuning;
 use channels::Ratio;
+use channels::keys::AccessKeyResult;
 use channels::list::ChannelList;
 use channels::list::EntryAnswer;
-use pools::block::StoppedNote;
-use channels::keys::AccessKeyResult;
 use channels::refusal::BUFFER_TOO_SHORT;
 use channels::refusal::DATA_BYTE_OVER_127;
 use channels::tuning_value::Tuning;
 use channels::tuning_value::TuningAnswer;
 use channels::tuning_value::TuningKind;
 use channels::tuning_value::tuning_of;
+use pools::block::StoppedNote;
 
 // MIDI's note numbers go from 0.
 const HIGHEST_NOTE_NUMBER: i32 = 127;
@@ -55,7 +55,7 @@ enum NoteNumber {
 }
 
 // Writes a message of a key's note as `send_key` does, and tests its value. Refuses 8, also for a key that is not found, and 10.
-pub(crate) fn send_checked_key(
+pub fn send_checked_key(
     channels: ChannelList,
     found: AccessKeyResult,
     kind: NoteMessage,
@@ -159,7 +159,7 @@ pub(crate) fn send_press(
 }
 
 // Writes a message to every channel as `send_to_all` does, and tests it. Refuses 8 from left, 9, also where nothing is sent, and 10.
-pub(crate) fn send_checked_to_all(
+pub fn send_checked_to_all(
     kind: TuningKind,
     channels: ChannelList,
     message: ChannelMessageType,

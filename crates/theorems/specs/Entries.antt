@@ -10,7 +10,7 @@ use Rattle.pools.specs.declared.block.PoolingMode.{PoolingMode}
 use Rattle.senders.specs.Lent.{fitted}
 use Rattle.senders.specs.Midi.{messageRule}
 use Rattle.senders.specs.Mts.{channelTuningRule}
-use Rattle.senders.specs.Aot as Plan
+use Rattle.plan_tuner.specs.Aot as Plan
 use Rattle.senders.specs.Jit as Pool
 use Rattle.senders.specs.declared.midi.ChannelMessageType.{ChannelMessageType}
 

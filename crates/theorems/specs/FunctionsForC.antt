@@ -19,7 +19,7 @@ use Rattle.senders.specs.Lent.{fitted, told}
 use Rattle.senders.specs.Midi.{messageRule}
 use Rattle.senders.specs.Mts.{channelTuningRule}
 use Rattle.senders.specs.Jit as Jit
-use Rattle.senders.specs.Aot as Aot
+use Rattle.plan_tuner.specs.Aot as Aot
 use Rattle.capi.specs.Answers.{ofSent, ofPress, ofList, ofPlan, ofPlanSent, ofRegistered, ofRepitched, ofNearest, ofPitch, ofMeasure, ofTuning}
 use Rattle.capi.specs.declared.answer.Answer.{Answer}
 use Rattle.theorems.specs.Entries as E

@@ -9,7 +9,7 @@ use Rattle.channels.specs.Lists.{Each}
 use Rattle.plans.specs.Line.{Line}
 use Rattle.plans.specs.PlanLists.{keyCount, noteLists, pitchLists}
 use Rattle.senders.specs.Lent.{Effect, fitted, settled}
-use Rattle.senders.specs.Aot.{Tuner, Planned, setTuningRule, setTuningOfPitchesRule}
+use Rattle.plan_tuner.specs.Aot.{Tuner, Planned, setTuningRule, setTuningOfPitchesRule}
 
 -- ---- the lists of a tuning, of either kind
 

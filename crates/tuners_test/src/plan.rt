@@ -5,12 +5,12 @@ ghost use Prim.Native.Nat.{_≤_};
 use crate::shown::action;
 use crate::shown::refused;
 use crate::shown::written;
-use channels::list::ChannelsAnswer;
 use channels::keys::AccessKeyResult;
+use channels::list::ChannelsAnswer;
 use channels::tuning_value::TuningKind;
-use senders::aot::AotTuner;
-use senders::aot::PlanSent;
-use senders::aot::Tuned;
+use plan_tuner::aot::AotTuner;
+use plan_tuner::aot::PlanSent;
+use plan_tuner::aot::Tuned;
 use senders::midi::ChannelMessageType;
 use senders::midi::Sent;
 

@@ -33,11 +33,11 @@ use Rattle.senders.specs.Lent.{Effect, fitted, Moved, Steps, written}
 use Rattle.senders.specs.Message.{Message}
 use Rattle.senders.specs.Midi.{bytesOf}
 use Rattle.senders.specs.Tuner.{each}
-use Rattle.senders.specs.Aot.{Tuner, tuner, withPlan, Planned, tunes, channelMessages, planMessages, planEffect, startRule}
+use Rattle.plan_tuner.specs.Aot.{Tuner, tuner, withPlan, Planned, tunes, channelMessages, planMessages, planEffect, startRule}
 use Rattle.theorems.specs.Reader.{State, read}
 use Rattle.theorems.specs.Receiver.{Channel, Receiver, Other, hearAll, hearBytes}
 use Rattle.theorems.specs.ExpectedEffect.{tuned, inTurn, channelMeant, planMeant}
-use Rattle.senders.specs.declared.aot.AotTuner.{AotTuner}
+use Rattle.plan_tuner.specs.declared.aot.AotTuner.{AotTuner}
 use Rattle.theorems.proofs.Bytes.Read.{read-plain}
 use Rattle.theorems.proofs.Receiver.Conveyed.{Conveys, conveys-none, conveys-each, conveys-tuning}
 use Rattle.theorems.proofs.Bytes.Accepted.{accepted}

@@ -35,13 +35,13 @@ use Rattle.theorems.proofs.Plans.PlannedKeys.{planned-keys}
 use Rattle.theorems.proofs.Plans.Pitches.{pitches-law}
 use Rattle.senders.specs.Lent.{Effect, fitted, Steps, Answers, settled}
 use Rattle.senders.specs.Midi.{bytesOf}
-use Rattle.senders.specs.Aot.{Tuner, tuner, withPlan, Planned, tunes, planMessages, planEffect, startRule, setTuningOfPitchesRule, found, placed, noteOnRule}
+use Rattle.plan_tuner.specs.Aot.{Tuner, tuner, withPlan, Planned, tunes, planMessages, planEffect, startRule, setTuningOfPitchesRule, found, placed, noteOnRule}
 use Rattle.theorems.specs.Reader.{State}
 use Rattle.theorems.specs.Receiver.{Receiver, Other, hearBytes}
 use Rattle.theorems.specs.ExpectedEffect.{tuned, noteMeant, keyMeant, valueIn}
 use Rattle.theorems.specs.PlanTunerCalls.{Lists, notes, pitches, tuneRule, linesOf, Typed, Call, tune, after, retuned}
 use Rattle.senders.specs.declared.tuner.NoteMessage.the-variants.{On}
-use Rattle.senders.specs.declared.aot.AotTuner.{AotTuner}
+use Rattle.plan_tuner.specs.declared.aot.AotTuner.{AotTuner}
 use Rattle.theorems.proofs.Receiver.BothTuners.{key-received}
 use Rattle.theorems.proofs.Bytes.Accepted.{accepted}
 use Rattle.senders.proofs.Lent.{handed-back}

@@ -21,7 +21,7 @@ use Rattle.theorems.proofs.ChannelLists.{refused-numbers}
 use Rattle.channels.proofs.ListLaws.{or-cases}
 use Rattle.theorems.proofs.Plans.Refusals.{note-lists-numbers, pitch-lists-numbers, refused-leaves}
 use Rattle.senders.specs.Lent.{fitted}
-use Rattle.senders.specs.Aot as Plan
+use Rattle.plan_tuner.specs.Aot as Plan
 use Rattle.theorems.specs.Entries.{Entry, rawMessage, channelTuning, poolStart, poolNoteOn, poolNoteOff, poolNotePitch, poolNoteAttr, poolGlobalAttr, poolStop, planStart, planSetTuning, planSetTuningOfPitches, planNoteOn, planNoteOff, planNoteAttr, planGlobalAttr, planStop, allowed, Ends}
 use Rattle.senders.specs.declared.tuner.NoteMessage.the-variants.{Off, On, Pressure}
 use Rattle.theorems.proofs.Tuners.Refusals.{has, Among, among-fitted, message-refusals, tuning-refusals, press-refusals, release-refusals, key-refusals, repitch-refusals, global-refusals, stop-refusals}

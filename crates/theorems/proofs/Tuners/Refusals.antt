@@ -28,7 +28,7 @@ use Rattle.senders.specs.Lent.{Effect, sent, fitted, told, Moved, left, Steps}
 use Rattle.senders.specs.Mts.{tuningSent, channelTuningRule}
 use Rattle.senders.specs.Tuner.{keyRule, toAllRule}
 use Rattle.senders.specs.Jit.{Tuner, withPool, rejects, pressEffect, startRule, noteOnRule, noteOffRule, repitchEffect, notePitchRule, stopRule}
-use Rattle.senders.specs.Aot as Plan
+use Rattle.plan_tuner.specs.Aot as Plan
 use Rattle.senders.specs.Message.{Valid, isChannel, isData, isBend}
 use Rattle.senders.specs.Midi.{bytes, meant, checked, messageRule}
 use Rattle.senders.specs.declared.midi.ChannelMessageType.{ChannelMessageType}

@@ -1,6 +1,6 @@
 -- `plan::tarvoued_plan_lookup` meets its contract, by the tuner's call in place.
 use mathlib.Core.Path.{ap, _∙_}
-use Rattle.senders.proofs.PlanCalls.{key-found}
+use Rattle.plan_tuner.proofs.PlanCalls.{key-found}
 use Rattle.capi.specs.Answers.{ofPlace}
 use borrow.Author.Needs.{needs}
 use Rattle.capi.proofs.plan.tarvoued_plan_lookup.Statement.{statement}

@@ -1,5 +1,6 @@
--- `senders::mts::tuning_len` meets its contract: the lengths of its messages added up. Assumes nothing.
-use native.Mathlib.Omega.{arith}
+-- `senders::mts::tuning_len` meets its contract: the length by the tuning's kind. Assumes nothing.
+use Rattle.channels.specs.TuningValue.{tuningOf}
+use Rattle.senders.specs.Mts.{tuningSize}
 use borrow.Author.Needs.{needs}
 use Rattle.senders.proofs.mts.tuning_len.Statement.{statement}
 use Rattle.senders.proofs.mts.tuning_len.Tie as tie
@@ -7,40 +8,23 @@ use Rattle.senders.proofs.mts.tuning_len.Tie as tie
 enum-told : tie.Need-enum-told
 enum-told c = search needs
 
-message-len-requires : tie.Need-message-len-requires
-message-len-requires c κs = search needs
+channel-tuning-len-requires : tie.Need-channel-tuning-len-requires
+channel-tuning-len-requires c κs = search needs
 
-add-result : tie.Need-add-result
-add-result c = search needs
+enum-told-2 : tie.Need-enum-told-2
+enum-told-2 c = search needs
 
-add-result-2 : tie.Need-add-result-2
-add-result-2 c = search needs
-
-add-result-3 : tie.Need-add-result-3
-add-result-3 c = search needs
-
-enum-known-tuning : tie.Need-enum-known-tuning
-enum-known-tuning c = search needs
-
-message-len-requires-2 : tie.Need-message-len-requires-2
-message-len-requires-2 c κs = search needs
+channel-tuning-len-requires-2 : tie.Need-channel-tuning-len-requires-2
+channel-tuning-len-requires-2 c κs = search needs
 
 returns : tie.Need-returns
-returns c = rw (c .before .enum-told .given .1) (omega (arith, c .message-len .ensures))
+unfolding tuningSize tuningOf
+returns c = rw (c .before .enum-told .given .1) (c .channel-tuning-len .ensures)
 
 returns-2 : tie.Need-returns-2
-returns-2 c = rw (c .before .before .tuning .given .1) (c .message-len2 .ensures)
+unfolding tuningSize tuningOf
+returns-2 c = rw (c .before .enum-told2 .given .1) (c .channel-tuning-len2 .ensures)
 
 pub tuning-len-spec : {M : Type 1} → statement M
 tuning-len-spec =
-    tie.close
-    (tie.spec
-    enum-told
-    message-len-requires
-    add-result
-    add-result-2
-    add-result-3
-    enum-known-tuning
-    message-len-requires-2
-    returns
-    returns-2)
+    tie.close (tie.spec enum-told channel-tuning-len-requires enum-told-2 channel-tuning-len-requires-2 returns returns-2)
