@@ -15,17 +15,17 @@ ghost use Rattle.capi.specs.Answers.{noteOf, ofPlace, ofDetuning, ofEntr
 use arithmetic::pitch::Measured;
 use arithmetic::tuning::Approximation;
 use arithmetic::tuning::PitchAnswer;
-use plans::block::DetuningAnswer;
-use plans::block::NextAnswer;
-use plans::block::PlanAnswer;
-use channels::list::ChannelsAnswer;
-use pools::block::RegisterKeyResult;
-use pools::block::RepitchKeyResult;
-use pools::block::StoppedNote;
 use channels::keys::AccessKeyResult;
+use channels::list::ChannelsAnswer;
 use channels::tuning_value::Tuning;
 use channels::tuning_value::TuningAnswer;
 use plan_tuner::aot::PlanSent;
+use plans::block::DetuningAnswer;
+use plans::block::NextAnswer;
+use plans::block::PlanAnswer;
+use pools::block::RegisterKeyResult;
+use pools::block::RepitchKeyResult;
+use pools::block::StoppedNote;
 use senders::jit::PressAnswer;
 use senders::midi::Sent;
 

@@ -20,8 +20,8 @@ use crate::message::Message;
 use crate::settings;
 use channels::list::ChannelList;
 use channels::list::ChannelsAnswer;
-use plans::cells::PLAN_CELLS;
 use channels::tuning_value::TuningKind;
+use plans::cells::PLAN_CELLS;
 
 pub type Plan = [u64; PLAN_CELLS];
 
@@ -32,11 +32,7 @@ pub extern "C" fn tarvoued_plan_open(plan: &mut Plan, channels: &[u8], tuning_ki
         let rule = startRule (now (channels .entry)) (kindOf «tuning_kind») in
         ⌜ (r ≡ ofList (rule .0)) × Starts (rule .0) (rule .1) (now (plan .entry)) (now (plan .exit)) ⌝ }
 {
-    answer::of_list(plan_tuner::block::start(
-        plan,
-        channels,
-        settings::tuning_kind_of(tuning_kind),
-    ))
+    answer::of_list(plan_tuner::block::start(plan, channels, settings::tuning_kind_of(tuning_kind)))
 }
 
 // Plans keys with their notes and detunings, and tunes each channel used, in order. Refuses 12, then line by line 4, 3, 5; then 10.
@@ -139,11 +135,7 @@ pub extern "C" fn tarvoued_plan_lookup(plan: &Plan, key: u8) -> Note
 pub extern "C" fn tarvoued_plan_detuning(plan: &Plan, channel: u16, group: i32) -> Note
     ensures { λ r. ⌜ r ≡ ofDetuning channel group (planAt (now (plan .entry)) .detunings channel group) ⌝ }
 {
-    answer::of_detuning(
-        channel,
-        group,
-        plans::block::detuning(plan, channel, group),
-    )
+    answer::of_detuning(channel, group, plans::block::detuning(plan, channel, group))
 }
 
 // The first of a channel's detunings whose group is `from` or higher.
@@ -151,10 +143,7 @@ pub extern "C" fn tarvoued_plan_detuning(plan: &Plan, channel: u16, group: i32) 
 pub extern "C" fn tarvoued_plan_next_detuning(plan: &Plan, channel: u16, from: i32) -> Note
     ensures { λ r. ⌜ r ≡ ofEntry channel (nextRule (planAt (now (plan .entry))) channel from) ⌝ }
 {
-    answer::of_entry(
-        channel,
-        plans::block::next_detuning(plan, channel, from),
-    )
+    answer::of_entry(channel, plans::block::next_detuning(plan, channel, from))
 }
 
 // A plan model, which sends nothing, of the channels listed, without a plan. Refuses 6, 7.

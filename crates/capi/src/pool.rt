@@ -17,10 +17,10 @@ use crate::message;
 use crate::message::Message;
 use crate::settings;
 use channels::Pitch;
-use pools::cells::CELLS;
 use channels::list::ChannelList;
 use channels::list::ChannelsAnswer;
 use channels::tuning_value::TuningKind;
+use pools::cells::CELLS;
 
 pub type Pool = [u16; CELLS];
 

@@ -4,10 +4,10 @@ ghost use mathlib.Core.Path.{_≡_};
 ghost use Rattle.pools.specs.Block.{groupOf, modeOf};
 ghost use Rattle.channels.specs.TuningValue.{kindOf};
 ghost use Rattle.plans.specs.PlanBlock.{groupByOf};
+use channels::tuning_value::TuningKind;
 use plans::block::GroupBy;
 use pools::block::PoolGroupBy;
 use pools::block::PoolingMode;
-use channels::tuning_value::TuningKind;
 
 // 0 fine tuning, 1 bends.
 pub(crate) fn tuning_kind_of(number: u8) -> TuningKind

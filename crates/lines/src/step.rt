@@ -9,8 +9,8 @@ ghost use Rattle.lines.specs.Inner.{Holds};
 use crate::answer::answer;
 use crate::answer::open;
 use crate::line::find;
-use pools::cells::CELLS;
 use channels::refusal::BUFFER_TOO_SHORT;
+use pools::cells::CELLS;
 use senders::midi::Sent;
 
 // One byte more than the longest line, which says that a line is longer.

@@ -5,10 +5,11 @@ ghost use Rattle.channels.specs.ChannelList.{entries};
 ghost use Rattle.plans.specs.PlanLists.{noteLists, pitchLists};
 ghost use Rattle.plans.specs.Plan.{Smallest, accessAnswer, detuningAnswer, empty, nextAnswer, nextRule, openRule, setTuning, setTuningOfPitches};
 ghost use Rattle.models.specs.AotModel.{modelOf, openedOf, outcomeOf};
+use channels::keys::AccessKeyResult;
 use channels::list::ChannelList;
 use channels::list::ChannelsAnswer;
 use channels::list::present;
-use channels::keys::AccessKeyResult;
+use channels::tuning_value::TuningKind;
 use plans::block::DetuningAnswer;
 use plans::block::GroupBy;
 use plans::block::NextAnswer;
@@ -24,7 +25,6 @@ use plans::block::set_tuning;
 use plans::block::set_tuning_of_pitches;
 use plans::block::tuned;
 use plans::cells::PLAN_CELLS;
-use channels::tuning_value::TuningKind;
 
 // A model of tunings that are planned.
 pub struct AotTuningModel {

@@ -8,6 +8,13 @@ ghost use Rattle.pools.specs.Pool.{found, released, heldKeys, stopped, replied,
 ghost use Rattle.channels.specs.Places.{place};
 ghost use Rattle.pools.specs.PoolAnswers.{nextHeld, repitched};
 ghost use Rattle.models.specs.JitModel.{view, told, opened};
+use arithmetic::pitch::Pitch;
+use channels::keys::AccessKeyResult;
+use channels::keys::NextKey;
+use channels::list::ChannelList;
+use channels::list::ChannelsAnswer;
+use channels::list::present;
+use channels::tuning_value::TuningKind;
 use pools::block::PoolGroupBy;
 use pools::block::PoolingMode;
 use pools::block::RegisterKeyResult;
@@ -21,13 +28,6 @@ use pools::block::open;
 use pools::block::register_key;
 use pools::block::repitch_key;
 use pools::cells::CELLS;
-use channels::list::ChannelList;
-use channels::list::ChannelsAnswer;
-use channels::list::present;
-use channels::keys::AccessKeyResult;
-use channels::keys::NextKey;
-use channels::tuning_value::TuningKind;
-use arithmetic::pitch::Pitch;
 
 // The state is in the block; a model tunes nothing, so it makes no use of the tuning kind there.
 pub struct JitTuningModel {

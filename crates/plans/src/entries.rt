@@ -9,15 +9,15 @@ ghost use Rattle.plans.specs.Plan.{detuningAnswer, highest, isIn, larger
 ghost use Rattle.plans.specs.PlanInternal.{leastFrom, lower};
 use crate::block::DetuningAnswer;
 use crate::block::GroupBy;
-use channels::keys::KEYS;
-use channels::keys::note_of;
-use crate::placing::group_of;
 use crate::cells::PLAN_CELLS;
 use crate::cells::detuning_at;
 use crate::cells::record_at;
+use crate::placing::group_of;
 use arithmetic::note::HIGHEST_NOTE;
 use arithmetic::note::is_note;
 use arithmetic::pitch::Ratio;
+use channels::keys::KEYS;
+use channels::keys::note_of;
 
 // The largest detuning of a group's keys up to a channel. The keys of a group come to their channels by rising detuning, so it is the one that came last.
 pub(crate) fn highest(

@@ -12,9 +12,6 @@ ghost use Rattle.plans.specs.PlanLists.{keyCount, noteLists, pitchLists}
 ghost use Rattle.plans.specs.Plan.{recordsOf};
 ghost use Rattle.plans.specs.PlanInternal.{Holds, Placed, Plans, Ready, Seats, channelsWith, linesOf, slotAt, slotOf};
 use crate::block::GroupBy;
-use channels::keys::KEYS;
-use channels::keys::note_of;
-use channels::keys::record_of;
 use crate::sorted_keys::ACCEPTED;
 use crate::sorted_keys::note_lists;
 use crate::sorted_keys::pitch_lists;
@@ -22,6 +19,9 @@ use arithmetic::note::LOWEST_NOTE;
 use arithmetic::note::LetterAnswer;
 use arithmetic::note::letter;
 use arithmetic::pitch::Ratio;
+use channels::keys::KEYS;
+use channels::keys::note_of;
+use channels::keys::record_of;
 
 // MIDI has so many channels.
 const MOST_CHANNELS: u16 = 16;

@@ -15,8 +15,6 @@ ghost use Rattle.channels.specs.Lists.{Each, member};
 ghost use Rattle.plans.specs.Line.{Line};
 ghost use Rattle.plans.specs.PlanLists.{isPlanned, keyCount, keys, noteLine, noteLists, pitchLine, pitchLists};
 ghost use Rattle.plans.specs.PlanInternal.{Accepted, Adds, Checked, Filled, Holds, Room, Rises, before, putIn};
-use channels::keys::is_found;
-use channels::keys::record_of;
 use arithmetic::note::is_note;
 use arithmetic::pitch::Pitch;
 use arithmetic::pitch::Ratio;
@@ -26,6 +24,8 @@ use arithmetic::refusal::LISTS_UNEQUAL;
 use arithmetic::refusal::NOTE_OUT_OF_RANGE;
 use arithmetic::tuning::Approximation;
 use arithmetic::tuning::find_by_pitch;
+use channels::keys::is_found;
+use channels::keys::record_of;
 
 // Nothing was refused.
 pub(crate) const ACCEPTED: u8 = 0;

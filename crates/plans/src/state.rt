@@ -15,10 +15,6 @@ ghost use Rattle.plans.specs.Plan.{Tunes, empty, planAnswer, planAt, pla
 ghost use Rattle.plans.specs.PlanInternal.{Plans, SettingsSame};
 use crate::block::GroupBy;
 use crate::block::PlanAnswer;
-use channels::list::ChannelList;
-use channels::list::stored_list;
-use channels::keys::KEYS;
-use crate::placing::Planning;
 use crate::cells::GROUP_BY;
 use crate::cells::LIST_COUNT;
 use crate::cells::LIST_DIGITS;
@@ -26,9 +22,13 @@ use crate::cells::NUM_CHANNELS;
 use crate::cells::TUNED;
 use crate::cells::TUNING_KIND;
 use crate::cells::bits_of;
-use channels::tuning_value::kind_number;
+use crate::placing::Planning;
 use crate::sorted_keys::ACCEPTED;
+use channels::keys::KEYS;
+use channels::list::ChannelList;
+use channels::list::stored_list;
 use channels::tuning_value::TuningKind;
+use channels::tuning_value::kind_number;
 
 // A state without a plan, with the channels listed and the settings.
 pub(crate) fn begin(

@@ -1,14 +1,14 @@
 // Plans: document 01's examples 9 and 10, every kind of group, both kinds of list, each refusal, full lists, and the detuning entries of the channels.
 // Writes a line for each call.
 ghost use Prim.Native.Nat.{_≤_};
+use channels::keys::AccessKeyResult;
+use channels::list::ChannelsAnswer;
 use models::aot::AotTuningModel;
+use models::aot::SetTuning;
 use plans::block::DetuningAnswer;
 use plans::block::GroupBy;
 use plans::block::NextAnswer;
 use plans::block::PlanAnswer;
-use models::aot::SetTuning;
-use channels::list::ChannelsAnswer;
-use channels::keys::AccessKeyResult;
 use show::float;
 use show::number;
 use show::refusal;

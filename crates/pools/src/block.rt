@@ -10,9 +10,6 @@ ghost use Rattle.channels.specs.Places.{place};
 ghost use Rattle.pools.specs.PoolAnswers.{nextHeld, press, repitched};
 ghost use Rattle.pools.specs.Block.{stateOf, kindAt, Moves, registerNoteRule};
 use crate::cells::CELLS;
-use channels::list::ChannelList;
-use channels::keys::AccessKeyResult;
-use channels::keys::NextKey;
 use crate::settings::channels;
 use crate::settings::kind;
 use crate::state::begin;
@@ -22,7 +19,6 @@ use crate::state::next;
 use crate::state::press;
 use crate::state::release;
 use crate::state::release_all;
-use channels::tuning_value::TuningKind;
 use arithmetic::note::is_note;
 use arithmetic::pitch::Pitch;
 use arithmetic::refusal::NOTE_OUT_OF_RANGE;
@@ -31,6 +27,10 @@ use arithmetic::tuning::Approximation;
 use arithmetic::tuning::RatioAnswer;
 use arithmetic::tuning::detuning;
 use arithmetic::tuning::find_by_pitch;
+use channels::keys::AccessKeyResult;
+use channels::keys::NextKey;
+use channels::list::ChannelList;
+use channels::tuning_value::TuningKind;
 
 // Which notes share a pool: those of a letter, or all. (Rust's `GroupBy` without pools for single notes.)
 pub enum PoolGroupBy {

@@ -8,9 +8,9 @@ ghost use Rattle.channels.specs.ChannelList.{entries, digits};
 ghost use Rattle.channels.specs.Places.{channelOf};
 ghost use Rattle.pools.specs.Block.{queueAt};
 ghost use Rattle.pools.specs.PoolInternal.{Kept};
+use crate::queue::size;
 use channels::list::ChannelList;
 use channels::list::stored_list;
-use crate::queue::size;
 
 // Puts the entries into the queue at a place of a block.
 pub(crate) fn put_list(cells: &mut [u16], at: usize, list: ChannelList)

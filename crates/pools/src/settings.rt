@@ -6,6 +6,8 @@ ghost use lib.ListN.{length, getD};
 ghost use Rattle.channels.specs.ChannelList.{entries};
 ghost use Rattle.pools.specs.Block.{cellCount, settings, channelsAt, groupOf, modeOf, kindAt};
 ghost use Rattle.pools.specs.PoolInternal.{Kept};
+use crate::block::PoolGroupBy;
+use crate::block::PoolingMode;
 use crate::cells::CHANNELS;
 use crate::cells::GROUP_BY;
 use crate::cells::POOLING_MODE;
@@ -13,8 +15,6 @@ use crate::cells::TUNING_KIND;
 use crate::channel_cells::list_at;
 use crate::channel_cells::put_list;
 use channels::list::ChannelList;
-use crate::block::PoolGroupBy;
-use crate::block::PoolingMode;
 use channels::tuning_value::TuningKind;
 use channels::tuning_value::kind_number;
 

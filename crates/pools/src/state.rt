@@ -18,19 +18,12 @@ ghost use Rattle.pools.specs.Block.{cellCount, settings, poolsFrom, chan
 ghost use Rattle.pools.specs.PoolInternal.{Kept, SettingsKept, forgottenIf, Sound, committed, Allocates, answered, stolenBy};
 ghost use Rattle.pools.specs.declared.block.PoolGroupBy.{PoolGroupBy};
 ghost use Rattle.pools.specs.declared.block.PoolingMode.{PoolingMode};
-use crate::cells::POOL;
-use crate::cells::QUEUE;
-use channels::list::ChannelList;
 use crate::block::PoolGroupBy;
 use crate::block::PoolingMode;
 use crate::block::RegisterKeyResult;
 use crate::block::StoppedNote;
-use channels::keys::AccessKeyResult;
-use channels::keys::KEYS;
-use channels::keys::NextKey;
-use channels::keys::is_found;
-use channels::keys::place_of;
-use channels::keys::record_of;
+use crate::cells::POOL;
+use crate::cells::QUEUE;
 use crate::pool::begin_pool;
 use crate::pool::free_key;
 use crate::pool::pool_of;
@@ -40,8 +33,15 @@ use crate::queue::size;
 use crate::settings::group_by;
 use crate::settings::pooling_mode;
 use crate::settings::put_settings;
-use channels::tuning_value::TuningKind;
 use arithmetic::refusal::KEY_HELD;
+use channels::keys::AccessKeyResult;
+use channels::keys::KEYS;
+use channels::keys::NextKey;
+use channels::keys::is_found;
+use channels::keys::place_of;
+use channels::keys::record_of;
+use channels::list::ChannelList;
+use channels::tuning_value::TuningKind;
 
 // The channel for a press of a key that is not held.
 pub(crate) enum Allocation {

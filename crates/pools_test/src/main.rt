@@ -1,6 +1,19 @@
 // Replays document 01's examples 11 and 12, every pooling mode, letter pools, zero channels and the refusals, and writes what it found.
 
 use arithmetic::pitch::Pitch;
+use channels::keys::AccessKeyResult;
+use channels::keys::NextKey;
+use channels::list::ChannelList;
+use channels::list::ChannelsAnswer;
+use channels::list::EntryAnswer;
+use channels::list::present;
+use channels::tuning_value::TuningKind;
+use models::jit::JitTuningModel;
+use pools::block::PoolGroupBy;
+use pools::block::PoolingMode;
+use pools::block::RegisterKeyResult;
+use pools::block::RepitchKeyResult;
+use pools::block::StoppedNote;
 use pools::block::access_key;
 use pools::block::allocate_key;
 use pools::block::deregister_all;
@@ -8,19 +21,6 @@ use pools::block::deregister_key;
 use pools::block::register_key;
 use pools::block::register_note;
 use pools::cells::CELLS;
-use channels::list::ChannelList;
-use channels::list::ChannelsAnswer;
-use channels::list::EntryAnswer;
-use channels::list::present;
-use models::jit::JitTuningModel;
-use pools::block::PoolGroupBy;
-use pools::block::PoolingMode;
-use pools::block::RegisterKeyResult;
-use pools::block::RepitchKeyResult;
-use pools::block::StoppedNote;
-use channels::keys::AccessKeyResult;
-use channels::keys::NextKey;
-use channels::tuning_value::TuningKind;
 
 fn place(channel: u8, note: i32) {
     show::word(b": channel");

@@ -41,7 +41,7 @@ use Rattle.plan_tuner.specs.declared.aot.AotTuner.{AotTuner}
 use Rattle.theorems.proofs.Bytes.Read.{read-plain}
 use Rattle.theorems.proofs.Receiver.Conveyed.{Conveys, conveys-none, conveys-each, conveys-tuning}
 use Rattle.theorems.proofs.Bytes.Accepted.{accepted}
-use Rattle.senders.proofs.Tunings.{upward-more}
+use Rattle.plan_tuner.proofs.Tunings.{upward-more}
 
 -- ---- the tunings of a plan, read and received
 
