@@ -16,7 +16,7 @@ const HIGHEST_MIDI_NUMBER: i32 = 127;
 
 pub const A4: i32 = 69;
 
-#[derive(Drop)]
+#[derive(Clone, Copy)]
 pub enum LetterAnswer {
     // 0 to 11, C is 0.
     Letter(u8),
@@ -24,28 +24,28 @@ pub enum LetterAnswer {
     Refused(u8),
 }
 
-#[derive(Drop)]
+#[derive(Clone, Copy)]
 pub enum OctaveAnswer {
     Octave(i32),
     // 4.
     Refused(u8),
 }
 
-#[derive(Drop)]
+#[derive(Clone, Copy)]
 pub enum NoteAnswer {
     Note(i32),
     // 4.
     Refused(u8),
 }
 
-#[derive(Drop)]
+#[derive(Clone, Copy)]
 pub enum StepsAnswer {
     Steps(i32),
     // 4.
     Refused(u8),
 }
 
-#[derive(Drop)]
+#[derive(Clone, Copy)]
 pub enum MidiAnswer {
     // 0 to 127.
     Number(u8),

@@ -12,7 +12,7 @@ ghost use Rattle.arithmetic.specs.Inside.{Writes};
 use crate::refusal::NOT_MEASURABLE;
 
 // A pitch in Hz. It holds any f64; what needs one from 2^-20 to 2^40 refuses (1) others.
-#[derive(Drop)]
+#[derive(Clone, Copy)]
 pub struct Pitch {
     hz: f64,
 }
@@ -62,7 +62,7 @@ impl Pitch {
 }
 
 // A ratio of two pitches, 1 for equal ones. It holds any f64.
-#[derive(Drop)]
+#[derive(Clone, Copy)]
 pub struct Ratio {
     float_value: f64,
 }
@@ -76,7 +76,7 @@ const NEGLIGIBLE_BELOW: Ratio = Ratio {
     float_value: 1.000001,
 };
 
-#[derive(Drop)]
+#[derive(Clone, Copy)]
 pub enum Measured {
     Measure(i64),
     // 2.
@@ -84,7 +84,7 @@ pub enum Measured {
 }
 
 // A positive finite number from 2^(octave - 1074) on and below twice that, with its first 32 digits in base 2.
-#[derive(Drop)]
+#[derive(Clone, Copy)]
 pub(crate) enum Binary {
     Digits { octave: u64, first: u64 },
     // Of any other.

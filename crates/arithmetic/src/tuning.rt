@@ -12,14 +12,14 @@ use crate::note::{A4, is_note};
 use crate::pitch::{Binary, Pitch, Ratio};
 use crate::refusal::{NOTE_OUT_OF_RANGE, PITCH_OUT_OF_RANGE};
 
-#[derive(Drop)]
+#[derive(Clone, Copy)]
 pub enum PitchAnswer {
     Hz(f64),
     // 4.
     Refused(u8),
 }
 
-#[derive(Drop)]
+#[derive(Clone, Copy)]
 pub enum RatioAnswer {
     Value(f64),
     // 1 or 4.
@@ -27,7 +27,7 @@ pub enum RatioAnswer {
 }
 
 // The note nearest to a pitch, and the ratio of the pitch to the note's.
-#[derive(Drop)]
+#[derive(Clone, Copy)]
 pub enum Approximation {
     Nearest(i32, f64),
     // 1.
@@ -35,7 +35,7 @@ pub enum Approximation {
 }
 
 // Where a note stands: whole octaves above A4, and up to 12 semitones above that.
-#[derive(Drop)]
+#[derive(Clone, Copy)]
 struct Place {
     octaves: i32,
     semitones: u32,

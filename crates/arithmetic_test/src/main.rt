@@ -1,4 +1,6 @@
 // Document 01's numbers for notes, pitches and the measure, with the ends of each range and every refusal. Writes a line for each call.
+#![tactic(auto)]
+
 use arithmetic::note::{LetterAnswer, MidiAnswer, NoteAnswer, OctaveAnswer, StepsAnswer};
 use arithmetic::pitch::{Measured, Pitch, Ratio};
 use arithmetic::tuning::{Approximation, PitchAnswer, RatioAnswer};

@@ -37,7 +37,7 @@ const REFUSED: u8 = 4;
 
 // Of a call that sends or opens: how many channels a plan takes, and how many bytes stand at the start of the buffer.
 #[repr(C)]
-#[derive(Drop)]
+#[derive(Clone, Copy)]
 pub struct Answer {
     pub outcome: u8,
     pub refusal: u8,
@@ -47,7 +47,7 @@ pub struct Answer {
 
 // A note or a group, with its channel and its detuning.
 #[repr(C)]
-#[derive(Drop)]
+#[derive(Clone, Copy)]
 pub struct Note {
     pub outcome: u8,
     pub refusal: u8,
@@ -58,7 +58,7 @@ pub struct Note {
 
 // A press from a pool, and the note that it stopped, if `stopped` is 1.
 #[repr(C)]
-#[derive(Drop)]
+#[derive(Clone, Copy)]
 pub struct RegisteredKey {
     pub outcome: u8,
     pub refusal: u8,
@@ -70,7 +70,7 @@ pub struct RegisteredKey {
 }
 
 #[repr(C)]
-#[derive(Drop)]
+#[derive(Clone, Copy)]
 pub struct NotePitch {
     pub outcome: u8,
     pub refusal: u8,
@@ -78,7 +78,7 @@ pub struct NotePitch {
 }
 
 #[repr(C)]
-#[derive(Drop)]
+#[derive(Clone, Copy)]
 pub struct Number {
     pub outcome: u8,
     pub refusal: u8,

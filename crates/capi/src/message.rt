@@ -14,7 +14,7 @@ use senders::midi::ChannelMessageType;
 
 // A message without its channel: its kind, its data bytes and its bend. A kind that names none is read as 0, and what a kind has no use for is 0.
 #[repr(C)]
-#[derive(Drop)]
+#[derive(Clone, Copy)]
 pub struct Message {
     pub kind: u8,
     pub first: u8,

@@ -9,14 +9,14 @@ use arithmetic::note::is_note;
 pub const KEYS: usize = 256;
 
 // What a lookup of a key finds.
-#[derive(Drop)]
+#[derive(Clone, Copy)]
 pub enum AccessKeyResult {
     Found { channel: u8, found_note: i32 },
     NotFound,
 }
 
 // The next found key.
-#[derive(Drop)]
+#[derive(Clone, Copy)]
 pub enum NextKey {
     Held { key: u16, channel: u8, note: i32 },
     NoMore,

@@ -1,5 +1,7 @@
 // What plans and pools share, over arithmetic's contracts (document 01): the list of channels that a model is opened with, keys and where they are found, and the
 // values in which a channel's detuning is sent.
+#![tactic(auto)]
+
 pub mod keys;
 pub mod list;
 mod lists;

@@ -13,7 +13,7 @@ const HIGHEST_CHANNEL: u8 = 15;
 // How many entries there can be: each is another of the sixteen channels.
 const MOST_ENTRIES: u8 = 16;
 
-#[derive(Drop)]
+#[derive(Clone, Copy)]
 pub struct ChannelList {
     // Entry 0 is the lowest of sixteen digits to base 16.
     digits: u64,
@@ -21,14 +21,14 @@ pub struct ChannelList {
     count: u8,
 }
 
-#[derive(Drop)]
+#[derive(Clone, Copy)]
 pub enum ChannelsAnswer {
     Listed(ChannelList),
     // 6 or 7.
     Refused(u8),
 }
 
-#[derive(Drop)]
+#[derive(Clone, Copy)]
 pub enum EntryAnswer {
     Channel(u8),
     // The list is shorter.

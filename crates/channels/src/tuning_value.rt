@@ -10,14 +10,14 @@ use arithmetic::pitch::{Measured, Ratio};
 use arithmetic::refusal::NOT_MEASURABLE;
 
 // How a sender tunes a channel.
-#[derive(Drop)]
+#[derive(Clone, Copy)]
 pub enum TuningKind {
     FineTuning,
     Bend,
 }
 
 // A channel's tuning in the steps of its kind.
-#[derive(Drop)]
+#[derive(Clone, Copy)]
 pub enum Tuning {
     // 0 to 16383, centre 8192.
     Fine(u16),
@@ -25,7 +25,7 @@ pub enum Tuning {
     Bend(i16),
 }
 
-#[derive(Drop)]
+#[derive(Clone, Copy)]
 pub enum TuningAnswer {
     Value(Tuning),
     // 2.
@@ -33,7 +33,7 @@ pub enum TuningAnswer {
 }
 
 // Of each kind.
-#[derive(Drop)]
+#[derive(Clone, Copy)]
 pub struct Tunings {
     pub fine: TuningAnswer,
     pub bend: TuningAnswer,

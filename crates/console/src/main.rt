@@ -1,4 +1,5 @@
 // The console program: lines on standard input, an answer to each on standard output, in large pieces.
+#![tactic(auto)]
 
 fn main() {
     let mut piece = io::large_buffer();

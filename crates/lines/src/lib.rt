@@ -1,5 +1,7 @@
 // The console program but for reading and writing (document 01, "The console program"): the lines' parser, the line function, and the step over a
 // piece of the input.
+#![tactic(auto)]
+
 pub mod answer;
 pub mod line;
 mod show;

@@ -13,14 +13,14 @@ const BYTE_DIGITS: usize = 3;
 
 const PITCH_DIGITS: usize = 9;
 
-#[derive(Drop)]
+#[derive(Clone, Copy)]
 pub enum Kind {
     On,
     Off,
     Bend,
 }
 
-#[derive(Drop)]
+#[derive(Clone, Copy)]
 pub enum Line {
     // Kind, key, millihertz and velocity.
     Event(Kind, u8, u32, u8),
@@ -59,14 +59,14 @@ pub fn parse(line: &[u8]) -> Line
 }
 
 // A field that names a kind, or none.
-#[derive(Drop)]
+#[derive(Clone, Copy)]
 enum Word {
     Is(Kind),
     Unknown,
 }
 
 // A field that is a number, or none.
-#[derive(Drop)]
+#[derive(Clone, Copy)]
 enum Number {
     Value(u32),
     Unreadable,

@@ -16,7 +16,7 @@ use senders::midi::Sent;
 const MOST_HELD: usize = 65;
 
 // The tuner's block, and the line that has begun: `len` bytes of it.
-#[derive(Drop)]
+#[derive(Clone, Copy)]
 pub struct Console {
     cells: [u16; CELLS],
     held: [u8; MOST_HELD],
@@ -24,7 +24,7 @@ pub struct Console {
 }
 
 // The console behind what was used of a piece, how many bytes that were, and how many were written.
-#[derive(Drop)]
+#[derive(Clone, Copy)]
 pub struct Step {
     pub console: Console,
     pub used: usize,

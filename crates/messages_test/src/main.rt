@@ -1,5 +1,6 @@
 // Writes messages of every kind at their limits, and every refusal: a line for each call, with how many bytes it wrote, or R and the refusal's
 // number, and then the whole buffer, whose bytes were aa before.
+#![tactic(auto)]
 
 ghost use Rattle.std.specs.Prelude.{◌≤◌};
 

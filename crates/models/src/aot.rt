@@ -16,20 +16,20 @@ use plans::block::{
 use plans::cells::PLAN_CELLS;
 
 // A model of tunings that are planned.
-#[derive(Drop)]
+#[derive(Clone, Copy)]
 pub struct AotTuningModel {
     cells: [u64; PLAN_CELLS],
 }
 
 // A tuning's answer beside the model.
-#[derive(Drop)]
+#[derive(Clone, Copy)]
 pub struct SetTuning {
     pub model: AotTuningModel,
     pub answer: PlanAnswer,
 }
 
 // The channel list's answer beside the model. A list that is refused opens a model without channels.
-#[derive(Drop)]
+#[derive(Clone, Copy)]
 pub struct Opened {
     pub model: AotTuningModel,
     pub answer: ChannelsAnswer,

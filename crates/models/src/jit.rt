@@ -19,24 +19,24 @@ use pools::block::{
 use pools::cells::CELLS;
 
 // The state is in the block; a model tunes nothing, so it makes no use of the tuning kind there.
-#[derive(Drop)]
+#[derive(Clone, Copy)]
 pub struct JitTuningModel {
     cells: [u16; CELLS],
 }
 
-#[derive(Drop)]
+#[derive(Clone, Copy)]
 pub struct Opened {
     pub answer: ChannelsAnswer,
     pub model: JitTuningModel,
 }
 
-#[derive(Drop)]
+#[derive(Clone, Copy)]
 pub struct Registered {
     pub result: RegisterKeyResult,
     pub model: JitTuningModel,
 }
 
-#[derive(Drop)]
+#[derive(Clone, Copy)]
 pub struct Deregistered {
     pub result: AccessKeyResult,
     pub model: JitTuningModel,

@@ -18,20 +18,20 @@ use plans::block::{GroupBy, access_key, open, tuned};
 use plans::cells::PLAN_CELLS;
 use senders::midi::{ChannelMessageType, Sent};
 
-#[derive(Drop)]
+#[derive(Clone, Copy)]
 pub struct AotTuner {
     cells: [u64; PLAN_CELLS],
 }
 
 // The channel list's answer, and the tuner.
-#[derive(Drop)]
+#[derive(Clone, Copy)]
 pub struct Opened {
     pub answer: ChannelsAnswer,
     pub tuner: AotTuner,
 }
 
 // What a tuning answers.
-#[derive(Drop)]
+#[derive(Clone, Copy)]
 pub enum PlanSent {
     // How many channels the plan uses, and how many bytes were written at the buffer's start.
     Tuned { channels: u16, written: usize },
@@ -40,7 +40,7 @@ pub enum PlanSent {
     Refused(u8),
 }
 
-#[derive(Drop)]
+#[derive(Clone, Copy)]
 pub struct Tuned {
     pub answer: PlanSent,
     pub tuner: AotTuner,

@@ -87,8 +87,11 @@ module _ (by : GroupBy) (c : ℕ) (g : ℤ) where
   highest_over (r ∷ rs) h = elim (outcome (counts by c g r)) [
     | passed e ↦
         let q = go (highest by c g rs) (h.0 e) (highest_has (λ (d : Float). T (positive d)) rs h.1) rs h.1 (highest_over rs h.1) in
-        rw e (λ u. q.0 e, q.1)
-    | failed e ↦ rw e (λ u. absurd (true→T u), highest_over rs h.1)
+        let k : highest by c g (r ∷ rs) ≡ larger r.detuning (highest by c g rs) = rw e in
+        subst (λ (o : Option Float). Each (λ (x : KeyRecord). counts by c g x ≡ true → Under x.detuning o) (r ∷ rs)) (sym k) (λ u. q.0 e, q.1)
+    | failed e ↦
+        let k : highest by c g (r ∷ rs) ≡ highest by c g rs = rw e in
+        subst (λ (o : Option Float). Each (λ (x : KeyRecord). counts by c g x ≡ true → Under x.detuning o) (r ∷ rs)) (sym k) (λ u. absurd (true→T (sym e ∙ u)), highest_over rs h.1)
   ]
     where
       go : (o : Option Float) → T (positive r.detuning) → Has (λ (d : Float). T (positive d)) o → (l : List KeyRecord)
@@ -97,9 +100,12 @@ module _ (by : GroupBy) (c : ℕ) (g : ℤ) where
           → Each (λ (x : KeyRecord). counts by c g x ≡ true → Under x.detuning (larger r.detuning o)) (r ∷ l)
       go none p q l hp h = (λ u. cross→le r.detuning r.detuning p p (le_of_eq refl), Each-map (λ x k u. absurd (k u)) l h)
       go (some d) p q l hp h = elim (outcome (le r.detuning d)) [
-        | passed e ↦ rw e (λ u. true→T e, h)
+        | passed e ↦
+            let k : larger r.detuning (some d) ≡ some d = rw e in
+            subst (λ (o' : Option Float). Each (λ (x : KeyRecord). counts by c g x ≡ true → Under x.detuning o') (r ∷ l)) (sym k) (λ u. true→T e, h)
         | failed e ↦
-            rw e (
+            let k : larger r.detuning (some d) ≡ some r.detuning = rw e in
+            subst (λ (o' : Option Float). Each (λ (x : KeyRecord). counts by c g x ≡ true → Under x.detuning o') (r ∷ l)) (sym k) (
               λ u. cross→le r.detuning r.detuning p p (le_of_eq refl),
               zip
                   (λ x a b u. le_trans_positive x.detuning d r.detuning (a u) q p (b u) (le_total r.detuning d p q e)) l hp h,

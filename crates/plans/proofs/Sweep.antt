@@ -262,25 +262,28 @@ module _ (kind : GroupBy) where
 
   -- those whose key the channel has, and the others
   pub here_is : (taken w : List Line) → Pairwise Other w → keep (λ (l : Line). member l.key (keys (here kind taken w))) w ≡ here kind taken w
-  unfolding here
-  here_is taken [] a = refl
+  here_is taken [] a = unfold here in refl
   here_is taken (x ∷ w) a =
       let t = here kind (next kind taken x) w in
       let r = here_is (next kind taken x) w a.1 in
+      let P : List Line → Type 0 = λ m. keep (λ (l : Line). member l.key (keys m)) (x ∷ w) ≡ m in
       elim (outcome (takes kind taken x)) [
-        | passed u ↦ rw (u, T→true (eqb x.key x.key) (eqb_refl x.key), keep_same (λ (l : Line). member l.key (keys (x ∷ t))) (λ (l : Line). member l.key (keys t)) w (Each-map (λ y d. rw d) w a.0), r)
-        | failed u ↦ rw (u, absent x t (Each-here (Other x) (next kind taken x) w a.0), r)
+        | passed u ↦
+            subst P (sym (here_yes taken x w u)) (rw (T→true (eqb x.key x.key) (eqb_refl x.key), keep_same (λ (l : Line). member l.key (keys (x ∷ t))) (λ (l : Line). member l.key (keys t)) w (Each-map (λ y d. rw d) w a.0), r))
+        | failed u ↦ subst P (sym (here_no taken x w u)) (rw (absent x t (Each-here (Other x) (next kind taken x) w a.0), r))
       ]
 
   pub later_is : (taken w : List Line) → Pairwise Other w → keep (λ (l : Line). not (member l.key (keys (here kind taken w)))) w ≡ later kind taken w
-  unfolding here later
-  later_is taken [] a = refl
+  later_is taken [] a = unfold here later in refl
   later_is taken (x ∷ w) a =
       let t = here kind (next kind taken x) w in
       let r = later_is (next kind taken x) w a.1 in
+      let P : List Line → Type 0 = λ m. keep (λ (l : Line). not (member l.key (keys m))) (x ∷ w) ≡ later kind taken (x ∷ w) in
       elim (outcome (takes kind taken x)) [
-        | passed u ↦ rw (u, T→true (eqb x.key x.key) (eqb_refl x.key), keep_same (λ (l : Line). not (member l.key (keys (x ∷ t)))) (λ (l : Line). not (member l.key (keys t))) w (Each-map (λ y d. rw d) w a.0), r)
-        | failed u ↦ rw (u, absent x t (Each-here (Other x) (next kind taken x) w a.0), r)
+        | passed u ↦
+            subst P (sym (here_yes taken x w u)) (rw (later_yes taken x w u, T→true (eqb x.key x.key) (eqb_refl x.key), keep_same (λ (l : Line). not (member l.key (keys (x ∷ t)))) (λ (l : Line). not (member l.key (keys t))) w (Each-map (λ y d. rw d) w a.0), r))
+        | failed u ↦
+            subst P (sym (here_no taken x w u)) (rw (later_no taken x w u, absent x t (Each-here (Other x) (next kind taken x) w a.0), r))
       ]
 
   -- a channel takes the first key that waits, so fewer are left

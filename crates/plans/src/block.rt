@@ -16,7 +16,7 @@ use channels::list::ChannelList;
 use channels::tuning_value::TuningKind;
 
 // What a sound module retunes together: one note, one note letter, or a whole channel.
-#[derive(Drop)]
+#[derive(Clone, Copy)]
 pub enum GroupBy {
     Note,
     NoteLetter,
@@ -24,7 +24,7 @@ pub enum GroupBy {
 }
 
 // What a tuning answers.
-#[derive(Drop)]
+#[derive(Clone, Copy)]
 pub enum PlanAnswer {
     // How many channels the plan uses.
     Tuned(u16),
@@ -34,14 +34,14 @@ pub enum PlanAnswer {
 }
 
 // The detuning of a group on a channel.
-#[derive(Drop)]
+#[derive(Clone, Copy)]
 pub enum DetuningAnswer {
     Detuning(f64),
     NoEntry,
 }
 
 // The next group with a detuning on a channel, and the detuning.
-#[derive(Drop)]
+#[derive(Clone, Copy)]
 pub enum NextAnswer {
     Entry(i32, f64),
     NoEntry,

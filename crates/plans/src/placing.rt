@@ -21,7 +21,7 @@ const MOST_CHANNELS: u16 = 16;
 const GROUPS: usize = 801;
 
 // What the planning of lists comes to: the number of a refusal, or `ACCEPTED` and how many channels the plan takes.
-#[derive(Drop)]
+#[derive(Clone, Copy)]
 pub struct Planning {
     pub refusal: u8,
     pub count: u16,
@@ -86,7 +86,7 @@ fn assign(
 }
 
 // A group so far: how many channels it uses, and the detuning that its next key is compared with.
-#[derive(Drop)]
+#[derive(Clone, Copy)]
 struct Run {
     used: u16,
     latest: f64,

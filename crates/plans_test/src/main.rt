@@ -1,5 +1,7 @@
 // Plans: document 01's examples 9 and 10, every kind of group, both kinds of list, each refusal, full lists, and the detuning entries of the channels.
 // Writes a line for each call.
+#![tactic(auto)]
+
 ghost use Rattle.std.specs.Prelude.{◌≤◌};
 
 use channels::keys::AccessKeyResult;

@@ -1,6 +1,6 @@
 -- What an accepted press or a repitch answers: its detuning can be measured, since its note is a note and its pitch a pitch. Assumes nothing.
 use mathlib.Core.Path.{◌≡◌, refl, sym, ap, subst, ◌∙◌}
-use mathlib.Core.Bool.{Bool, true, not}
+use mathlib.Core.Bool.{Bool, true, false, not}
 use mathlib.Core.List.{List}
 use mathlib.Core.Option.{Option, some, none}
 use Prim.Native.Nat.{ℕ}
@@ -24,6 +24,7 @@ use Rattle.pools.proofs.Blocks.{found_note}
 
 true_of : (b : Bool) → T b → b ≡ true
 true_of true t = refl
+true_of false t = elim t [ ]
 
 measurable : (hz : Float) (z : ℤ) → is_pitch hz ≡ true → is_note z ≡ true → positive (detuning_of hz z) ≡ true
 measurable hz z p n = true_of (positive (detuning_of hz z)) (detuning_positive hz z (subst T (sym p) tt) n)

@@ -21,14 +21,14 @@ use channels::list::ChannelList;
 use channels::tuning_value::TuningKind;
 
 // Which notes share a pool: those of a letter, or all. (Rust's `GroupBy` without pools for single notes.)
-#[derive(Drop)]
+#[derive(Clone, Copy)]
 pub enum PoolGroupBy {
     NoteLetter,
     Channel,
 }
 
 // What a press does that finds no free channel.
-#[derive(Drop)]
+#[derive(Clone, Copy)]
 pub enum PoolingMode {
     Block,
     Stop,
@@ -36,13 +36,13 @@ pub enum PoolingMode {
 }
 
 // The note that a press stopped, if any.
-#[derive(Drop)]
+#[derive(Clone, Copy)]
 pub enum StoppedNote {
     Note(i32),
     Nothing,
 }
 
-#[derive(Drop)]
+#[derive(Clone, Copy)]
 pub enum RegisterKeyResult {
     Accepted {
         channel: u8,
@@ -55,7 +55,7 @@ pub enum RegisterKeyResult {
     Refused(u8),
 }
 
-#[derive(Drop)]
+#[derive(Clone, Copy)]
 pub enum RepitchKeyResult {
     Found {
         channel: u8,

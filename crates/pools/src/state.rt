@@ -26,7 +26,7 @@ use channels::list::ChannelList;
 use channels::tuning_value::TuningKind;
 
 // The channel for a press of a key that is not held.
-#[derive(Drop)]
+#[derive(Clone, Copy)]
 pub(crate) enum Allocation {
     // The front of the free ones.
     Free(u8),

@@ -1,4 +1,5 @@
 // Replays document 01's examples 11 and 12, every pooling mode, letter pools, zero channels and the refusals, and writes what it found.
+#![tactic(auto)]
 
 use arithmetic::pitch::Pitch;
 use channels::keys::{AccessKeyResult, NextKey};

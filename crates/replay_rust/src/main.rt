@@ -2,6 +2,7 @@
 // on a line for each its kind (1 to 6) and its parts. What is written is held to the file `stdout`. A line there is the Rust's answer. Where document 01 wants
 // another, the line has that, and behind `#` what the Rust answers and why the two differ: the whole answer, or what stands in it between two commas, by
 // its number from 0. The question has the same remark, which is written behind the answer as it is.
+#![tactic(auto)]
 
 ghost use Rattle.std.specs.Prelude.{◌≤◌};
 
@@ -22,7 +23,7 @@ use show::{number, refusal, signed, word};
 const CHANNELS: [u8; 16] = [0, 1, 2, 3, 4, 5, 6, 7, 8, 9, 10, 11, 12, 13, 14, 15];
 
 // A number of the input, and the place behind it.
-#[derive(Drop)]
+#[derive(Clone, Copy)]
 struct Taken {
     value: u64,
     at: usize,

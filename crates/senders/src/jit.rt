@@ -16,34 +16,34 @@ use channels::tuning_value::TuningKind;
 use pools::block::{PoolGroupBy, PoolingMode, access_key, open};
 use pools::cells::CELLS;
 
-#[derive(Drop)]
+#[derive(Clone, Copy)]
 pub struct JitTuner {
     cells: [u16; CELLS],
 }
 
 // The channel list's answer, and the tuner.
-#[derive(Drop)]
+#[derive(Clone, Copy)]
 pub struct Opened {
     pub answer: ChannelsAnswer,
     pub tuner: JitTuner,
 }
 
 // What a press answers: how many bytes it wrote at the buffer's start, that no channel was free, or a refusal.
-#[derive(Drop)]
+#[derive(Clone, Copy)]
 pub enum PressAnswer {
     Written(usize),
     Rejected,
     Refused(u8),
 }
 
-#[derive(Drop)]
+#[derive(Clone, Copy)]
 pub struct Pressed {
     pub answer: PressAnswer,
     pub tuner: JitTuner,
 }
 
 // What a call that releases keys answers, and the tuner.
-#[derive(Drop)]
+#[derive(Clone, Copy)]
 pub struct Released {
     pub answer: Sent,
     pub tuner: JitTuner,

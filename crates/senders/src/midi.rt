@@ -39,14 +39,14 @@ const RECORD_LEN: usize = 3;
 const PADDING: u8 = 0;
 
 // What a call that writes to a lent buffer answers: how many bytes it wrote at the buffer's start, or a refusal.
-#[derive(Drop)]
+#[derive(Clone, Copy)]
 pub enum Sent {
     Written(usize),
     Refused(u8),
 }
 
 // The channel-agnostic part of a channel message.
-#[derive(Drop)]
+#[derive(Clone, Copy)]
 pub enum ChannelMessageType {
     NoteOff { key: u8, velocity: u8 },
     NoteOn { key: u8, velocity: u8 },
@@ -80,7 +80,7 @@ impl ChannelMessageType {
 }
 
 // Whether a message passes the tests of its data.
-#[derive(Drop)]
+#[derive(Clone, Copy)]
 pub(crate) enum Check {
     Passed,
     Refused(u8),

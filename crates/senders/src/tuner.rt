@@ -28,7 +28,7 @@ use pools::block::StoppedNote;
 const HIGHEST_NOTE_NUMBER: i32 = 127;
 
 // The three messages of a note.
-#[derive(Drop)]
+#[derive(Clone, Copy)]
 pub enum NoteMessage {
     Off,
     On,
@@ -36,7 +36,7 @@ pub enum NoteMessage {
 }
 
 // A note's number, if MIDI has one for it.
-#[derive(Drop)]
+#[derive(Clone, Copy)]
 enum NoteNumber {
     Number(u8),
     Unnumbered,

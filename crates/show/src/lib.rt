@@ -1,4 +1,6 @@
 // What the test programs write to standard output: words, numbers, refusals and the bits of an f64, each number behind a space.
+#![tactic(auto)]
+
 ghost use Rattle.std.specs.Prelude.{◌≡◌, nat_abs};
 
 use libc::STDOUT_FILENO;

@@ -1,4 +1,5 @@
 // Standard input through the console to standard output.
+#![tactic(auto)]
 
 ghost use Rattle.terminal.specs.Stream.{view, Turned, Ran};
 
@@ -35,7 +36,7 @@ pub fn run(piece: &mut [u8], out: &mut [u8]) -> Stream
 }
 
 // The stream after a turn, and whether there is more to do.
-#[derive(Drop)]
+#[derive(Clone, Copy)]
 struct Next {
     stream: Stream,
     more: bool,

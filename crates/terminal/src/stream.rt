@@ -9,7 +9,7 @@ use lines::step::Console;
 use senders::midi::Sent;
 
 // Of the piece the bytes from `at` to `len` are still to be answered, of the output those from `from` to `end` are still to be written.
-#[derive(Drop)]
+#[derive(Clone, Copy)]
 pub struct Stream {
     console: Console,
     at: usize,

@@ -15,7 +15,7 @@ const ROOM: usize = 200;
 
 // ---- the calls
 
-#[derive(Drop)]
+#[derive(Clone, Copy)]
 enum Call {
     // A list by its number.
     Set(u8),
@@ -26,13 +26,13 @@ enum Call {
     Stop,
 }
 
-#[derive(Drop)]
+#[derive(Clone, Copy)]
 enum Answer {
     Planned(PlanSent),
     Other(Sent),
 }
 
-#[derive(Drop)]
+#[derive(Clone, Copy)]
 struct Played {
     answer: Answer,
     tuner: AotTuner,

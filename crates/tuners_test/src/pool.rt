@@ -25,7 +25,7 @@ fn answered(answer: PressAnswer, buffer: &[u8]) {
 
 // ---- the calls
 
-#[derive(Drop)]
+#[derive(Clone, Copy)]
 enum Call {
     On { key: u8, hz: f64, velocity: u8 },
     Off { key: u8, velocity: u8 },
@@ -37,7 +37,7 @@ enum Call {
     Bend { channel: u8, detuning: f64 },
 }
 
-#[derive(Drop)]
+#[derive(Clone, Copy)]
 struct Played {
     answer: PressAnswer,
     tuner: JitTuner,
