@@ -1,0 +1,8 @@
+-- `state::listed` meets its contract. Assumes nothing.
+use Rattle.plans.specs.PlanBlock.{list_at}
+use borrow.Author.Rules.{rules}
+use Rattle.plans.proofs.state.listed.Goals as goal
+
+pub returns : goal.returns
+unfolding list_at
+returns c = c.stored_list.ensures

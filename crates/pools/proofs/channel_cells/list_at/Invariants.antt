@@ -1,0 +1,20 @@
+-- `channel_cells::list_at` meets its contract. The loop's invariant: the number has the digits of the items from i on. Assumes nothing.
+use Prim.Native.Nat.{ℕ, min, ◌≤◌, ◌<◌, ◌-◌, ◌*◌, ◌+◌, ◌^◌, ◌%◌}
+use mathlib.Core.Path.{◌≡◌, sym, ap, ◌∙◌}
+use mathlib.Core.List.{List, map}
+use native.Mathlib.Omega.{arith}
+use lib.ListN.{length, get_or, take, drop, length-drop, length-map}
+use lib.Seq.{drop-length, get_or-take, get_or-drop}
+use Rattle.channels.specs.ChannelList.{entries}
+use Rattle.channels.specs.Places.{channel_of}
+use Rattle.channels.proofs.ChannelLists.{number, number_word, Low, low_drop, number_turn, digits_number}
+use Rattle.pools.proofs.Regions.{length_part}
+use Rattle.pools.proofs.Blocks.{get_d_map_below}
+use borrow.Author.Rules.{rules}
+use Rattle.pools.proofs.channel_cells.list_at.Given as goal
+
+abbrev pub invariant-loop-i : goal.invariant-loop-i
+invariant-loop-i l = (l.i ≤ l.n) × (l.digits ≡ number (drop l.i (items l.cells l.at l.n)))
+
+abbrev pub decreases-loop-i : goal.decreases-loop-i
+decreases-loop-i l = l.i

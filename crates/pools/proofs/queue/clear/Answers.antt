@@ -1,0 +1,45 @@
+-- `queue::clear` meets its contract. The loop's invariant: i cells are filled. Assumes nothing.
+use Prim.Native.Nat.{◌+◌, ◌-◌, ◌≤◌}
+use mathlib.Core.Path.{◌≡◌, refl, sym, ap, ◌∙◌}
+use mathlib.Core.List.{[], ◌∷◌, ◌++◌}
+use native.Mathlib.Omega.{arith}
+use lib.ListN.{length, take, drop, replicate}
+use Rattle.pools.specs.PoolInternal.{Kept}
+use Rattle.pools.proofs.Regions.{kept_same, kept_then, kept_set, kept_wider, put, zeros_more}
+use Rattle.pools.proofs.queue.clear.Goals as goal
+
+pub loop-i-init : goal.loop-i-init
+loop-i-init c = (omega arith, kept_same _ _ _, refl)
+
+pub overflow_add-cells : goal.overflow_add-cells
+overflow_add-cells c = omega arith
+
+pub offset_bounds-cells-from : goal.offset_bounds-cells-from
+offset_bounds-cells-from c = omega arith
+
+pub bounds-cells-from : goal.bounds-cells-from
+bounds-cells-from c = omega arith
+
+pub overflow_add-i : goal.overflow_add-i
+overflow_add-i c = omega arith
+
+pub loop-i-smaller : goal.loop-i-smaller
+loop-i-smaller c = omega arith
+
+pub loop-i-preserved : goal.loop-i-preserved
+loop-i-preserved c =
+    let a = c.args in
+    let l = c.loop-i in (
+      omega arith,
+      kept_then (kept_wider l.invariant.1 a.from (l.i + 1) (omega arith) (omega arith)) (kept_set a.from (l.i + 1) l.cells (a.from + l.i) 0 (omega arith) (omega arith)),
+      put l.cells a.from l.i 0 (omega (arith, l.invariant.1.long)) ∙ ap (λ r. r ++ (0 ∷ [])) l.invariant.2 ∙ zeros_more l.i,
+    )
+
+pub shape_of-cells : goal.shape_of-cells
+shape_of-cells c = omega arith
+
+pub returns : goal.returns
+returns c =
+    let l = c.loop-i in
+    let e : l.i ≡ c.args.len = omega arith in
+    (rw e at l.invariant.1, rw e at l.invariant.2)

@@ -1,0 +1,16 @@
+-- `queue::count_up` meets its contract. The loop's invariant: i cells are filled. Assumes nothing.
+use Prim.Native.Nat.{◌+◌, ◌-◌, ◌≤◌}
+use mathlib.Core.Path.{◌≡◌, refl, sym, ap, ◌∙◌}
+use mathlib.Core.List.{[], ◌∷◌, ◌++◌}
+use native.Mathlib.Omega.{arith}
+use lib.ListN.{length, take, drop}
+use Rattle.channels.specs.Lists.{upward}
+use Rattle.pools.specs.PoolInternal.{Kept}
+use Rattle.pools.proofs.Regions.{kept_same, kept_then, kept_set, kept_wider, put, upward_more}
+use Rattle.pools.proofs.queue.count_up.Given as goal
+
+abbrev pub invariant-loop-i : goal.invariant-loop-i
+invariant-loop-i l = (l.i ≤ l.len) × Kept l.from l.i l.initial.cells l.cells × (take l.i (drop l.from l.cells) ≡ upward 0 l.i)
+
+abbrev pub decreases-loop-i : goal.decreases-loop-i
+decreases-loop-i l = l.len - l.i

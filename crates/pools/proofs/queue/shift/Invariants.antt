@@ -1,0 +1,15 @@
+-- `queue::shift` meets its contract. The loop's invariant: i cells are moved down, and no cell past them has changed. Assumes nothing.
+use Prim.Native.Nat.{◌+◌, ◌-◌, ◌≤◌}
+use mathlib.Core.Path.{◌≡◌, refl, sym, ap, ◌∙◌}
+use mathlib.Core.List.{[], ◌∷◌, ◌++◌}
+use native.Mathlib.Omega.{arith}
+use lib.ListN.{length, take, drop, get_or}
+use Rattle.pools.specs.PoolInternal.{Kept}
+use Rattle.pools.proofs.Regions.{kept_same, kept_then, kept_set, kept_wider, read_past, grown, put}
+use Rattle.pools.proofs.queue.shift.Given as goal
+
+abbrev pub invariant-loop-i : goal.invariant-loop-i
+invariant-loop-i l = (l.i ≤ l.len) × Kept l.from l.i l.initial.cells l.cells × (take l.i (drop l.from l.cells) ≡ take l.i (drop (l.from + 1) l.initial.cells))
+
+abbrev pub decreases-loop-i : goal.decreases-loop-i
+decreases-loop-i l = l.len - l.i

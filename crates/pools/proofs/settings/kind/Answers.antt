@@ -1,0 +1,14 @@
+-- `settings::kind` meets its contract. Assumes nothing.
+use borrow.Author.Tests.{eq-eqb, ne_eqb}
+use Rattle.pools.specs.Block.{kind_at}
+use Rattle.channels.specs.TuningValue.{kind_of}
+use borrow.Author.Rules.{rules}
+use Rattle.pools.proofs.settings.kind.Goals as goal
+
+pub returns-then-cells-eq1 : goal.returns-then-cells-eq1
+unfolding kind_at kind_of
+returns-then-cells-eq1 c = rw (eq-eqb _ 1 c.if-cells-eq1.true)
+
+pub returns : goal.returns
+unfolding kind_at kind_of
+returns c = rw (ne_eqb _ 1 c.if-cells-eq1.false)
