@@ -1,20 +1,20 @@
 -- An f64 above 0 by the fields of its bit pattern, as `pitch::Ratio::measure` reads them.
 -- Assumes nothing.
-use mathlib.Core.Path.{◌≡◌, refl, sym, ap, ◌∙◌, subst}
+use mathlib.Core.Path.{◌≡◌, refl, sym, ap, ◌∙◌}
 use Prim.Native.Nat.{ℕ, zero, suc, ◌+◌, ◌-◌, ◌*◌, ◌/◌, ◌%◌, ◌^◌, ◌≤◌, ◌<◌}
-use native.Mathlib.Nat.{mod-eq_of_lt, zero-lt-suc, lt_irrefl, add_comm, mul_assoc, mul-pos, mul-one, zero-mul}
+use native.Mathlib.Nat.{mod-eq_of_lt, zero-lt-suc, add_comm, mul_assoc, mul-pos, mul-one, zero-mul}
 use native.Mathlib.Omega.{arith}
 use mathlib.Core.Bool.{Bool, true, false, not, cond, true≢false}
-use lib.Dec.{T, leb, ltb, eqb, ltb→lt, lt→ltb, leb→le, nleb→lt, eqb→eq, not_T, lit<}
+use lib.Dec.{T, leb, ltb, eqb, ltb→lt, lt→ltb, nleb→lt, eqb→eq, not_T}
 use lib.Pow.{pow_pos, pow-add}
 use lib.IntN.{ℤ, pos, negsuc, ◌-ℤ◌}
 use lib.Ieee.{Float, nan, inf, fin, binary64, up, down, odd, of_fields, of_bits, to_bits, lt, is_nan, fits}
-use lib.Ieee.Bits.{is_true, is_false, cond_no, of_bits-to_bits}
+use lib.Ieee.Bits.{is_true, cond_no, of_bits-to_bits}
 use lib.Ieee.Exact.{HasValue, odd_sign}
-use lib.Ieee.Fits.{up_pos, eq→eqb}
-use lib.Ieee.Positive.{positive, above, first_pos, positive_of_value}
+use lib.Ieee.Fits.{up_pos}
+use lib.Ieee.Positive.{above, first_pos, positive_of_value}
 use Rattle.arithmetic.specs.Measure.{measure, measure_rule}
-use Rattle.arithmetic.specs.Outcome.{Outcome, value, refused}
+use Rattle.arithmetic.specs.Outcome.{value, refused}
 use Rattle.arithmetic.proofs.Integers.{plus, less, up_is, down_is, add_parts}
 use Rattle.arithmetic.proofs.Scaled.{measure_same}
 

@@ -4,7 +4,7 @@ use mathlib.Core.Bool.{true, false, ◌&&◌}
 use Prim.Native.Nat.{ℕ, zero, suc, ◌+◌, ◌*◌, ◌%◌, ◌^◌, ◌≤◌, ◌<◌}
 use native.Mathlib.Nat.{le_trans, le_of_eq, le_of_lt, lt_of_lt_of_le, lt_of_le_of_lt, lt_of_not-le, not-le_of_lt, le_of_suc-le-suc, mul_comm, mul_assoc, mul_right_comm, mul-le-mul_right, mul-le-mul_left, le-mul_of_pos_right, le_of_mul-le-mul_right, lt_of_mul-lt-mul_right, pow-le-pow_left, one-le-pow, mul-pos, zero-lt-suc}
 use native.Mathlib.Omega.{arith}
-use lib.Dec.{T, eqb, ltb, leb, ltb→lt, leb→le, lit<}
+use lib.Dec.{T, eqb, ltb, leb, ltb→lt, leb→le}
 use lib.Pow.{pow-add, pow_mono, pow-lt}
 use lib.IntN.{ℤ, pos, ◌+ℤ◌}
 use lib.Signed.{mag}

@@ -2,7 +2,7 @@
 -- Every other input has a value. Assumes nothing.
 use mathlib.Core.Path.{◌≡◌}
 use mathlib.Core.Logic.{◌⊎◌, ◌↔◌}
-use mathlib.Core.Bool.{Bool, true, false}
+use mathlib.Core.Bool.{true, false}
 use Prim.Native.Nat.{ℕ}
 use lib.IntN.{ℤ, ◌+ℤ◌, ◌-ℤ◌}
 use lib.Ieee.{Float}

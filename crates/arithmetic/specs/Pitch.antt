@@ -1,5 +1,5 @@
 -- Pitches and their ratios (document 01, "pitch.rs"): the range, note pitches, detunings and what is negligible. Assumes nothing.
-use Rattle.std.specs.Prelude.{ℕ, ◌+◌, ◌-◌, ◌*◌, ◌^◌, ◌<◌, Bool, false, ◌&&◌, List, [], ◌∷◌, ℤ, pos, negsuc, ◌+ℤ◌, ◌-ℤ◌, get_or, Float}
+use Rattle.std.specs.Prelude.{ℕ, ◌^◌, Bool, false, ◌&&◌, List, [], ◌∷◌, ℤ, pos, negsuc, ◌+ℤ◌, ◌-ℤ◌, get_or, Float}
 use Rattle.std.specs.Float.{fin, binary64}
 use Rattle.std.specs.Float.Ieee.{round, mul, div, le, lt}
 use Rattle.arithmetic.specs.Refusal.{pitch_out_of_range, note_out_of_range}

@@ -8,7 +8,6 @@ use mir.Syntax.{w32, w64}
 use mir.Val.{SFits, to_z, of_z}
 use mir.ValLaws.{to_z-of_z}
 use mir.Facts.{sfits_widen}
-use borrow.Author.Rules.{rules}
 use Rattle.arithmetic.specs.Division.{quotient}
 use Rattle.arithmetic.proofs.Integers.{widens}
 use Rattle.arithmetic.proofs.Quotients.{widened, machine_fits, machine_quot, machine_rem, quotient_fits, cut_down, cut_whole}

@@ -6,10 +6,9 @@ use native.Mathlib.Nat.{lt_trans}
 use native.Mathlib.Omega.{arith}
 use lib.IntN.{ℤ, pos, ◌+ℤ◌}
 use lib.Signed.{rem_z}
-use mir.Syntax.{w32, w64}
+use mir.Syntax.{w64}
 use mir.Val.{to_z, of_z}
 use mir.ValLaws.{to_z-of_z, to_z_pos}
-use borrow.Author.Rules.{rules}
 use Rattle.arithmetic.specs.Division.{remainder}
 use Rattle.arithmetic.proofs.Integers.{widens}
 use Rattle.arithmetic.proofs.Quotients.{widened, machine_fits, machine_rem, remainder_below, rest_up, rest_whole}

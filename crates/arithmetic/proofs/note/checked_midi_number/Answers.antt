@@ -1,12 +1,10 @@
 -- `arithmetic::note::checked_midi_number` meets its contract. Assumes nothing.
 use mathlib.Core.Path.{◌≡◌, ap}
 use mathlib.Core.Bool.{true}
-use mathlib.Core.Option.{some}
 use native.Mathlib.Omega.{arith}
-use lib.IntN.{ℤ, nat_abs}
+use lib.IntN.{nat_abs}
 use mir.Syntax.{w32}
 use mir.ValLaws.{to_z-of_z}
-use borrow.Author.Rules.{rules}
 use Rattle.arithmetic.specs.Outcome.{value}
 use Rattle.arithmetic.specs.Refusal.{note_out_of_range}
 use Rattle.arithmetic.specs.Note.{is_note, midi_rule}

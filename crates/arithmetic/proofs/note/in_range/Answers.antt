@@ -1,7 +1,6 @@
 -- `arithmetic::note::in_range` meets its contract: an i64 is read back as it was. Assumes nothing.
 use mir.Syntax.{w64}
 use mir.ValLaws.{to_z-of_z}
-use borrow.Author.Rules.{rules}
 use Rattle.arithmetic.proofs.note.in_range.Goals as goal
 
 pub returns-then-number : goal.returns-then-number

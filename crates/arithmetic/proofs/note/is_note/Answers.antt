@@ -1,6 +1,5 @@
 -- `arithmetic::note::is_note` meets its contract: an i32 is widened to itself. Assumes nothing.
 use mathlib.Core.Path.{ap, ◌∙◌}
-use borrow.Author.Rules.{rules}
 use Rattle.arithmetic.specs.Note.{is_note}
 use Rattle.arithmetic.proofs.Integers.{wide, widens}
 use Rattle.arithmetic.proofs.note.is_note.Goals as goal

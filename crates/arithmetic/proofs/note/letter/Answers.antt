@@ -4,7 +4,6 @@ use native.Mathlib.Omega.{arith}
 use lib.IntN.{ℤ}
 use mir.Syntax.{w32}
 use mir.ValLaws.{to_z-of_z}
-use borrow.Author.Rules.{rules}
 use Rattle.arithmetic.specs.Outcome.{value}
 use Rattle.arithmetic.specs.Division.{remainder}
 use Rattle.arithmetic.specs.Refusal.{note_out_of_range}

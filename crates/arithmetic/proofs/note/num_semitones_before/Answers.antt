@@ -1,10 +1,9 @@
 -- `arithmetic::note::num_semitones_before` meets its contract: the difference of two notes fits. Assumes nothing.
 use mathlib.Core.Path.{◌≡◌, ap}
 use mathlib.Core.Bool.{true}
-use lib.IntN.{ℤ, ◌-ℤ◌}
+use lib.IntN.{◌-ℤ◌}
 use mir.Syntax.{w32}
 use mir.ValLaws.{to_z-of_z}
-use borrow.Author.Rules.{rules}
 use Rattle.arithmetic.specs.Outcome.{value}
 use Rattle.arithmetic.specs.Refusal.{note_out_of_range}
 use Rattle.arithmetic.specs.Note.{is_note, before_rule}

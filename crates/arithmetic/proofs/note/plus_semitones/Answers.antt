@@ -5,7 +5,6 @@ use lib.IntN.{ℤ, ◌+ℤ◌}
 use mir.Syntax.{w32, w64}
 use mir.Val.{to_z, of_z}
 use mir.ValLaws.{to_z-of_z}
-use borrow.Author.Rules.{rules}
 use borrow.Author.Tests.{not-true, not-false}
 use Rattle.arithmetic.specs.Outcome.{value}
 use Rattle.arithmetic.specs.Refusal.{note_out_of_range}

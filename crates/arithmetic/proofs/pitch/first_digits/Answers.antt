@@ -8,7 +8,6 @@ use lib.Ieee.{size}
 use Rattle.arithmetic.specs.Outcome.{value}
 use Rattle.arithmetic.specs.Measure.{digits}
 use Rattle.arithmetic.proofs.Scaled.{size_pos, zeros_size, first32_word, scaled}
-use borrow.Author.Rules.{rules}
 use Rattle.arithmetic.proofs.pitch.first_digits.Goals as goal
 use Rattle.arithmetic.proofs.pitch.first_digits.Goals.{Start}
 

@@ -8,7 +8,6 @@ use lib.Ieee.{Float, binary64, div}
 use mir.Syntax.{w32}
 use mir.Val.{to_z, of_z}
 use mir.ValLaws.{to_z-of_z}
-use borrow.Author.Rules.{rules}
 use borrow.Author.Tests.{not-true, not-false}
 use Rattle.arithmetic.specs.Outcome.{value}
 use Rattle.arithmetic.specs.Refusal.{pitch_out_of_range}

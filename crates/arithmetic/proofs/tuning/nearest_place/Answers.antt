@@ -9,7 +9,6 @@ use lib.Ieee.{of_bits}
 use mir.Syntax.{w32}
 use mir.Val.{SFits, to_z, of_z}
 use mir.ValLaws.{to_z-of_z, to_z_pos}
-use borrow.Author.Rules.{rules}
 use Rattle.arithmetic.specs.Measure.{digits, measure, measure_rule}
 use Rattle.arithmetic.specs.Note.{a4}
 use Rattle.arithmetic.specs.Pitch.{is_pitch}
@@ -34,26 +33,26 @@ pub returns-in_default : goal.returns-in_default
 returns-in_default c =
     let v = c.between_pitches-over_a4.result.float_value in
     absurd (no_refusal c.args.pitch.hz v 2 (pitched (goal.at.returns-in_default c).Start) (ratio (goal.at.returns-in_default c).After-between_pitches-over_a4)
-    (sym (subst (λ (b : B.Binary). Writes b (measure_rule v)) c.enum_told-1.given.1 c.binary.ensures)))
+    (sym c.in_default.ensures))
 
 -- the octave and the first digits
 module _ (c : In-Digits) where
   abbrev octave : ℕ
-  octave = c.before.octave-1.given.0.0
+  octave = c.in-Digits.octave
 
   abbrev first : ℕ
-  first = c.before.octave-1.given.0.1.0
+  first = c.in-Digits.first
 
   abbrev start : Start
-  start = c.before.before.before.before.before.before
+  start = c.before.before.before.before
 
-  writes : Writes (B.TheVariants.Digits octave first) (measure_rule c.before.before.before.before.between_pitches-over_a4.result.float_value)
-  writes = subst (λ (b : B.Binary). Writes b (measure_rule c.before.before.before.before.between_pitches-over_a4.result.float_value)) c.before.octave-1.given.1 c.before.before.before.binary.ensures
+  writes : Writes (B.TheVariants.Digits octave first) (measure_rule c.before.before.between_pitches-over_a4.result.float_value)
+  writes = c.in-Digits.ensures
 
   level : pos (octave * 2 ^ 24 + digits 24 first) -ℤ pos (1074 * 2 ^ 24) ≡ measure (over_a4 start.args.pitch.hz)
   level =
-      the_measure start.args.pitch.hz c.before.before.before.before.between_pitches-over_a4.result.float_value (pos (octave * 2 ^ 24 + digits 24 first) -ℤ pos (1074 * 2 ^ 24))
-      (pitched start) (ratio c.before.before.before.before) (sym writes.2)
+      the_measure start.args.pitch.hz c.before.before.between_pitches-over_a4.result.float_value (pos (octave * 2 ^ 24 + digits 24 first) -ℤ pos (1074 * 2 ^ 24))
+      (pitched start) (ratio c.before.before) (sym writes.2)
 
 octave-small : (c : In-Digits) → octave c < 2 ^ 31
 octave-small c = omega (arith, (writes c).0)

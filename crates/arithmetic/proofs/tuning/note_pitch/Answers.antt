@@ -5,7 +5,6 @@ use lib.IntN.{ℤ, pos, ◌-ℤ◌}
 use mir.Syntax.{w32}
 use mir.Val.{to_z, of_z}
 use mir.ValLaws.{to_z-of_z}
-use borrow.Author.Rules.{rules}
 use Rattle.arithmetic.specs.Division.{quotient, remainder}
 use Rattle.arithmetic.specs.Note.{a4}
 use Rattle.arithmetic.specs.Pitch.{pitch_of}

@@ -1,16 +1,8 @@
 -- `tuning::within` meets its contract. The loop's invariant: of the entries gone through those are counted that are passed, the first ones of them.
 -- Assumes nothing.
-use mathlib.Core.Path.{◌≡◌, ap, ◌∙◌}
-use mathlib.Core.List.{List, [], ◌∷◌}
-use lib.Dec.{T}
-use Prim.Native.Nat.{ℕ, ◌+◌, ◌-◌, ◌/◌, ◌^◌, ◌≤◌, min}
-use lib.ListN.{get_or}
-use native.Mathlib.Omega.{arith}
-use Rattle.arithmetic.specs.Measure.{square, digit, next, digits}
+use mathlib.Core.Path.{◌≡◌}
+use Prim.Native.Nat.{◌-◌, ◌≤◌, min}
 use Rattle.arithmetic.specs.Inside.{within}
-use Rattle.arithmetic.proofs.Boundaries.{boundary, counted, within_small}
-use Rattle.arithmetic.proofs.Tables.{all}
-use borrow.Author.Rules.{rules}
 use Rattle.arithmetic.proofs.tuning.within.Given as goal
 
 abbrev pub invariant-loop-i : goal.invariant-loop-i

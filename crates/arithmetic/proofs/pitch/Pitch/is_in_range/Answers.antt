@@ -1,7 +1,6 @@
 -- `arithmetic::pitch::Pitch::is_in_range` meets its contract: the code's two limits are the definition's. Assumes nothing.
-use mathlib.Core.Path.{◌≡◌, sym, ◌∙◌}
+use mathlib.Core.Path.{sym, ◌∙◌}
 use lib.Ieee.{of_bits}
-use borrow.Author.Rules.{rules}
 use Rattle.arithmetic.specs.Pitch.{is_pitch}
 use Rattle.arithmetic.proofs.pitch.Pitch.is_in_range.Goals as goal
 

@@ -1,6 +1,5 @@
 -- `pitch::Ratio::binary` meets its contract: `Fields` has what each kind of bit pattern says, and the tests of the code tell the kinds apart. Assumes nothing.
 use mathlib.Core.Path.{◌≡◌, sym, ◌∙◌, subst}
-use native.Mathlib.Omega.{arith}
 use mathlib.Core.Bool.{true}
 use lib.Dec.{T}
 use lib.Ieee.{binary64, fits}

@@ -1,7 +1,6 @@
 -- `arithmetic::pitch::Ratio::is_negligible` meets its contract: the code's two limits are the nearest f64 of the decimals. Assumes nothing.
-use mathlib.Core.Path.{◌≡◌, sym, ◌∙◌}
+use mathlib.Core.Path.{sym, ◌∙◌}
 use lib.Ieee.{of_bits, round}
-use borrow.Author.Rules.{rules}
 use Rattle.arithmetic.specs.Pitch.{negligible_from, negligible_below, negligible}
 use Rattle.arithmetic.proofs.pitch.Ratio.is_negligible.Goals as goal
 

@@ -1,33 +1,32 @@
 -- `pitch::Ratio::measure` meets its contract: the digits that the squarings write, behind those of the octave, and nothing leaves its type. Assumes nothing.
-use mathlib.Core.Path.{◌≡◌, sym, ap, ◌∙◌, subst}
+use mathlib.Core.Path.{sym, ap, ◌∙◌}
 use Prim.Native.Nat.{ℕ, ◌+◌, ◌*◌, ◌^◌, ◌<◌}
 use native.Mathlib.Nat.{lt_of_lt_of_le}
 use native.Mathlib.Omega.{arith}
 use lib.Dec.{lit≤}
 use lib.IntN.{ℤ, pos, ◌-ℤ◌}
 use mir.Syntax.{w64}
-use mir.Val.{SFits, to_z, of_z}
+use mir.Val.{SFits, to_z}
 use mir.Facts.{to_z_pos, to_z-of_z}
 use Rattle.arithmetic.specs.Outcome.{value}
-use Rattle.arithmetic.specs.Measure.{digits, measure_rule}
+use Rattle.arithmetic.specs.Measure.{measure_rule}
 use Rattle.arithmetic.specs.Inside.{Writes}
 use Rattle.arithmetic.specs.declared.pitch.Binary as B
 use Rattle.arithmetic.proofs.Integers.{mag_sub}
 use Rattle.arithmetic.proofs.Measure.{digits_lt}
-use borrow.Author.Rules.{rules}
 use Rattle.arithmetic.proofs.pitch.Ratio.measure.Goals as goal
 use Rattle.arithmetic.proofs.pitch.Ratio.measure.Goals.{After-squarings, In-Digits}
 
 -- the octave and the first digits
 module _ (c : In-Digits) where
   abbrev octave : ℕ
-  octave = c.before.octave-1.given.0.0
+  octave = c.in-Digits.octave
 
   abbrev first : ℕ
-  first = c.before.octave-1.given.0.1.0
+  first = c.in-Digits.first
 
-  writes : Writes (B.TheVariants.Digits octave first) (measure_rule c.before.before.before.before.args.self.float_value)
-  writes = subst (λ (b : B.Binary). Writes b (measure_rule c.before.before.before.before.args.self.float_value)) c.before.octave-1.given.1 c.before.before.before.binary.ensures
+  writes : Writes (B.TheVariants.Digits octave first) (measure_rule c.before.before.args.self.float_value)
+  writes = c.in-Digits.ensures
 
 -- the sum before the last subtraction
 level : After-squarings → ℕ
@@ -68,6 +67,4 @@ returns-in-Digits c =
     ∙ sym (writes (goal.at.returns-in-Digits c).In-Digits).2
 
 pub returns-in-Nothing : goal.returns-in-Nothing
-returns-in-Nothing c =
-    let v = c.args.self.float_value in
-    sym (subst (λ (b : B.Binary). Writes b (measure_rule v)) c.enum_told-1.given.1 c.binary.ensures)
+returns-in-Nothing c = sym c.in-Nothing.ensures

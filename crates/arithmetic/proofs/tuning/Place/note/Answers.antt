@@ -6,7 +6,6 @@ use lib.IntN.{ℤ, pos, ◌+ℤ◌, ◌*ℤ◌}
 use mir.Syntax.{w32}
 use mir.Val.{to_z, of_z}
 use mir.ValLaws.{to_z-of_z, to_z_pos}
-use borrow.Author.Rules.{rules}
 use Rattle.arithmetic.specs.Inside.{note_at}
 use Rattle.arithmetic.proofs.Notes.{note_fits}
 use Rattle.arithmetic.proofs.Pitches.{octaves_fit, twelves_fit, steps_fit}

@@ -3,7 +3,6 @@ use mathlib.Core.Path.{◌≡◌, ap, ◌∙◌}
 use mir.Syntax.{w32}
 use mir.Val.{to_z, of_z}
 use mir.ValLaws.{to_z-of_z}
-use borrow.Author.Rules.{rules}
 use Rattle.arithmetic.specs.Pitch.{octave_pitch}
 use Rattle.arithmetic.proofs.Pitches.{octaves_fit, place_octaves, pitch_at}
 use Rattle.arithmetic.proofs.tuning.Place.pitch.Goals as goal
