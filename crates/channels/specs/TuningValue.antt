@@ -1,5 +1,5 @@
 -- The values in which a detuning v is sent, from its measure L (document 01, "Fine value", "Bend value"). Assumes nothing.
-use Rattle.std.specs.Prelude.{ℕ, zero, ◌<◌, ◌≡◌, true, cond, ◌&&◌, eqb, ℤ, pos, negsuc, nat_abs, ◌+ℤ◌, ◌*ℤ◌, Float}
+use Rattle.std.specs.Prelude.{ℕ, ◌<◌, ◌≡◌, true, cond, ◌&&◌, eqb, ℤ, pos, negsuc, nat_abs, ◌+ℤ◌, ◌*ℤ◌, Float}
 use Rattle.std.specs.Int.Signed.{lt_z, le_z, quot_z}
 use Rattle.std.specs.Float.Ieee.Positive.{positive}
 use Rattle.arithmetic.specs.Outcome.{Outcome, value, refuse◌unless◌then◌}

@@ -52,8 +52,8 @@ pub fn tuning_of(kind: TuningKind, detuning: Ratio) -> TuningAnswer
 
 // Those of both kinds, from one measure.
 pub fn tunings_of(detuning: Ratio) -> Tunings
-    ensures fine_value { tuning_answer result.fine ≡ tuning_rule FineTuning detuning.float_value }
-    ensures bend_value { tuning_answer result.bend ≡ tuning_rule Bend detuning.float_value }
+    ensures fine { tuning_answer result.fine ≡ tuning_rule FineTuning detuning.float_value }
+    ensures bend { tuning_answer result.bend ≡ tuning_rule Bend detuning.float_value }
 {
     let Measured::Measure(l) = detuning.measure() else {
         return Tunings {

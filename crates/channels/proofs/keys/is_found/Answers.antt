@@ -1,12 +1,11 @@
 -- `keys::is_found` meets its contract. Assumes nothing.
-use mathlib.Core.Path.{◌≡◌, sym, ap, ◌∙◌}
+use mathlib.Core.Path.{◌≡◌, ap, ◌∙◌}
 use lib.IntN.{ℤ}
 use mir.Syntax.{w32}
 use mir.Val.{to_z, of_z}
 use Rattle.arithmetic.specs.Note.{is_note}
 use Rattle.channels.specs.Places.{note_of}
 use Rattle.channels.proofs.RecordNumbers.{note_read, place_held}
-use borrow.Author.Rules.{rules}
 use Rattle.channels.proofs.keys.is_found.Goals as goal
 use Rattle.channels.proofs.keys.is_found.Goals.{After-note_of}
 

@@ -1,6 +1,6 @@
 -- `keys::note_of` meets its contract. Assumes nothing.
 use Prim.Native.Nat.{◌%◌}
-use mathlib.Core.Path.{◌≡◌, ap, ◌∙◌}
+use mathlib.Core.Path.{◌≡◌}
 use native.Mathlib.Omega.{arith}
 use native.Mathlib.Nat.{mod-lt}
 use lib.IntN.{pos}
@@ -9,7 +9,6 @@ use mir.Syntax.{w32}
 use mir.Val.{to_z}
 use Rattle.channels.specs.Places.{note_of}
 use Rattle.channels.proofs.RecordNumbers.{note_small}
-use borrow.Author.Rules.{rules}
 use Rattle.channels.proofs.keys.note_of.Goals as goal
 use Rattle.channels.proofs.keys.note_of.Goals.{Start}
 

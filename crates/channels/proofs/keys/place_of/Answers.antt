@@ -6,7 +6,6 @@ use mir.Val.{to_z, of_z}
 use Rattle.arithmetic.specs.Note.{is_note}
 use Rattle.channels.specs.Places.{note_of, place}
 use Rattle.channels.proofs.RecordNumbers.{note_read, place_found, place_none}
-use borrow.Author.Rules.{rules}
 use Rattle.channels.proofs.keys.place_of.Goals as goal
 use Rattle.channels.proofs.keys.place_of.Goals.{After-note_of-found_note}
 

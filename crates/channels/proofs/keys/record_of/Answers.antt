@@ -1,5 +1,4 @@
 -- `keys::record_of` meets its contract, by whether the number is a note. Assumes nothing.
-use Prim.Native.Nat.{ℕ, ◌+◌, ◌*◌, ◌%◌}
 use mathlib.Core.Path.{◌≡◌, sym, ap, ◌∙◌}
 use mathlib.Core.Bool.{Bool, true}
 use native.Mathlib.Omega.{arith}
@@ -9,7 +8,6 @@ use mir.Syntax.{w32}
 use mir.Val.{to_z, of_z}
 use Rattle.arithmetic.specs.Note.{is_note}
 use Rattle.channels.proofs.RecordNumbers.{raised, raised_parts, raised_is, raised_fits, cell_is, cell_none}
-use borrow.Author.Rules.{rules}
 use Rattle.channels.proofs.keys.record_of.Goals as goal
 use Rattle.channels.proofs.keys.record_of.Goals.{After-is_note, Start}
 

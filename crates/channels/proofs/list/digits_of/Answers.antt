@@ -1,6 +1,6 @@
 -- `channels::digits_of` meets its contract. The loop's invariant: the number has the digits of the entries from i on. Assumes nothing.
 use mathlib.Core.Path.{◌≡◌, sym, ap, ◌∙◌}
-use Prim.Native.Nat.{ℕ, min, ◌≤◌, ◌<◌, ◌-◌, ◌*◌, ◌+◌, ◌^◌}
+use Prim.Native.Nat.{ℕ, min, ◌<◌, ◌-◌, ◌*◌, ◌+◌, ◌^◌}
 use native.Mathlib.Omega.{arith}
 use lib.ListN.{length, get_or, drop, length-drop}
 use lib.Seq.{drop-length}

@@ -1,11 +1,8 @@
 -- `channels::digits_of` meets its contract. The loop's invariant: the number has the digits of the entries from i on. Assumes nothing.
-use mathlib.Core.Path.{◌≡◌, sym, ap, ◌∙◌}
-use Prim.Native.Nat.{ℕ, min, ◌≤◌, ◌<◌, ◌-◌, ◌*◌, ◌+◌, ◌^◌}
-use native.Mathlib.Omega.{arith}
-use lib.ListN.{length, get_or, drop, length-drop}
-use lib.Seq.{drop-length}
-use Rattle.channels.specs.ChannelList.{entries}
-use Rattle.channels.proofs.ChannelLists.{number, number_word, low_drop, number_turn, digits_number}
+use mathlib.Core.Path.{◌≡◌}
+use Prim.Native.Nat.{◌≤◌}
+use lib.ListN.{drop}
+use Rattle.channels.proofs.ChannelLists.{number}
 use Rattle.channels.proofs.list.digits_of.Given as goal
 
 abbrev pub invariant-loop-i : goal.invariant-loop-i

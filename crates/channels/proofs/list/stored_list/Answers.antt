@@ -3,7 +3,6 @@ use mathlib.Core.Path.{◌≡◌, refl, ap}
 use Prim.Native.Nat.{ℕ, min}
 use native.Mathlib.Omega.{arith}
 use Rattle.channels.specs.ChannelList.{entries, digits}
-use borrow.Author.Rules.{rules}
 use Rattle.channels.proofs.list.stored_list.Goals as goal
 
 pub returns-then-count-lt16 : goal.returns-then-count-lt16

@@ -1,10 +1,7 @@
 -- `lists::listed` meets its contract. The loop's invariant: what is found among the first `n` is found among those from `j` on. Assumes nothing.
-use mathlib.Core.Path.{◌≡◌, refl, sym, ◌∙◌}
-use Prim.Native.Nat.{◌≤◌, ◌-◌}
+use mathlib.Core.Path.{refl, sym, ◌∙◌}
 use native.Mathlib.Omega.{arith}
 use borrow.Author.Tests.{eq-eqb, ne_eqb}
-use lib.ListN.{length, take, drop}
-use Rattle.channels.specs.Lists.{member}
 use Rattle.channels.proofs.Arrays.{member_turn, member_end, member_out}
 use Rattle.channels.proofs.lists.listed.Goals as goal
 

@@ -1,11 +1,8 @@
 -- `lists::listed` meets its contract. The loop's invariant: what is found among the first `n` is found among those from `j` on. Assumes nothing.
-use mathlib.Core.Path.{◌≡◌, refl, sym, ◌∙◌}
+use mathlib.Core.Path.{◌≡◌}
 use Prim.Native.Nat.{◌≤◌, ◌-◌}
-use native.Mathlib.Omega.{arith}
-use borrow.Author.Tests.{eq-eqb, ne_eqb}
 use lib.ListN.{length, take, drop}
 use Rattle.channels.specs.Lists.{member}
-use Rattle.channels.proofs.Arrays.{member_turn, member_end, member_out}
 use Rattle.channels.proofs.lists.listed.Given as goal
 
 abbrev pub invariant-loop-j : goal.invariant-loop-j

@@ -7,7 +7,6 @@ use mir.Syntax.{w16, w64}
 use mir.Val.{SFits, to_z, of_z}
 use mir.ValLaws.{to_z-of_z}
 use mir.Facts.{sfits_widen}
-use borrow.Author.Rules.{rules}
 use Rattle.channels.specs.TuningValue.{clamp, bend_step, bend_value}
 use Rattle.channels.proofs.Values.{clamp_fits, times_fits, bend_fits}
 use Rattle.channels.proofs.tuning_value.bend_value.Goals as goal

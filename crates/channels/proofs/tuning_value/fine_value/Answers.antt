@@ -6,10 +6,9 @@ use lib.Signed.{shr_z}
 use mir.Syntax.{w64}
 use mir.Val.{to_z, of_z}
 use mir.ValLaws.{to_z-of_z}
-use borrow.Author.Rules.{rules}
 use Rattle.arithmetic.proofs.Quotients.{quotient_fits}
 use Rattle.channels.specs.TuningValue.{clamp, fine_step, fine_value}
-use Rattle.channels.proofs.Values.{Whole, clamp_whole, times_fits, fine_fits}
+use Rattle.channels.proofs.Values.{clamp_whole, times_fits, fine_fits}
 use Rattle.channels.proofs.tuning_value.fine_value.Goals as goal
 use Rattle.channels.proofs.tuning_value.fine_value.Goals.{After-clamped, Start}
 

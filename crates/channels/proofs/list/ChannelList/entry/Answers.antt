@@ -1,7 +1,6 @@
 -- `channels::ChannelList::entry` meets its contract: digit i is what is left of the number without its i lowest digits, by 16. Assumes nothing.
 use Prim.Native.Nat.{min}
 use native.Mathlib.Omega.{arith}
-use borrow.Author.Rules.{rules}
 use Rattle.channels.specs.ChannelList.{entries}
 use Rattle.channels.proofs.ChannelLists.{length_digits, digit_at, digit_past, entries_few}
 use Rattle.channels.proofs.list.ChannelList.entry.Goals as goal

@@ -1,11 +1,8 @@
 -- `channels::ChannelList::of` meets its contract. The loop's invariant: the rule of all entries is that of those from i on. Assumes nothing.
 use mathlib.Core.Path.{◌≡◌, refl, sym, ap, ◌∙◌}
-use Prim.Native.Nat.{◌≤◌, ◌-◌}
 use native.Mathlib.Omega.{arith}
-use borrow.Author.Rules.{rules}
-use lib.ListN.{take, drop}
 use Rattle.arithmetic.specs.Outcome.{value}
-use Rattle.channels.specs.ChannelList.{list_from, list_rule, channels_answer}
+use Rattle.channels.specs.ChannelList.{list_rule, channels_answer}
 use Rattle.channels.proofs.ChannelLists.{over_at, twice_at, fine_at, ended, listed_channels, channels_few, channels_low}
 use Rattle.channels.proofs.list.ChannelList.of.Goals as goal
 use Rattle.channels.proofs.list.ChannelList.of.Goals.{After-loop-i}
@@ -32,11 +29,10 @@ pub loop-i-smaller : goal.loop-i-smaller
 loop-i-smaller c = omega arith
 
 pub loop-i-preserved : goal.loop-i-preserved
-loop-i-preserved c =
-    (
-      omega arith,
-      fine_at _ _ c.loop-i.invariant.1 c.loop-i-test.true c.if-channel-gt-HIGHEST_CHANNEL.false (sym c.listed.ensures ∙ c.if-listed.false),
-    )
+loop-i-preserved c = (
+  omega arith,
+  fine_at _ _ c.loop-i.invariant.1 c.loop-i-test.true c.if-channel-gt-HIGHEST_CHANNEL.false (sym c.listed.ensures ∙ c.if-listed.false),
+)
 
 -- after the loop no entry was refused
 all_listed : (c : After-loop-i) → list_rule c.before.before.before.args.channels.now ≡ value c.before.before.before.args.channels.now

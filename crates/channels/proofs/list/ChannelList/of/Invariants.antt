@@ -1,12 +1,8 @@
 -- `channels::ChannelList::of` meets its contract. The loop's invariant: the rule of all entries is that of those from i on. Assumes nothing.
-use mathlib.Core.Path.{◌≡◌, refl, sym, ap, ◌∙◌}
+use mathlib.Core.Path.{◌≡◌}
 use Prim.Native.Nat.{◌≤◌, ◌-◌}
-use native.Mathlib.Omega.{arith}
-use borrow.Author.Rules.{rules}
 use lib.ListN.{take, drop}
-use Rattle.arithmetic.specs.Outcome.{value}
-use Rattle.channels.specs.ChannelList.{list_from, list_rule, channels_answer}
-use Rattle.channels.proofs.ChannelLists.{over_at, twice_at, fine_at, ended, listed_channels, channels_few, channels_low}
+use Rattle.channels.specs.ChannelList.{list_from, list_rule}
 use Rattle.channels.proofs.list.ChannelList.of.Given as goal
 
 abbrev pub invariant-loop-i : goal.invariant-loop-i
