@@ -38,7 +38,8 @@ use Rattle.plans.proofs.PlanBlocks.{zero_below}
 use Rattle.plans.proofs.PlanEntries.{planned_positive}
 use Rattle.senders.specs.Midi.{bytes_of}
 use Rattle.senders.specs.Lent.{Effect, fitted, told, Steps, Put, settled}
-use Rattle.plan_tuner.specs.Aot.{Tuner, view, tuner, with_plan, Planned, tunes, cannot, plan_messages, plan_effect, SomeFits, Smallest, Measurable, Ready, entry_of, placed}
+use Rattle.plan_tuner.specs.Aot.{Tuner, view, tuner, with_plan, Planned, tunes, cannot, plan_messages, plan_effect}
+use Rattle.plan_tuner.specs.Aot.{SomeFits, Smallest, Measurable, Ready, entry_of, placed}
 use Rattle.plan_tuner.specs.declared.aot.AotTuner.{AotTuner}
 use Rattle.senders.proofs.Lent.{ends_sent, handed_back, steps_held}
 
@@ -78,7 +79,8 @@ unfolding planned
 planned_few m lines = go (leb (count m.group_by lines) (length m.channels)) refl
   where
     go : (b : Bool) → leb (count m.group_by lines) (length m.channels) ≡ b
-        → (cond {A = Model × M.Answer} b (M.holding m lines, M.tuned (count m.group_by lines)) (M.empty m.channels m.group_by, M.untuned (count m.group_by lines))).0.num_channels
+        → (cond {A = Model × M.Answer} b (M.holding m lines, M.tuned (count m.group_by lines))
+        (M.empty m.channels m.group_by, M.untuned (count m.group_by lines))).0.num_channels
         ≤ length m.channels
     go true e = leb-true (count m.group_by lines) (length m.channels) e
     go false e = omega arith
@@ -91,7 +93,8 @@ list_few l = omega (arith, length_digits (min (get_or l plan_settings 0) 16) (ge
 pub ready : (l : List ℕ) (o : Outcome (List Line)) (r : Model × M.Answer) → Fine o → r ≡ planned (plan_at l) o → Ready r
 ready l o (n, M.untuned k) f e = tt
 ready l o (n, M.refused k) f e = tt
-ready l (refused j) (n, M.tuned k) f e = unfold planned in (let q = ap (λ (x : Model × M.Answer). x.1) e in let z : ◌≡◌ {A = ℕ} 0 1 = cc in absurd (omega arith))
+ready l (refused j) (n, M.tuned k) f e =
+    unfold planned in (let q = ap (λ (x : Model × M.Answer). x.1) e in let z : ◌≡◌ {A = ℕ} 0 1 = cc in absurd (omega arith))
 ready l (value lines) (n, M.tuned k) f e = (
   λ i. by i (n.detunings i (pos 0)) refl,
   omega (arith, planned_few (plan_at l) lines, ap (λ (x : Model × M.Answer). x.0.num_channels) e, list_few l),
@@ -114,7 +117,9 @@ ends_tuned {view = view} {rule = rule} {s = s} {back = back} {next = next} {bs =
 -- ---- demand 3
 
 -- a plan that is tuned is a placing that fits
-some_fits : (by : GroupBy) (lines : List Line) (present : ℕ) {find : ℕ → Option (ℕ × ℤ)} {n : ℕ} → Demand3 by lines present find true n → SomeFits by lines present
+some_fits :
+    (by : GroupBy) (lines : List Line) (present : ℕ) {find : ℕ → Option (ℕ × ℤ)} {n : ℕ} → Demand3 by lines present find true n
+    → SomeFits by lines present
 some_fits by lines present {n = n} d = go (leb n present) refl
   where
     go : (b : Bool) → leb n present ≡ b → SomeFits by lines present
@@ -124,7 +129,8 @@ some_fits by lines present {n = n} d = go (leb n present) refl
 module _ (t : Tuner) (room : ℕ) where
   sent_smallest :
       (lines : List Line) (m : Model) (n : ℕ) (bs : List ℕ) → Demand3 t.plan.group_by lines (length t.plan.channels) m.keys true n → (b : Bool)
-      → let f : Outcome (Effect Planned Tuner) = cond b (value (record { says = tunes n (length bs); bytes = bs; next = with_plan t m })) (refused buffer_too_short) in
+      → let f : Outcome (Effect Planned Tuner) =
+          cond b (value (record { says = tunes n (length bs); bytes = bs; next = with_plan t m })) (refused buffer_too_short) in
       Smallest t (value lines) (told f) (settled t f)
   sent_smallest lines m n bs d true = d
   sent_smallest lines m n bs d false = (refl, some_fits t.plan.group_by lines (length t.plan.channels) d)
@@ -152,7 +158,8 @@ pub answers :
 answers s back old new answer lines r e d p = (
   subst (λ (x : Model × M.Answer). Steps view (plan_effect (view s) x) s old answer back new) e p,
   subst (λ (x : Outcome Planned). Smallest (view s) lines x (view back)) (sym p.told_is)
-      (subst (λ (x : Tuner). Smallest (view s) lines (told (fitted (length old) (plan_effect (view s) r))) x) (sym (handed_back p)) (smallest (view s) (length old) lines r d)),
+      (subst (λ (x : Tuner). Smallest (view s) lines (told (fitted (length old) (plan_effect (view s) r))) x) (sym (handed_back p))
+      (smallest (view s) (length old) lines r d)),
 )
 
 -- the tuner of a block with another plan

@@ -8,12 +8,15 @@ use native.Mathlib.Numerals.{add-one}
 use native.Mathlib.Omega.{arith}
 use mathlib.Core.Bool.{true}
 use borrow.Author.Tests.{lt-ltb}
+use lib.IntN.{pos}
 use lib.Ieee.{Float}
 use lib.Ieee.Positive.{positive}
 use lib.ListN.{length, get_elem?, length-append}
 use Rattle.channels.specs.Lists.{upward}
 use Rattle.channels.specs.TuningValue.{sent_as}
 use Rattle.channels.specs.declared.tuning_value.TuningKind.{TuningKind}
+use Rattle.plans.specs.Plan.{plan_at}
+use Rattle.plans.specs.PlanBlock.{plan_kind_at}
 use Rattle.senders.specs.Message.{Message}
 use Rattle.senders.specs.Lent.{sent}
 use Rattle.senders.specs.Midi.{bytes_of}
@@ -29,7 +32,9 @@ use Rattle.senders.proofs.Sizes.{tuning_small}
 pub upward_more : (a n : ℕ) → upward a (suc n) ≡ upward a n ++ ((a + n) ∷ [])
 unfolding upward
 upward_more a zero = ap (λ (k : ℕ). k ∷ []) (sym (add-zero a))
-upward_more a (suc n) = let e : suc a + n ≡ a + suc n = omega arith in ap (λ (l : List ℕ). a ∷ l) (upward_more (suc a) n ∙ ap (λ (k : ℕ). upward (suc a) n ++ (k ∷ [])) e)
+upward_more a (suc n) =
+    let e : suc a + n ≡ a + suc n = omega arith in
+    ap (λ (l : List ℕ). a ∷ l) (upward_more (suc a) n ∙ ap (λ (k : ℕ). upward (suc a) n ++ (k ∷ [])) e)
 
 module _ (messages : ℕ → List Message) where
   abbrev pub up_to : ℕ → List ℕ
@@ -89,3 +94,7 @@ pub tuning_accepted :
     (kind : TuningKind) (ch : ℕ) (d : Float) → ch < 16 → positive d ≡ true
     → channel_tuning_rule kind ch d ≡ sent (bytes_of (tuning_messages ch (sent_as kind d)))
 tuning_accepted kind ch d h p = rw (lt-ltb ch 16 h, sent_value kind d p) refl
+
+-- the tuning of channel i of a block's plan
+abbrev pub tunings : List ℕ → ℕ → List Message
+tunings cells i = channel_messages (plan_kind_at cells) (plan_at cells).channels i ((plan_at cells).detunings i (pos 0))

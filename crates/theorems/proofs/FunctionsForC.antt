@@ -159,16 +159,17 @@ unfolding Pools.open_rule M.open_rule register_rule unless_held repitch_rule nea
 demand1 (call c room) = called_ends c room
 demand1 (pool_model_open cs by mode) = list_ends (6 ∷ 7 ∷ []) (list_rule cs) (D.listed_among cs)
 demand1 (register_key s key hz) =
-    registered_ends _ _
-    (replied_among _ s _ (among_test _ 1 (is_pitch hz) _ refl (among_test _ 11 (not (is_held (found s key))) _ refl tt)))
-demand1 (repitch_key s key hz) = repitched_ends _ _ (among_test _ 1 (is_pitch hz) _ refl tt)
+    let ns = allowed (register_key s key hz) in
+    registered_ends ns _
+    (replied_among ns s _ (among_test ns 1 (is_pitch hz) _ refl (among_test ns 11 (not (is_held (found s key))) _ refl tt)))
+demand1 (repitch_key s key hz) = repitched_ends _ _ (among_test (allowed (repitch_key s key hz)) 1 (is_pitch hz) _ refl tt)
 demand1 (plan_model_open cs by) = list_ends (6 ∷ 7 ∷ []) (list_rule cs) (D.listed_among cs)
 demand1 (plan_model_set_tuning m ks ns ds) = plan_ends (12 ∷ 4 ∷ 3 ∷ 5 ∷ []) m (note_lists ks ns ds) (note_lists_numbers ks ns ds)
 demand1 (plan_model_set_tuning_of_pitches m ks hzs) = plan_ends (12 ∷ 1 ∷ 5 ∷ []) m (pitch_lists ks hzs) (pitch_lists_numbers ks hzs)
-demand1 (nearest_note hz) = nearest_ends _ _ (among_test _ 1 (is_pitch hz) _ refl tt)
-demand1 (note_pitch note) = pitch_ends _ _ (among_test _ 4 (is_note note) _ refl tt)
-demand1 (measure d) = measure_ends _ _ (among_test _ 2 (positive d) _ refl tt)
-demand1 (tuning_value kind d) = tuning_ends _ _ (among_test _ 2 (positive d) _ refl tt)
+demand1 (nearest_note hz) = nearest_ends _ _ (among_test (allowed (nearest_note hz)) 1 (is_pitch hz) _ refl tt)
+demand1 (note_pitch note) = pitch_ends _ _ (among_test (allowed (note_pitch note)) 4 (is_note note) _ refl tt)
+demand1 (measure d) = measure_ends _ _ (among_test (allowed (measure d)) 2 (positive d) _ refl tt)
+demand1 (tuning_value kind d) = tuning_ends _ _ (among_test (allowed (tuning_value kind d)) 2 (positive d) _ refl tt)
 
 -- The numbers are document 01's, from 1 to 13.
 pub numbers_known : (f : Function) → Each (λ (n : ℕ). leb 1 n && leb n 13 ≡ true) (allowed f)

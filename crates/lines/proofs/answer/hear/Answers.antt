@@ -11,15 +11,15 @@ use Rattle.lines.proofs.answer.hear.Goals as goal
 
 pub returns-in_default : goal.returns-in_default
 unfolding event_rule meant
-returns-in_default c = ends_refused (ap (λ (l : Line). event_rule (view c.args.cells.now) (meant l)) c.enum_told-1.given.1)
+returns-in_default c = ends_refused (ap (λ (l : Line). event_rule (view c.args.cells.now) (meant l)) c.in_default.is)
 
 pub returns-in-On : goal.returns-in-On
-returns-in-On c = on_heard (view c.args.cells.now) (meant_event c.line-1.given.1 c.enum_told-in-On-1.given.1) c.pitch_of.ensures c.note_on.ensures c.sent_of.ensures
+returns-in-On c = on_heard (view c.args.cells.now) (meant_event c.in-Event.is c.in-On.is) c.pitch_of.ensures c.note_on.ensures c.sent_of.ensures
 
 pub returns-in-Off : goal.returns-in-Off
-returns-in-Off c = off_heard (view c.args.cells.now) (meant_event c.line-1.given.1 c.enum_told-in-Off-1.given.1) c.note_off.ensures
+returns-in-Off c = off_heard (view c.args.cells.now) (meant_event c.in-Event.is c.in-Off.is) c.note_off.ensures
 
 pub returns-in-Bend : goal.returns-in-Bend
 returns-in-Bend c =
     let l = c.args.cells.now in
-    bend_heard {view = view} (view l) {t = l} refl (meant_event c.line-1.given.1 c.enum_told-in-Bend-1.given.1) c.pitch_of-in-Bend.ensures c.note_pitch.ensures
+    bend_heard {view = view} (view l) {t = l} refl (meant_event c.in-Event.is c.in-Bend.is) c.pitch_of-in-Bend.ensures c.note_pitch.ensures

@@ -1,5 +1,5 @@
 -- `lines::line::digits` meets its contract. The invariant: the bytes passed are digits, and n is their number. Assumes nothing.
-use Prim.Native.Nat.{◌^◌, ◌≤◌, ◌<◌, ◌-◌}
+use Prim.Native.Nat.{◌<◌, ◌-◌}
 use mathlib.Core.Path.{◌≡◌, refl, sym, ◌∙◌, ap}
 use native.Mathlib.Omega.{arith}
 use lib.ListN.{length, drop, get_or, drop_of_length-le}
@@ -7,7 +7,8 @@ use mathlib.Core.List.{[]}
 use mathlib.Core.Option.{some}
 use Rattle.lines.specs.Grammar.{digits, decimal}
 use Rattle.lines.specs.Line.{numbered}
-use Rattle.lines.proofs.Lines.{number_none, number_long, number_other, number_some, digits_low, digits_high, digits_passed, decimal_passed, more_digits, few_digits}
+use Rattle.lines.proofs.Lines.{number_none, number_long, number_other, number_some, digits_low, digits_high, digits_passed, decimal_passed}
+use Rattle.lines.proofs.Lines.{more_digits, few_digits}
 use Rattle.lines.proofs.line.digits.Goals as goal
 
 pub returns-then-s-eq0 : goal.returns-then-s-eq0

@@ -1,10 +1,7 @@
 -- `lines::line::find` meets its contract. The invariant: no byte passed is the separator. Assumes nothing.
-use Prim.Native.Nat.{ℕ, ◌≤◌, ◌<◌, ◌-◌}
-use mathlib.Core.Path.{◌≡◌}
 use native.Mathlib.Omega.{arith}
 use borrow.Author.Count.{below_more}
 use borrow.Author.Rules.{rules}
-use lib.ListN.{length, get_or}
 use Rattle.lines.proofs.line.find.Goals as goal
 
 pub returns-then-s-i : goal.returns-then-s-i

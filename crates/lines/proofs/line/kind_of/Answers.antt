@@ -2,7 +2,6 @@
 use mathlib.Core.Path.{sym, ◌∙◌}
 use Rattle.lines.specs.Grammar.{word}
 use Rattle.lines.specs.Line.{named, kind_of}
-use borrow.Author.Rules.{rules}
 use Rattle.lines.proofs.line.kind_of.Goals as goal
 
 pub returns-then-same : goal.returns-then-same

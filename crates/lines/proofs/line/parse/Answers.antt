@@ -1,14 +1,13 @@
 -- `lines::line::parse` meets its contract: each comma found parts off one field. Assumes nothing.
-use mathlib.Core.Path.{◌≡◌, sym, ◌∙◌}
+use mathlib.Core.Path.{sym}
 use mathlib.Core.List.{[], ◌∷◌}
 use native.Mathlib.Omega.{arith}
-use lib.ListN.{length, take}
+use lib.ListN.{take}
 use lib.Seq.{length-take-le}
 use Rattle.lines.specs.Line.{meant, of_fields}
 use Rattle.lines.specs.Split.{split}
 use Rattle.lines.proofs.Lines.{meaning_long, meaning_fields, last_field}
 use Rattle.lines.proofs.Splits.{rest, parts_more, parts_last}
-use borrow.Author.Rules.{rules}
 use Rattle.lines.proofs.line.parse.Goals as goal
 
 pub returns-then-line-gt-LONGEST_LINE : goal.returns-then-line-gt-LONGEST_LINE

@@ -1,9 +1,7 @@
 -- `lines::line::same` meets its contract. The invariant: the bytes passed are equal, so the answer is that of what is left. Assumes nothing.
-use Prim.Native.Nat.{◌≤◌, ◌-◌}
 use mathlib.Core.Path.{◌≡◌, refl, sym, ◌∙◌}
 use native.Mathlib.Omega.{arith}
-use lib.ListN.{length, drop}
-use Rattle.lines.specs.Line.{same}
+use lib.ListN.{length}
 use Rattle.lines.proofs.Lines.{same_apart, same_differ, same_passed, same_end}
 use Rattle.lines.proofs.line.same.Goals as goal
 

@@ -1,10 +1,8 @@
 -- `lines::line::same` meets its contract. The invariant: the bytes passed are equal, so the answer is that of what is left. Assumes nothing.
 use Prim.Native.Nat.{◌≤◌, ◌-◌}
-use mathlib.Core.Path.{◌≡◌, refl, sym, ◌∙◌}
-use native.Mathlib.Omega.{arith}
+use mathlib.Core.Path.{◌≡◌}
 use lib.ListN.{length, drop}
 use Rattle.lines.specs.Line.{same}
-use Rattle.lines.proofs.Lines.{same_apart, same_differ, same_passed, same_end}
 use Rattle.lines.proofs.line.same.Given as goal
 
 abbrev pub invariant-loop-i : goal.invariant-loop-i

@@ -1,12 +1,72 @@
 -- `lines::show::hex_digit` meets its contract: each arm is the rule at its number, which antt computes. Assumes nothing.
-use mathlib.Core.Path.{◌≡◌, sym, ap}
+use mathlib.Core.Path.{◌≡◌, ap}
 use native.Mathlib.Omega.{arith}
 use Rattle.arithmetic.proofs.Tables.{past}
 use Rattle.lines.specs.Show.{hex_digit}
 use Rattle.lines.proofs.show.hex_digit.Goals as goal
 
+pub returns-in-0 : goal.returns-in-0
+unfolding hex_digit
+returns-in-0 c = rw c.in-0.is
+
+pub returns-in-1 : goal.returns-in-1
+unfolding hex_digit
+returns-in-1 c = rw c.in-1.is
+
+pub returns-in-2 : goal.returns-in-2
+unfolding hex_digit
+returns-in-2 c = rw c.in-2.is
+
+pub returns-in-3 : goal.returns-in-3
+unfolding hex_digit
+returns-in-3 c = rw c.in-3.is
+
+pub returns-in-4 : goal.returns-in-4
+unfolding hex_digit
+returns-in-4 c = rw c.in-4.is
+
+pub returns-in-5 : goal.returns-in-5
+unfolding hex_digit
+returns-in-5 c = rw c.in-5.is
+
+pub returns-in-6 : goal.returns-in-6
+unfolding hex_digit
+returns-in-6 c = rw c.in-6.is
+
+pub returns-in-7 : goal.returns-in-7
+unfolding hex_digit
+returns-in-7 c = rw c.in-7.is
+
+pub returns-in-8 : goal.returns-in-8
+unfolding hex_digit
+returns-in-8 c = rw c.in-8.is
+
+pub returns-in-9 : goal.returns-in-9
+unfolding hex_digit
+returns-in-9 c = rw c.in-9.is
+
+pub returns-in-10 : goal.returns-in-10
+unfolding hex_digit
+returns-in-10 c = rw c.in-10.is
+
+pub returns-in-11 : goal.returns-in-11
+unfolding hex_digit
+returns-in-11 c = rw c.in-11.is
+
+pub returns-in-12 : goal.returns-in-12
+unfolding hex_digit
+returns-in-12 c = rw c.in-12.is
+
+pub returns-in-13 : goal.returns-in-13
+unfolding hex_digit
+returns-in-13 c = rw c.in-13.is
+
+pub returns-in-14 : goal.returns-in-14
+unfolding hex_digit
+returns-in-14 c = rw c.in-14.is
+
 pub returns-in_default : goal.returns-in_default
 unfolding hex_digit
 returns-in_default c =
-    let last : 15 ≡ c.args.d = omega (arith, past 15 c.args.d c.in_default.rest, c.requires) in
+    let last : 15 ≡ c.args.d = omega (arith, past 15 c.args.d c.in_default.in_default-own.rest, c.requires) in
     ap hex_digit last

@@ -1,9 +1,8 @@
 -- `lines::show::put` meets its contract. The invariant: the bytes passed stand at the start of the buffer. Assumes nothing.
-use Prim.Native.Nat.{◌≤◌, ◌-◌}
 use native.Mathlib.Omega.{arith}
-use lib.ListN.{length, drop, length-set, drop_of_length-le}
+use lib.ListN.{length-set, drop_of_length-le}
 use Rattle.lines.proofs.Splits.{drop_step}
-use Rattle.lines.proofs.Writes.{Wrote, wrote_none, wrote_byte, puts_all, puts_none}
+use Rattle.lines.proofs.Writes.{wrote_none, wrote_byte, puts_all, puts_none}
 use Rattle.lines.proofs.show.put.Goals as goal
 
 pub returns-then-out-text : goal.returns-then-out-text

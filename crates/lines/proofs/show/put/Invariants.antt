@@ -1,9 +1,7 @@
 -- `lines::show::put` meets its contract. The invariant: the bytes passed stand at the start of the buffer. Assumes nothing.
 use Prim.Native.Nat.{◌≤◌, ◌-◌}
-use native.Mathlib.Omega.{arith}
-use lib.ListN.{length, drop, length-set, drop_of_length-le}
-use Rattle.lines.proofs.Splits.{drop_step}
-use Rattle.lines.proofs.Writes.{Wrote, wrote_none, wrote_byte, puts_all, puts_none}
+use lib.ListN.{length, drop}
+use Rattle.lines.proofs.Writes.{Wrote}
 use Rattle.lines.proofs.show.put.Given as goal
 
 abbrev pub invariant-loop-i : goal.invariant-loop-i

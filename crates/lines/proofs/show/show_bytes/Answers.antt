@@ -1,11 +1,10 @@
 -- `lines::show::show_bytes` meets its contract. The invariant: the digits of the bytes passed stand at the start of the buffer, and w is where
 -- what follows them goes. Assumes nothing.
-use borrow.Author.Rules.{rules}
-use Prim.Native.Nat.{◌+◌, ◌*◌, ◌≤◌, ◌-◌}
+use Prim.Native.Nat.{◌+◌}
 use mathlib.Core.Path.{◌≡◌, refl, ◌∙◌, ap}
 use mathlib.Core.List.{[], ◌∷◌}
 use native.Mathlib.Omega.{arith}
-use lib.ListN.{length, drop, set, length-set, drop_of_length-le}
+use lib.ListN.{drop, set, length-set, drop_of_length-le}
 use Rattle.lines.specs.Show.{bytes_line, further}
 use Rattle.lines.proofs.Shows.{shown_none, shown_first, shown_length, further_step}
 use Rattle.lines.proofs.Writes.{Wrote, wrote_none, wrote_byte, wrote_two, wrote_three, wrote_start, wrote_left, wrote_on, puts_all, puts_none}
@@ -59,7 +58,9 @@ loop-i-preserved c =
     (omega arith, refl, omega arith, simp length-set (omega arith), wrote_three (omega arith) (wrote_left e c.loop-i.invariant.4))
 
 pub shape_of-out : goal.shape_of-out
-shape_of-out c = length-set c.loop-i.out c.loop-i.w 10 ∙ (wrote_on (omega arith) (first_byte (goal.at.shape_of-out c).After-hex_digit-2) c.loop-i.invariant.4).size
+shape_of-out c =
+    length-set c.loop-i.out c.loop-i.w 10
+    ∙ (wrote_on (omega arith) (first_byte (goal.at.shape_of-out c).After-hex_digit-2) c.loop-i.invariant.4).size
 
 pub returns : goal.returns
 unfolding further

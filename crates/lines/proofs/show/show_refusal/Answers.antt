@@ -1,7 +1,6 @@
 -- `lines::show::show_refusal` meets its contract: the text that is put is the refusal's line. Assumes nothing.
 use native.Mathlib.Omega.{arith}
 use Rattle.lines.proofs.Shows.{shown_one, shown_two, shown_three}
-use borrow.Author.Rules.{rules}
 use Rattle.lines.proofs.show.show_refusal.Goals as goal
 
 pub returns-then-n-lt10 : goal.returns-then-n-lt10

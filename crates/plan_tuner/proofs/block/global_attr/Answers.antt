@@ -1,5 +1,4 @@
 -- `plan_tuner::block::global_attr` meets its contract. Assumes nothing.
-use borrow.Author.Rules.{rules}
 use Rattle.plan_tuner.proofs.block.global_attr.Goals as goal
 
 pub returns : goal.returns

@@ -1,6 +1,5 @@
 -- `plan_tuner::block::send_note` meets its contract: a key's message where the plan has the key. Assumes nothing.
 use Rattle.plan_tuner.proofs.PlanCalls.{key_found}
-use borrow.Author.Rules.{rules}
 use Rattle.plan_tuner.proofs.block.send_note.Goals as goal
 
 pub returns : goal.returns

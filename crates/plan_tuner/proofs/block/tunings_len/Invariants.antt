@@ -1,21 +1,13 @@
 -- `plan_tuner::block::tunings_len` meets its contract. The loop's invariant: the tunings of the channels before `i` were counted, and their
 -- detunings put down. Assumes nothing.
-use mathlib.Core.Path.{◌≡◌, refl, sym, ap, ◌∙◌}
-use mathlib.Core.List.{List}
-use Prim.Native.Nat.{ℕ, ◌-◌, ◌+◌, ◌≤◌, ◌<◌}
-use native.Mathlib.Omega.{arith}
+use mathlib.Core.Path.{◌≡◌}
+use Prim.Native.Nat.{ℕ, ◌-◌, ◌≤◌, ◌<◌}
 use lib.IntN.{pos}
 use lib.Ieee.{nan}
-use lib.ListN.{length, get_or, length-append, length-set}
-use Rattle.channels.specs.Lists.{upward}
-use Rattle.plans.specs.Plan.{plan_at, detuning_answer}
-use Rattle.plans.specs.PlanBlock.{plan_kind_at}
-use Rattle.senders.specs.Message.{Message}
-use Rattle.senders.specs.Midi.{bytes_of}
-use Rattle.plan_tuner.specs.Aot.{channel_messages, entry_of}
-use Rattle.plan_tuner.proofs.Tunings.{up_to, first_more, first_small, channel_small}
-use Rattle.plan_tuner.proofs.PlanCalls.{entries_more}
-use borrow.Author.Rules.{rules}
+use lib.ListN.{length, get_or}
+use Rattle.plans.specs.Plan.{plan_at}
+use Rattle.plan_tuner.specs.Aot.{entry_of}
+use Rattle.plan_tuner.proofs.Tunings.{tunings, up_to}
 use Rattle.plan_tuner.proofs.block.tunings_len.Given as goal
 
 abbrev pub invariant-loop-i : goal.invariant-loop-i

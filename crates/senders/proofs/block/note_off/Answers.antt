@@ -17,13 +17,19 @@ returns-in-Written c =
     let a = c.args in
     let l = a.cells.now in
     let call = c.deregister_key in
-    let ends = rw (c.channel_list-channels.ensures, c.access_key-found.ensures, c.n-1.given.1) at c.send_key.ensures in
-    ends_written_counted {view = view} {s = l} {back = call.new.0} {bs = release_bytes (view l) a.key a.velocity} (release_sent_lem (view l) a.key a.velocity (omega (arith, c.if1.false))) ends
-    (view_moved l call.new.0 call.ensures.1 call.ensures.2)
+    let ends = rw (c.channel_list-channels.ensures, c.access_key-found.ensures, c.in-Written.is) at c.send_key.ensures in
+    ends_written_counted
+    {view = view}
+    {s = l}
+    {back = call.new.cells}
+    {bs = release_bytes (view l) a.key a.velocity}
+    (release_sent_lem (view l) a.key a.velocity (omega (arith, c.if-velocity-gt-HIGHEST_DATA_BYTE.false)))
+    ends
+    (view_moved l call.new.cells call.ensures.1 call.ensures.2)
 
 pub returns-in-Refused : goal.returns-in-Refused
 returns-in-Refused c =
     let a = c.args in
     let l = a.cells.now in
-    let ends = rw (c.channel_list-channels.ensures, c.access_key-found.ensures, c.n-in-Refused-1.given.1) at c.send_key.ensures in
-    ends_unwritten (release_sent_lem (view l) a.key a.velocity (omega (arith, c.if1.false))) ends
+    let ends = rw (c.channel_list-channels.ensures, c.access_key-found.ensures, c.in-Refused.is) at c.send_key.ensures in
+    ends_unwritten (release_sent_lem (view l) a.key a.velocity (omega (arith, c.if-velocity-gt-HIGHEST_DATA_BYTE.false))) ends

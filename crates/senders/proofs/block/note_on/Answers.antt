@@ -19,79 +19,78 @@ use Rattle.senders.proofs.Lent.{ends_refused, ends_sent, ends_unwritten, put_non
 use Rattle.senders.proofs.Calls.{reply_value, reply_refused, view_moved, press_bytes, press_sent_lem, press_rejected, press_refused, ends_sounding}
 use borrow.Author.Rules.{rules}
 use Rattle.senders.proofs.block.note_on.Goals as goal
-use Rattle.senders.proofs.block.note_on.Goals.{After-slice_known-1, Else-velocity-gt-HIGHEST_DATA_BYTE, In-Accepted, In-Accepted-1}
-
-low : (c : Else-velocity-gt-HIGHEST_DATA_BYTE) → c.before.before.args.velocity < 128
-low c = omega (arith, c.if-velocity-gt-HIGHEST_DATA_BYTE.false)
-
--- the rule of the model
-abbrev ruled : (c : Else-velocity-gt-HIGHEST_DATA_BYTE) → Outcome (Press × State)
-ruled c = let a = c.before.before.args in register_rule (state_of a.cells.now) a.key a.pitch.hz
+use Rattle.senders.proofs.block.note_on.Goals.{In-Accepted}
 
 -- the model accepts the press
 module _ (c : In-Accepted) where
-  abbrev tested : Else-velocity-gt-HIGHEST_DATA_BYTE
-  tested = c.before.before.before.before.before
+  low : c.args.velocity < 128
+  low = omega (arith, c.if-velocity-gt-HIGHEST_DATA_BYTE.false)
 
   abbrev block : List ℕ
-  block = tested.before.before.args.cells.now
+  block = c.args.cells.now
+
+  -- the rule of the model
+  abbrev ruled : Outcome (Press × State)
+  ruled = register_rule (state_of block) c.args.key c.args.pitch.hz
 
   -- the state after it
   abbrev next : State
-  next = (replied (state_of block) (ruled tested)).1
+  next = (replied (state_of block) ruled).1
 
-  answered : let g = c.before.channel-1.given.0 in ruled tested ≡ value (accepted g.0 (stopped_note g.1.0) g.1.1.0 g.1.1.1.0, next)
+  answered : let g = c.in-Accepted in ruled ≡ value (accepted g.channel (stopped_note g.stopped_note) g.started_note g.detuning, next)
   unfolding press
-  answered = reply_value (state_of block) (ruled tested) (sym (ap press c.before.channel-1.given.1) ∙ c.before.before.before.allocate_key.ensures)
+  answered = reply_value (state_of block) ruled (sym (ap press c.in-Accepted.is) ∙ c.allocate_key.ensures)
 
   -- its note, past the bits that a signed argument goes through
-  plain : let z = c.before.channel-1.given.0.1.1.0 in to_z w32 (of_z w32 z) ≡ z
-  plain = to_z-of_z {w = w32} {z = c.before.channel-1.given.0.1.1.0} (record { sfits = c.known_told-1.given.1.1.0.1 })
+  plain : let z = c.in-Accepted.started_note in to_z w32 (of_z w32 z) ≡ z
+  plain = search rules
 
 pub returns-then-velocity-gt-HIGHEST_DATA_BYTE : goal.returns-then-velocity-gt-HIGHEST_DATA_BYTE
 returns-then-velocity-gt-HIGHEST_DATA_BYTE c = ends_refused (rw (le-ltb c.args.velocity 128 (omega (arith, c.if-velocity-gt-HIGHEST_DATA_BYTE.true))))
 
 pub sent_as-tuning-requires : goal.sent_as-tuning-requires
 sent_as-tuning-requires c =
-    let a = (tested (goal.at.sent_as-tuning-requires c).In-Accepted-1).before.before.args in
-    press_measurable (state_of a.cells.now) a.key a.pitch.hz (answered (goal.at.sent_as-tuning-requires c).In-Accepted-1) refl
+    let a = c.args in
+    press_measurable (state_of a.cells.now) a.key a.pitch.hz (answered (goal.at.sent_as-tuning-requires c).In-Accepted) refl
 
 pub send_press-requires : goal.send_press-requires
-send_press-requires c = (rw c.sent_as-tuning.ensures (sent_in_steps c.tuning_kind.result c.channel.given.0.1.1.1.0), low (tested (goal.at.send_press-requires c).In-Accepted-1))
+send_press-requires c =
+    (rw c.sent_as-tuning.ensures (sent_in_steps c.tuning_kind.result c.in-Accepted.detuning), low (goal.at.send_press-requires c).In-Accepted)
 
 pub returns-in-Written : goal.returns-in-Written
 returns-in-Written c =
-    let i = tested (goal.at.returns-in-Written c).In-Accepted-1 in
-    let a = i.before.before.args in
+    let i = (goal.at.returns-in-Written c).In-Accepted in
+    let a = c.args in
     let l = a.cells.now in
-    let g = c.channel.given.0 in
+    let g = c.in-Accepted in
     let call = c.register_note in
-    let moved = subst (λ (o : Outcome (Press × State)). Moves o l call.new.0) (register_again (state_of l) a.key a.pitch.hz (answered (goal.at.returns-in-Written c).In-Accepted-1)) (rw (plain (goal.at.returns-in-Written c).In-Accepted-1) at call.ensures.1) in
+    let again = register_again (state_of l) a.key a.pitch.hz (answered i) in
+    let moved = subst (λ (o : Outcome (Press × State)). Moves o l call.new.cells) again (rw (plain i) at call.ensures.1) in
     ends_sounding
     {view = view}
     {s = l}
-    {back = call.new.0}
-    {bs = press_bytes (view l) g.0 (stopped_note g.1.0) g.1.1.0 g.1.1.1.0 a.velocity}
-    (press_sent_lem (view l) a.key a.pitch.hz a.velocity (low i) (answered (goal.at.returns-in-Written c).In-Accepted-1))
-    (rw (plain (goal.at.returns-in-Written c).In-Accepted-1, c.channel_list-channels.ensures, c.sent_as-tuning.ensures, c.tuning_kind.ensures, c.n-1.given.1) at c.send_press.ensures)
-    (view_moved l call.new.0 moved.0 moved.1)
+    {back = call.new.cells}
+    {bs = press_bytes (view l) g.channel (stopped_note g.stopped_note) g.started_note g.detuning a.velocity}
+    (press_sent_lem (view l) a.key a.pitch.hz a.velocity (low i) (answered i))
+    (rw (plain i, c.channel_list-channels.ensures, c.sent_as-tuning.ensures, c.tuning_kind.ensures, c.in-Written.is) at c.send_press.ensures)
+    (view_moved l call.new.cells moved.0 moved.1)
 
 pub returns-in-Refused-send_press : goal.returns-in-Refused-send_press
 returns-in-Refused-send_press c =
-    let i = tested (goal.at.returns-in-Refused-send_press c).In-Accepted-1 in
-    let a = i.before.before.args in
+    let i = (goal.at.returns-in-Refused-send_press c).In-Accepted in
+    let a = c.args in
     let l = a.cells.now in
     ends_unwritten
-    (press_sent_lem (view l) a.key a.pitch.hz a.velocity (low i) (answered (goal.at.returns-in-Refused-send_press c).In-Accepted-1))
-    (rw (plain (goal.at.returns-in-Refused-send_press c).In-Accepted-1, c.channel_list-channels.ensures, c.sent_as-tuning.ensures, c.tuning_kind.ensures, c.n-in-Refused-1.given.1) at c.send_press.ensures)
+    (press_sent_lem (view l) a.key a.pitch.hz a.velocity (low i) (answered i))
+    (rw (plain i, c.channel_list-channels.ensures, c.sent_as-tuning.ensures, c.tuning_kind.ensures, c.in-Refused-send_press.is) at c.send_press.ensures)
 
 pub returns-in-Rejected : goal.returns-in-Rejected
 unfolding press
 returns-in-Rejected c =
     let a = c.args in
     let l = a.cells.now in
-    let e = reply_value (state_of l) (ruled (goal.at.returns-in-Rejected c).After-slice_known-1) (sym (ap press c.enum_told-1.given.1) ∙ c.allocate_key.ensures) in
-    ends_sent (press_rejected (view l) a.key a.pitch.hz a.velocity (low (goal.at.returns-in-Rejected c).After-slice_known-1) e) (put_none 0 _) (omega arith)
+    let e = reply_value (state_of l) (register_rule (state_of l) a.key a.pitch.hz) (sym (ap press c.in-Rejected.is) ∙ c.allocate_key.ensures) in
+    ends_sent (press_rejected (view l) a.key a.pitch.hz a.velocity (omega (arith, c.if-velocity-gt-HIGHEST_DATA_BYTE.false)) e) (put_none 0 _) (omega arith)
     (ap (λ (s : State). record { pool = s; kind = kind_at l }) (rejected_stays (state_of l) a.key a.pitch.hz e))
 
 pub returns-in-Refused : goal.returns-in-Refused
@@ -99,5 +98,5 @@ unfolding press
 returns-in-Refused c =
     let a = c.args in
     let l = a.cells.now in
-    let e = reply_refused (state_of l) (ruled (goal.at.returns-in-Refused c).After-slice_known-1) (sym (ap press c.n-in-Refused-allocate_key-1.given.1) ∙ c.allocate_key.ensures) in
-    ends_refused (press_refused (view l) a.key a.pitch.hz a.velocity (low (goal.at.returns-in-Refused c).After-slice_known-1) e)
+    let e = reply_refused (state_of l) (register_rule (state_of l) a.key a.pitch.hz) (sym (ap press c.in-Refused.is) ∙ c.allocate_key.ensures) in
+    ends_refused (press_refused (view l) a.key a.pitch.hz a.velocity (omega (arith, c.if-velocity-gt-HIGHEST_DATA_BYTE.false)) e)

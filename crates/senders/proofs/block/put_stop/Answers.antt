@@ -22,20 +22,20 @@ use Rattle.senders.proofs.block.put_stop.Goals.{In-Held}
 -- the next found key, and that its note fits
 module _ (c : In-Held) where
   abbrev next : Held
-  next = let g = c.before.key-1.given.0 in record { key = g.0; place = record { channel = g.1.0; note = g.1.1.0 } }
+  next = let g = c.in-Held in record { key = g.key; place = record { channel = g.channel; note = g.note } }
 
   plain : to_z w32 (of_z w32 next.place.note) ≡ next.place.note
-  plain = to_z-of_z {w = w32} {z = c.before.key-1.given.0.1.1.0} (record { sfits = c.known_told-1.given.1.1.0.1 })
+  plain = search rules
 
-  first-held : first (held_keys (state_of c.before.before.before.before.before.before.before.before.args.cells.now) c.before.before.before.before.before.loop-from.from) ≡ some next
+  first-held : first (held_keys (state_of c.args.cells.now) c.loop-from.from) ≡ some next
   unfolding next_held
-  first-held = sym c.before.before.before.next_key.ensures ∙ ap next_held c.before.key-1.given.1
+  first-held = sym c.next_key.ensures ∙ ap next_held c.in-Held.is
 
-  met : Met (state_of c.before.before.before.before.before.before.before.before.args.cells.now) c.before.before.before.before.before.loop-from.from next
-  met = next_met (state_of c.before.before.before.before.before.before.before.before.args.cells.now) c.before.before.before.before.before.loop-from.from next first-held
+  met : Met (state_of c.args.cells.now) c.loop-from.from next
+  met = next_met (state_of c.args.cells.now) c.loop-from.from next first-held
 
   inside : next.key < key_count
-  inside = omega (arith, met.inside, keys_few c.before.before.before.before.before.before.before.before.args.cells.now)
+  inside = omega (arith, met.inside, keys_few c.args.cells.now)
 
 pub loop-from-init : goal.loop-from-init
 loop-from-init c = (passed_none (view c.args.cells.now) _, omega arith)
@@ -47,14 +47,15 @@ pub returns-in_default : goal.returns-in_default
 unfolding next_held
 returns-in_default c =
     let t = view c.args.cells.now in
-    let none = sym c.next_key.ensures ∙ ap next_held c.enum_told-1.given.1 in
+    let none = sym c.next_key.ensures ∙ ap next_held c.in_default.is in
     passed_all t c.loop-from.from c.loop-from.at c.loop-from.invariant.0 (release_none t c.loop-from.from none)
 
 pub put_key-at-requires : goal.put_key-at-requires
 put_key-at-requires c =
     let t = view c.args.cells.now in
-    rw (plain (goal.at.put_key-at-requires c).In-Held, c.channel_list-channels.ensures)
-    (omega arith, passed_room t c.loop-from.from c.loop-from.at c.loop-from.invariant.0 (next (goal.at.put_key-at-requires c).In-Held) (first-held (goal.at.put_key-at-requires c).In-Held) c.requires)
+    let i = (goal.at.put_key-at-requires c).In-Held in
+    rw (plain i, c.channel_list-channels.ensures)
+    (omega arith, passed_room t c.loop-from.from c.loop-from.at c.loop-from.invariant.0 (next i) (first-held i) c.requires)
 
 pub overflow_add-from : goal.overflow_add-from
 overflow_add-from c = omega (arith, inside (goal.at.overflow_add-from c).In-Held)
@@ -64,9 +65,11 @@ loop-from-smaller c = omega (arith, inside (goal.at.loop-from-smaller c).In-Held
 
 pub loop-from-preserved : goal.loop-from-preserved
 loop-from-preserved c =
-    let t = view c.args.cells.now in (
-      passed_next t c.loop-from.from c.loop-from.at c.loop-from.invariant.0 (next (goal.at.loop-from-preserved c).In-Held) (first-held (goal.at.loop-from-preserved c).In-Held) (rw (plain (goal.at.loop-from-preserved c).In-Held, c.channel_list-channels.ensures) at c.put_key-at.ensures) (omega arith),
-      omega (arith, inside (goal.at.loop-from-preserved c).In-Held),
+    let t = view c.args.cells.now in
+    let i = (goal.at.loop-from-preserved c).In-Held in
+    let put = rw (plain i, c.channel_list-channels.ensures) at c.put_key-at.ensures in (
+      passed_next t c.loop-from.from c.loop-from.at c.loop-from.invariant.0 (next i) (first-held i) put (omega arith),
+      omega (arith, inside i),
     )
 
 pub shape_of-out : goal.shape_of-out

@@ -14,13 +14,17 @@ pub returns-in-Listed : goal.returns-in-Listed
 unfolding channels_answer open_rule
 returns-in-Listed c =
     let a = c.args in
-    let list = c.answer-1.given.0.0 in
-    let listed = sym (ap channels_answer c.answer-1.given.1) ∙ c.of-answer.ensures in
+    let list = c.in-Listed.list in
+    let listed = sym (ap channels_answer c.in-Listed.is) ∙ c.of-answer.ensures in
     let opened = c.open in
-    rw (sym listed) (refl, ap (λ (s : State). record { pool = s; kind = kind_at opened.new.0 }) opened.ensures.0 ∙ ap (λ (k : TuningKind). record { pool = fresh (entries list) Channel a.pooling-mode; kind = k }) opened.ensures.1)
+    rw (sym listed) (
+      refl,
+      ap (λ (s : State). record { pool = s; kind = kind_at opened.new.cells }) opened.ensures.0
+      ∙ ap (λ (k : TuningKind). record { pool = fresh (entries list) Channel a.pooling_mode; kind = k }) opened.ensures.1,
+    )
 
 pub returns-in-Refused : goal.returns-in-Refused
 unfolding channels_answer open_rule
 returns-in-Refused c =
-    let refused-list = sym (ap channels_answer c.enum_told-1.given.1) ∙ c.of-answer.ensures in
+    let refused-list = sym (ap channels_answer c.in-Refused.is) ∙ c.of-answer.ensures in
     rw (sym refused-list) (c.of-answer.ensures ∙ sym refused-list, refl)

@@ -14,4 +14,8 @@ pub returns : goal.returns
 returns c =
     let l = c.args.cells.now in
     let call = c.deregister_all in
-    ends_counted refl c.put_stop-end.ensures (omega (arith, c.if-out-stop_len.false, c.stop_len.ensures)) (view_moved l call.new.0 call.ensures.0 call.ensures.1)
+    ends_counted
+    refl
+    c.put_stop-end.ensures
+    (omega (arith, c.if-out-stop_len.false, c.stop_len.ensures))
+    (view_moved l call.new.cells call.ensures.0 call.ensures.1)

@@ -20,10 +20,16 @@ read_back : (c : Start) → to_z w16 (raised c.args.bend) ≡ pos (raised c.args
 read_back c = to_z_pos w16 (omega (arith, (known c).halves.2))
 
 pub overflow_sub-result : goal.overflow_sub-result
-overflow_sub-result c = rw (plain (goal.at.overflow_sub-result c).Start, (known (goal.at.overflow_sub-result c).Start).sum) (record { sfits = omega (arith, (known (goal.at.overflow_sub-result c).Start).halves.2) })
+overflow_sub-result c =
+    let s = (goal.at.overflow_sub-result c).Start in
+    rw (plain s, (known s).sum) (record { sfits = omega (arith, (known s).halves.2) })
 
 pub overflow_cast-result : goal.overflow_cast-result
-overflow_cast-result c = rw (plain (goal.at.overflow_cast-result c).Start, (known (goal.at.overflow_cast-result c).Start).sum, read_back (goal.at.overflow_cast-result c).Start) (tt, record { fits = omega (arith, (known (goal.at.overflow_cast-result c).Start).halves.2) })
+overflow_cast-result c =
+    let s = (goal.at.overflow_cast-result c).Start in
+    rw (plain s, (known s).sum, read_back s) (tt, record { fits = omega (arith, (known s).halves.2) })
 
 pub returns : goal.returns
-returns c = rw (plain (goal.at.returns c).Start, (known (goal.at.returns c).Start).sum, read_back (goal.at.returns c).Start) (known (goal.at.returns c).Start).halves
+returns c =
+    let s = (goal.at.returns c).Start in
+    rw (plain s, (known s).sum, read_back s) (known s).halves

@@ -18,10 +18,17 @@ not_low : (c : Else-bend-lt-LOWEST_BEND) → le_z (negsuc 8191) c.before.args.be
 not_low c = not_lt c.before.args.bend (negsuc 8191) (rw (plain c.before) at c.if-bend-lt-LOWEST_BEND.false)
 
 pub returns-then-bend-lt-LOWEST_BEND : goal.returns-then-bend-lt-LOWEST_BEND
-returns-then-bend-lt-LOWEST_BEND c = simp (lt_not c.args.bend (negsuc 8191) (rw (plain (goal.at.returns-then-bend-lt-LOWEST_BEND c).Start) at c.if-bend-lt-LOWEST_BEND.true))
+returns-then-bend-lt-LOWEST_BEND c =
+    let s = (goal.at.returns-then-bend-lt-LOWEST_BEND c).Start in
+    simp (lt_not c.args.bend (negsuc 8191) (rw (plain s) at c.if-bend-lt-LOWEST_BEND.true))
 
 pub returns-then-bend-gt-HIGHEST_BEND : goal.returns-then-bend-gt-HIGHEST_BEND
-returns-then-bend-gt-HIGHEST_BEND c = simp (not_low (goal.at.returns-then-bend-gt-HIGHEST_BEND c).Else-bend-lt-LOWEST_BEND, lt_not (pos 8191) c.args.bend (rw (plain (goal.at.returns-then-bend-gt-HIGHEST_BEND c).Start) at c.if-bend-gt-HIGHEST_BEND.true))
+returns-then-bend-gt-HIGHEST_BEND c =
+    let i = (goal.at.returns-then-bend-gt-HIGHEST_BEND c).Else-bend-lt-LOWEST_BEND in
+    let s = (goal.at.returns-then-bend-gt-HIGHEST_BEND c).Start in
+    simp (not_low i, lt_not (pos 8191) c.args.bend (rw (plain s) at c.if-bend-gt-HIGHEST_BEND.true))
 
 pub returns : goal.returns
-returns c = simp (not_low (goal.at.returns c).Else-bend-lt-LOWEST_BEND, not_lt (pos 8191) c.args.bend (rw (plain (goal.at.returns c).Start) at c.if-bend-gt-HIGHEST_BEND.false))
+returns c =
+    let s = (goal.at.returns c).Start in
+    simp (not_low (goal.at.returns c).Else-bend-lt-LOWEST_BEND, not_lt (pos 8191) c.args.bend (rw (plain s) at c.if-bend-gt-HIGHEST_BEND.false))

@@ -3,7 +3,6 @@ use Prim.Native.Nat.{◌≤◌}
 use native.Mathlib.Omega.{arith}
 use lib.ListN.{length}
 use Rattle.senders.proofs.Lent.{put_then}
-use borrow.Author.Rules.{rules}
 use Rattle.senders.proofs.mts.put_fine.Goals as goal
 
 pub returns : goal.returns

@@ -3,7 +3,6 @@ use mathlib.Core.Path.{refl}
 use native.Mathlib.Omega.{arith}
 use Rattle.senders.proofs.Lent.{ends_short, ends_counted}
 use Rattle.senders.proofs.Sizes.{tuning_size_lem}
-use borrow.Author.Rules.{rules}
 use Rattle.senders.proofs.mts.write_tuning.Goals as goal
 
 pub returns-then-out-tuning_len : goal.returns-then-out-tuning_len

@@ -23,10 +23,14 @@ pub returns-then-note-lt0 : goal.returns-then-note-lt0
 returns-then-note-lt0 c = sym (too_low c.args.note (rw (plain (goal.at.returns-then-note-lt0 c).Start) at c.if-note-lt0.true))
 
 pub returns-then-note-gt-HIGHEST_NOTE_NUMBER : goal.returns-then-note-gt-HIGHEST_NOTE_NUMBER
-returns-then-note-gt-HIGHEST_NOTE_NUMBER c = sym (too_high c.args.note (rw (plain (goal.at.returns-then-note-gt-HIGHEST_NOTE_NUMBER c).Start) at c.if-note-gt-HIGHEST_NOTE_NUMBER.true))
+returns-then-note-gt-HIGHEST_NOTE_NUMBER c =
+    let s = (goal.at.returns-then-note-gt-HIGHEST_NOTE_NUMBER c).Start in
+    sym (too_high c.args.note (rw (plain s) at c.if-note-gt-HIGHEST_NOTE_NUMBER.true))
 
 pub overflow_cast-number : goal.overflow_cast-number
-overflow_cast-number c = rw (plain (goal.at.overflow_cast-number c).Start, (in_range (goal.at.overflow_cast-number c).Else-note-gt-HIGHEST_NOTE_NUMBER).is_pos) (tt, record { fits = omega (arith, (in_range (goal.at.overflow_cast-number c).Else-note-gt-HIGHEST_NOTE_NUMBER).small) })
+overflow_cast-number c =
+    let r = in_range (goal.at.overflow_cast-number c).Else-note-gt-HIGHEST_NOTE_NUMBER in
+    rw (plain (goal.at.overflow_cast-number c).Start, r.is_pos) (tt, record { fits = omega (arith, r.small) })
 
 pub returns : goal.returns
 returns c = ap (λ (z : ℤ). some (nat_abs z)) (plain (goal.at.returns c).Start) ∙ sym (in_range (goal.at.returns c).Else-note-gt-HIGHEST_NOTE_NUMBER).number

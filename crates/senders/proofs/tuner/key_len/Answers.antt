@@ -18,12 +18,12 @@ plain c = to_z-of_z c.ranges.note
 pub returns-in-Channel : goal.returns-in-Channel
 returns-in-Channel c =
     let a = c.args in
-    let known = sym c.entry.ensures ∙ ap entry_answer c.enum_told-1.given.1 in
+    let known = sym c.entry.ensures ∙ ap entry_answer c.in-Channel.is in
     rw (on_entry_lem (entries a.channels) a.i (λ ch. note_messages a.kind ch a.note 0) known)
-    (rw (plain (goal.at.returns-in-Channel c).Start) at c.note_len.ensures ∙ sym (note_size a.kind c.enum_told-1.given.0.0 a.note 0))
+    (rw (plain (goal.at.returns-in-Channel c).Start) at c.note_len.ensures ∙ sym (note_size a.kind c.in-Channel.field-0 a.note 0))
 
 pub returns-in-NoEntry : goal.returns-in-NoEntry
 returns-in-NoEntry c =
     let a = c.args in
-    let known = sym c.entry.ensures ∙ ap entry_answer c.enum_told-in-NoEntry-1.given.1 in
+    let known = sym c.entry.ensures ∙ ap entry_answer c.in-NoEntry.is in
     rw (past_entries (entries a.channels) a.i (λ ch. note_messages a.kind ch a.note 0) known)

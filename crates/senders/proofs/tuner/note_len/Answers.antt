@@ -6,7 +6,6 @@ use mir.Facts.{to_z-of_z}
 use Rattle.senders.specs.Answers.{number_answer}
 use Rattle.senders.specs.Tuner.{number_of}
 use Rattle.senders.proofs.Notes.{note_bytes, note_silent}
-use borrow.Author.Rules.{rules}
 use Rattle.senders.proofs.tuner.note_len.Goals as goal
 use Rattle.senders.proofs.tuner.note_len.Goals.{After-checked_midi_number, Start}
 
@@ -20,11 +19,11 @@ answered c = rw (plain c.before) at c.checked_midi_number.ensures
 pub returns-in-Number : goal.returns-in-Number
 returns-in-Number c =
     let a = c.args in
-    let e = sym (ap number_answer c.key-1.given.1) ∙ answered (goal.at.returns-in-Number c).After-checked_midi_number in
+    let e = sym (ap number_answer c.in-Number.is) ∙ answered (goal.at.returns-in-Number c).After-checked_midi_number in
     rw (note_bytes a.kind 0 a.note 0 (sym e)) (rw c.note_message.ensures at c.message_len.ensures)
 
 pub returns-in-Unnumbered : goal.returns-in-Unnumbered
 returns-in-Unnumbered c =
     let a = c.args in
-    let e = sym (ap number_answer c.enum_told-1.given.1) ∙ answered (goal.at.returns-in-Unnumbered c).After-checked_midi_number in
+    let e = sym (ap number_answer c.in-Unnumbered.is) ∙ answered (goal.at.returns-in-Unnumbered c).After-checked_midi_number in
     rw (note_silent a.kind 0 a.note 0 (sym e))

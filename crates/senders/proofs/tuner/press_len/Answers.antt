@@ -7,7 +7,6 @@ use native.Mathlib.Omega.{arith}
 use Rattle.pools.specs.PoolAnswers.{stopped_note}
 use Rattle.senders.specs.declared.tuner.NoteMessage.TheVariants.{On}
 use Rattle.senders.proofs.Sizes.{stop_small, tuning_small, note_small, press_parts}
-use borrow.Author.Rules.{rules}
 use Rattle.senders.proofs.tuner.press_len.Goals as goal
 use Rattle.senders.proofs.tuner.press_len.Goals.{Start}
 

@@ -14,7 +14,6 @@ use Rattle.senders.specs.declared.tuner.NoteMessage.TheVariants.{On}
 use Rattle.senders.proofs.Lent.{put_then}
 use Rattle.senders.proofs.Messages.{bytes_append}
 use Rattle.senders.proofs.Sizes.{press_parts}
-use borrow.Author.Rules.{rules}
 use Rattle.senders.proofs.tuner.put_press.Goals as goal
 use Rattle.senders.proofs.tuner.put_press.Goals.{Start}
 

@@ -14,11 +14,11 @@ use Rattle.senders.proofs.Channels.{entry_low, has_entry, valid_on, all_more, al
 use Rattle.senders.proofs.Lent.{put_none, put_then}
 use borrow.Author.Rules.{rules}
 use Rattle.senders.proofs.tuner.put_to_all.Goals as goal
-use Rattle.senders.proofs.tuner.put_to_all.Goals.{In-Channel-2}
+use Rattle.senders.proofs.tuner.put_to_all.Goals.{In-Channel}
 
-known : (c : In-Channel-2) → let l = c.before.before.before.before.before in
-    get_elem? (entries l.before.before.args.channels) l.loop-i.i ≡ some c.channel-1.given.0.0
-known c = sym c.before.before.entry.ensures ∙ ap entry_answer c.channel-1.given.1
+known : (c : In-Channel) → 
+    get_elem? (entries c.args.channels) c.loop-i.i ≡ some c.in-Channel.channel
+known c = sym c.entry.ensures ∙ ap entry_answer c.in-Channel.is
 
 pub loop-i-init : goal.loop-i-init
 loop-i-init c = (omega arith, put_none 0 _, refl)
@@ -26,14 +26,15 @@ loop-i-init c = (omega arith, put_none 0 _, refl)
 pub returns-in_default : goal.returns-in_default
 returns-in_default c =
     let cs = entries c.args.channels in
-    let none = sym c.entry.ensures ∙ ap entry_answer c.enum_told-1.given.1 in
+    let none = sym c.entry.ensures ∙ ap entry_answer c.in_default.is in
     has_entry cs c.loop-i.i (omega arith) none
 
 pub put_message-at-requires : goal.put_message-at-requires
 put_message-at-requires c =
-    let a = c.args in (
-      valid_on a.message c.requires.0 c.channel-1.given.0.0 (entry_low a.channels c.loop-i.i (known (goal.at.put_message-at-requires c).In-Channel-2)),
-      omega (arith, all_room a.message (entries a.channels) c.loop-i.i (known (goal.at.put_message-at-requires c).In-Channel-2), c.loop-i.invariant.1.next_is, c.loop-i.invariant.2, c.requires.1),
+    let a = c.args in
+    let e = known (goal.at.put_message-at-requires c).In-Channel in (
+      valid_on a.message c.requires.0 c.in-Channel.channel (entry_low a.channels c.loop-i.i e),
+      omega (arith, all_room a.message (entries a.channels) c.loop-i.i e, c.loop-i.invariant.1.next_is, c.loop-i.invariant.2, c.requires.1),
     )
 
 pub overflow_add-i : goal.overflow_add-i
@@ -46,7 +47,8 @@ pub loop-i-preserved : goal.loop-i-preserved
 loop-i-preserved c =
     let a = c.args in (
       omega arith,
-      rw (all_more a.message (entries a.channels) c.loop-i.i (known (goal.at.loop-i-preserved c).In-Channel-2)) (put_then c.loop-i.invariant.1 c.put_message-at.ensures (omega arith)),
+      rw (all_more a.message (entries a.channels) c.loop-i.i (known (goal.at.loop-i-preserved c).In-Channel))
+      (put_then c.loop-i.invariant.1 c.put_message-at.ensures (omega arith)),
       omega arith,
     )
 

@@ -16,7 +16,10 @@ use borrow.Author.Rules.{rules}
 use Rattle.senders.proofs.tuner.put_to_all.Given as goal
 
 abbrev pub invariant-loop-i : goal.invariant-loop-i
-invariant-loop-i l = (l.i ≤ length (entries l.channels)) × Put 0 (bytes_of (each (λ ch. meant ch l.message ∷ []) (take l.i (entries l.channels)))) l.at l.initial.out l.out × (length l.out ≡ length l.initial.out)
+invariant-loop-i l =
+    (l.i ≤ length (entries l.channels))
+    × Put 0 (bytes_of (each (λ ch. meant ch l.message ∷ []) (take l.i (entries l.channels)))) l.at l.initial.out l.out
+    × (length l.out ≡ length l.initial.out)
 
 abbrev pub decreases-loop-i : goal.decreases-loop-i
 decreases-loop-i l = length (entries l.channels) - l.i

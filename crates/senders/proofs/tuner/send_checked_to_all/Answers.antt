@@ -14,10 +14,9 @@ use borrow.Author.Rules.{rules}
 use Rattle.senders.proofs.tuner.send_checked_to_all.Goals as goal
 use Rattle.senders.proofs.tuner.send_checked_to_all.Goals.{In-Passed}
 
-valid : (c : In-Passed) → Valid (meant 0 c.before.before.before.before.args.message)
+valid : (c : In-Passed) → Valid (meant 0 c.args.message)
 valid c =
-    let k = c.before.before in
-    checked_valid k.before.before.args.message (value tt) (sym k.check_message.ensures ∙ ap check_answer c.enum_told-1.given.1) 0 (omega arith)
+    checked_valid c.args.message (value tt) (sym c.check_message.ensures ∙ ap check_answer c.in-Passed.is) 0 (omega arith)
 
 pub send_to_all-requires : goal.send_to_all-requires
 send_to_all-requires c = valid (goal.at.send_to_all-requires c).In-Passed
@@ -25,11 +24,12 @@ send_to_all-requires c = valid (goal.at.send_to_all-requires c).In-Passed
 pub returns-in-Passed : goal.returns-in-Passed
 returns-in-Passed c =
     let a = c.args in
-    rw (valid_checked 0 a.message (sent (bytes_of (to_all a.kind (entries a.channels) a.message))) (valid (goal.at.returns-in-Passed c).In-Passed)) c.send_to_all.ensures
+    let v = valid (goal.at.returns-in-Passed c).In-Passed in
+    rw (valid_checked 0 a.message (sent (bytes_of (to_all a.kind (entries a.channels) a.message))) v) c.send_to_all.ensures
 
 pub returns-in-Refused : goal.returns-in-Refused
 returns-in-Refused c =
     let a = c.args in
     ends_refused
     (checked_refused a.message (sent (bytes_of (to_all a.kind (entries a.channels) a.message)))
-    (sym c.check_message.ensures ∙ ap check_answer c.number-1.given.1))
+    (sym c.check_message.ensures ∙ ap check_answer c.in-Refused.is))

@@ -7,8 +7,8 @@ use Rattle.senders.proofs.tuner.stop_len.Goals as goal
 use Rattle.senders.proofs.tuner.stop_len.Goals.{In-Note}
 
 -- the note, past the bits that a signed argument goes through
-plain : (c : In-Note) → to_z w32 (of_z w32 c.before.stopped-1.given.0.0) ≡ c.before.stopped-1.given.0.0
+plain : (c : In-Note) → to_z w32 (of_z w32 c.in-Note.note) ≡ c.in-Note.note
 plain c = search rules
 
 pub returns-in-Note : goal.returns-in-Note
-returns-in-Note c = rw c.stopped-1.given.1 (rw (plain (goal.at.returns-in-Note c).In-Note) at c.note_len.ensures)
+returns-in-Note c = rw c.in-Note.is (rw (plain (goal.at.returns-in-Note c).In-Note) at c.note_len.ensures)

@@ -4,4 +4,4 @@ use borrow.Author.Rules.{rules}
 use Rattle.senders.proofs.jit.JitTuner.note_off.Goals as goal
 
 pub returns : goal.returns
-returns c = by_value c.args.self c.note_off-answer.new.0 c.note_off-answer.ensures
+returns c = by_value c.args.self c.note_off-answer.new.cells c.note_off-answer.ensures

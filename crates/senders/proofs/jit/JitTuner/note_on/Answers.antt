@@ -4,4 +4,4 @@ use borrow.Author.Rules.{rules}
 use Rattle.senders.proofs.jit.JitTuner.note_on.Goals as goal
 
 pub returns : goal.returns
-returns c = by_value c.args.self c.note_on-answer.new.0 c.note_on-answer.ensures
+returns c = by_value c.args.self c.note_on-answer.new.cells c.note_on-answer.ensures

@@ -4,4 +4,4 @@ use borrow.Author.Rules.{rules}
 use Rattle.senders.proofs.jit.JitTuner.stop.Goals as goal
 
 pub returns : goal.returns
-returns c = by_value c.args.self c.stop-answer.new.0 c.stop-answer.ensures
+returns c = by_value c.args.self c.stop-answer.new.cells c.stop-answer.ensures

@@ -10,16 +10,14 @@ use Rattle.senders.specs.Message.{Valid}
 use Rattle.senders.specs.Midi.{bytes, meant}
 use Rattle.senders.proofs.Lent.{ends_refused, ends_short, ends_counted}
 use Rattle.senders.proofs.Messages.{checked_valid, checked_refused, message_accepted, length_any}
-use borrow.Author.Rules.{rules}
 use Rattle.senders.proofs.midi.ChannelMessageType.to_raw_message.Goals as goal
 use Rattle.senders.proofs.midi.ChannelMessageType.to_raw_message.Goals.{In-Passed}
 
 -- the tests were passed
-valid : (c : In-Passed) → let a = c.before.before.before.before.before.args in Valid (meant a.channel a.self)
+valid : (c : In-Passed) → let a = c.args in Valid (meant a.channel a.self)
 valid c =
-    let k = c.before.before in
-    let a = k.before.before.before.args in
-    checked_valid a.self (value tt) (sym k.check_message.ensures ∙ ap check_answer c.enum_told-1.given.1) a.channel (omega arith)
+    let a = c.args in
+    checked_valid a.self (value tt) (sym c.check_message.ensures ∙ ap check_answer c.in-Passed.is) a.channel (omega arith)
 
 pub returns-then-channel-gt-HIGHEST_CHANNEL : goal.returns-then-channel-gt-HIGHEST_CHANNEL
 returns-then-channel-gt-HIGHEST_CHANNEL c = ends_refused (simp (le-ltb c.args.channel 16 (omega arith)))
@@ -48,4 +46,4 @@ returns-in-Refused c =
     let a = c.args in
     ends_refused
     (rw (lt-ltb a.channel 16 (omega (arith, c.if-channel-gt-HIGHEST_CHANNEL.false)))
-    (checked_refused a.self (sent (bytes (meant a.channel a.self))) (sym c.check_message.ensures ∙ ap check_answer c.number-1.given.1)))
+    (checked_refused a.self (sent (bytes (meant a.channel a.self))) (sym c.check_message.ensures ∙ ap check_answer c.in-Refused.is)))
