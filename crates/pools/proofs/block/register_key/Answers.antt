@@ -6,7 +6,7 @@ use lib.IntN.{ℤ}
 use lib.Ieee.{Float}
 use mir.Facts.{to_z-of_z}
 use mir.Syntax.{w32}
-use mir.Val.{to_z, of_z}
+use mir.Val.{to_z, of_z, SFits}
 use Rattle.arithmetic.specs.Outcome.{Outcome}
 use Rattle.arithmetic.specs.Answers.{approximation}
 use Rattle.arithmetic.specs.Note.{is_note}
@@ -19,40 +19,34 @@ use Rattle.pools.specs.Block.{state_of, Moves}
 use Rattle.pools.specs.PoolAnswers.{press}
 use Rattle.pools.proofs.Pools.{nearest_is, register_nearest}
 use Rattle.pools.proofs.block.register_key.Goals as goal
-use Rattle.pools.proofs.block.register_key.Goals.{In-Nearest}
 
--- the nearest note of a pitch
-module _ (c : In-Nearest) where
-  abbrev hz : Float
-  hz = c.before.before.before.before.args.pitch.hz
-
-  abbrev nearest : ℤ
-  nearest = c.before.note-1.given.0.0
-
-  is : (is_pitch hz ≡ true) × (nearest ≡ nearest_note hz) × (c.before.note-1.given.0.1.0 ≡ detuning_of hz (nearest_note hz))
-  is = nearest_is hz nearest c.before.note-1.given.0.1.0 (sym (ap approximation c.before.note-1.given.1) ∙ c.before.before.before.find_by_pitch.ensures)
-
-  plain : to_z w32 (of_z w32 nearest) ≡ nearest
-  plain = to_z-of_z {w = w32} {z = nearest} (record { sfits = c.known_told-1.given.0.1 })
-
-  noted : is_note (to_z w32 (of_z w32 nearest)) ≡ true
-  noted = rw (plain, is.1) (nearest_is_note hz (rw is.0 tt))
+-- the nearest note of a pitch is one
+noted : (hz : Float) (n : ℤ) → SFits w32 n → (is_pitch hz ≡ true) → (n ≡ nearest_note hz) → is_note (to_z w32 (of_z w32 n)) ≡ true
+noted hz n fits pitch near = rw (to_z-of_z fits, near) (nearest_is_note hz (rw pitch tt))
 
 pub press-requires : goal.press-requires
-press-requires c = (search rules, search rules, noted (goal.at.press-requires c).In-Nearest)
+press-requires c =
+    let n = c.in-Nearest in
+    let hz = c.args.pitch.hz in
+    let is = nearest_is hz n.note n.detuning (sym (ap approximation n.is) ∙ c.find_by_pitch.ensures) in
+    let fits : SFits w32 n.note = search rules in
+    (search rules, search rules, noted hz n.note fits is.0 is.1)
 
 pub returns-in-Nearest : goal.returns-in-Nearest
 returns-in-Nearest c =
     let a = c.args in
+    let n = c.in-Nearest in
+    let hz = a.pitch.hz in
     let l = a.cells.now in
     let s = state_of l in
-    let d = c.note-1.given.0.1.0 in
-    let Meets : Outcome (Press × State) → Type 0 = λ o. (press c.press.result ≡ (replied s o).0) × Moves o l c.press.new.0 in
-    subst Meets (register_nearest (hz (goal.at.returns-in-Nearest c).In-Nearest) s a.key (nearest (goal.at.returns-in-Nearest c).In-Nearest) d (is (goal.at.returns-in-Nearest c).In-Nearest)) (subst (λ z. Meets (unless_held s a.key z d)) (plain (goal.at.returns-in-Nearest c).In-Nearest) c.press.ensures)
+    let is = nearest_is hz n.note n.detuning (sym (ap approximation n.is) ∙ c.find_by_pitch.ensures) in
+    let fits : SFits w32 n.note = search rules in
+    let Meets : Outcome (Press × State) → Type 0 = λ o. (press c.press.result ≡ (replied s o).0) × Moves o l c.press.new.cells in
+    subst Meets (register_nearest hz s a.key n.note n.detuning is) (subst (λ z. Meets (unless_held s a.key z n.detuning)) (to_z-of_z fits) c.press.ensures)
 
 pub returns-in-Refused : goal.returns-in-Refused
 unfolding replied register_rule press
 returns-in-Refused c =
     let hz = c.args.pitch.hz in
-    let refusal = (nearest_refuses hz c.n-1.given.0.0).0 (sym c.find_by_pitch.ensures ∙ ap approximation c.n-1.given.1) in
+    let refusal = (nearest_refuses hz c.in-Refused.n).0 (sym c.find_by_pitch.ensures ∙ ap approximation c.in-Refused.is) in
     rw (refusal.0, refusal.1) (refl, refl)

@@ -11,12 +11,8 @@ use Rattle.channels.proofs.ChannelLists.{number, number_word, Low, low_drop, num
 use Rattle.pools.proofs.Regions.{length_part}
 use Rattle.pools.proofs.Blocks.{get_d_map_below}
 use borrow.Author.Rules.{rules}
+use Rattle.pools.proofs.channel_cells.list_at.Invariants.{items}
 use Rattle.pools.proofs.channel_cells.list_at.Goals as goal
-use Rattle.pools.proofs.channel_cells.list_at.Goals.{After-shared_slice_known-in-loop-i-1}
-
--- the items, each read as a channel
-abbrev items : List ℕ → ℕ → ℕ → List ℕ
-items cells at n = map channel_of (take n (drop (at + 1) cells))
 
 module _ (cells : List ℕ) (at n : ℕ) (long : at + 17 ≤ length cells) (few : n ≤ 16) where
   items-long : length (items cells at n) ≡ n
@@ -31,27 +27,17 @@ module _ (cells : List ℕ) (at n : ℕ) (long : at + 17 ≤ length cells) (few 
   items-low : Low (items cells at n)
   items-low i p = omega (arith, item i (omega (arith, items-long)))
 
--- one digit more, which a word holds
-turn : (c : After-shared_slice_known-in-loop-i-1)
-    → let a = c.before.before.before.before.before.args in
-    let l = c.before.before.loop-i in
-    let cs = items a.cells.now a.at c.before.before.before.size-n.result in
-    (number (drop (l.i - 1) cs) ≡ l.digits * 16 + get_or a.cells.now (a.at + l.i) 0 % 16) × (number (drop (l.i - 1) cs) < 2 ^ 64)
-turn c =
-    let start = c.before.before.before.before.before in
-    let a = start.args in
-    let l = c.before.before.loop-i in
-    let n = c.before.before.before.size-n.result in
-    let few = c.before.before.before.size-n.ensures.0 in
-    let cs = items a.cells.now a.at n in
-    let low = items-low a.cells.now a.at n start.requires few in
-    let long = items-long a.cells.now a.at n start.requires few in
-    let e : a.at + 1 + (l.i - 1) ≡ a.at + l.i = omega arith in (
-      number_turn cs low l.i (omega arith) (omega arith)
-          ∙ ap (λ (k : ℕ). k * 16 + get_or cs (l.i - 1) 0) (sym l.invariant.1)
-          ∙ ap (λ (k : ℕ). l.digits * 16 + k) (item a.cells.now a.at n start.requires few (l.i - 1) (omega arith) ∙ ap (λ (k : ℕ). get_or a.cells.now k 0 % 16) e),
-      number_word (drop (l.i - 1) cs) (low_drop cs low (l.i - 1)) (omega (arith, length-drop (l.i - 1) cs)),
-    )
+  -- one digit more, which a word holds
+  turn : (i d : ℕ) → 0 < i → i ≤ n → d ≡ number (drop i (items cells at n))
+      → (number (drop (i - 1) (items cells at n)) ≡ d * 16 + get_or cells (at + i) 0 % 16) × (number (drop (i - 1) (items cells at n)) < 2 ^ 64)
+  turn i d p q is =
+      let e : at + 1 + (i - 1) ≡ at + i = omega arith in (
+        number_turn (items cells at n) items-low i (omega arith) (omega (arith, items-long))
+            ∙ ap (λ (k : ℕ). k * 16 + get_or (items cells at n) (i - 1) 0) (sym is)
+            ∙ ap (λ (k : ℕ). d * 16 + k) (item (i - 1) (omega arith) ∙ ap (λ (k : ℕ). get_or cells k 0 % 16) e),
+        number_word (drop (i - 1) (items cells at n)) (low_drop (items cells at n) items-low (i - 1))
+            (omega (arith, length-drop (i - 1) (items cells at n), items-long)),
+      )
 
 pub size-n-requires : goal.size-n-requires
 size-n-requires c = c.requires
@@ -77,10 +63,16 @@ pub overflow_cast-channel : goal.overflow_cast-channel
 overflow_cast-channel c = omega arith
 
 pub overflow_mul-digits : goal.overflow_mul-digits
-overflow_mul-digits c = omega (arith, (turn (goal.at.overflow_mul-digits c).After-shared_slice_known-in-loop-i-1).0, (turn (goal.at.overflow_mul-digits c).After-shared_slice_known-in-loop-i-1).1)
+overflow_mul-digits c =
+    let l = c.loop-i in
+    let more = turn c.args.cells.now c.args.at c.size-n.result c.requires c.size-n.ensures.0 l.i l.digits (omega arith) l.invariant.0 l.invariant.1 in
+    omega (arith, more.0, more.1)
 
 pub overflow_add-digits : goal.overflow_add-digits
-overflow_add-digits c = omega (arith, (turn (goal.at.overflow_add-digits c).After-shared_slice_known-in-loop-i-1).0, (turn (goal.at.overflow_add-digits c).After-shared_slice_known-in-loop-i-1).1)
+overflow_add-digits c =
+    let l = c.loop-i in
+    let more = turn c.args.cells.now c.args.at c.size-n.result c.requires c.size-n.ensures.0 l.i l.digits (omega arith) l.invariant.0 l.invariant.1 in
+    omega (arith, more.0, more.1)
 
 pub overflow_sub-i : goal.overflow_sub-i
 overflow_sub-i c = omega arith
@@ -89,7 +81,10 @@ pub loop-i-smaller : goal.loop-i-smaller
 loop-i-smaller c = omega arith
 
 pub loop-i-preserved : goal.loop-i-preserved
-loop-i-preserved c = (omega arith, sym (turn (goal.at.loop-i-preserved c).After-shared_slice_known-in-loop-i-1).0)
+loop-i-preserved c =
+    let l = c.loop-i in
+    let more = turn c.args.cells.now c.args.at c.size-n.result c.requires c.size-n.ensures.0 l.i l.digits (omega arith) l.invariant.0 l.invariant.1 in
+    (omega arith, sym more.0)
 
 pub returns : goal.returns
 returns c =

@@ -13,6 +13,10 @@ use Rattle.pools.proofs.Blocks.{get_d_map_below}
 use borrow.Author.Rules.{rules}
 use Rattle.pools.proofs.channel_cells.list_at.Given as goal
 
+-- the items, each read as a channel
+abbrev pub items : List ℕ → ℕ → ℕ → List ℕ
+items cells at n = map channel_of (take n (drop (at + 1) cells))
+
 abbrev pub invariant-loop-i : goal.invariant-loop-i
 invariant-loop-i l = (l.i ≤ l.n) × (l.digits ≡ number (drop l.i (items l.cells l.at l.n)))
 

@@ -1,11 +1,10 @@
 -- `channel_cells::put_digits` meets its contract. The loop's invariant: i digits are put, and the others are those of `rest`. Assumes nothing.
 use Prim.Native.Nat.{ℕ, suc, ◌+◌, ◌-◌, ◌≤◌, ◌/◌, ◌%◌}
-use mathlib.Core.Path.{◌≡◌, refl, sym, ap, ◌∙◌}
+use mathlib.Core.Path.{◌≡◌, sym, ap, ◌∙◌}
 use mathlib.Core.List.{List, [], ◌∷◌, ◌++◌, append_assoc, append-nil}
 use native.Mathlib.Omega.{arith}
-use lib.ListN.{length, take, drop}
+use lib.ListN.{take, drop}
 use Rattle.channels.specs.ChannelList.{digits}
-use Rattle.pools.specs.PoolInternal.{Kept}
 use Rattle.pools.proofs.Regions.{kept_same, kept_then, kept_wider, kept_set, put}
 use Rattle.pools.proofs.channel_cells.put_digits.Goals as goal
 
@@ -40,7 +39,8 @@ loop-i-preserved c =
     let l = c.loop-i in
     let x = l.rest % 16 in (
       omega arith,
-      kept_then (kept_wider l.invariant.1 a.from (l.i + 1) (omega arith) (omega arith)) (kept_set a.from (l.i + 1) l.cells (a.from + l.i) x (omega arith) (omega arith)),
+      kept_then (kept_wider l.invariant.1 a.from (l.i + 1) (omega arith) (omega arith))
+          (kept_set a.from (l.i + 1) l.cells (a.from + l.i) x (omega arith) (omega arith)),
       l.invariant.2
           ∙ ap (λ (r : List ℕ). take l.i (drop a.from l.cells) ++ r) (digits-next a.n l.i l.rest (omega arith))
           ∙ sym (append_assoc (take l.i (drop a.from l.cells)) (x ∷ []) (digits (a.n - (l.i + 1)) (l.rest / 16)))
@@ -56,5 +56,6 @@ returns c =
     let a = c.args in
     let l = c.loop-i in
     let e : l.i ≡ a.n = omega arith in
-    let f = l.invariant.2 ∙ ap (λ (k : ℕ). take l.i (drop a.from l.cells) ++ digits k l.rest) (let z : a.n - l.i ≡ 0 = omega arith in z) ∙ append-nil (take l.i (drop a.from l.cells)) in
+    let z : a.n - l.i ≡ 0 = omega arith in
+    let f = l.invariant.2 ∙ ap (λ (k : ℕ). take l.i (drop a.from l.cells) ++ digits k l.rest) z ∙ append-nil (take l.i (drop a.from l.cells)) in
     (rw e at l.invariant.1, sym (rw e at f))

@@ -23,8 +23,8 @@ returns c =
     let counted : len.result ≡ min a.list.count 16 = len.ensures ∙ length_digits (min a.list.count 16) a.list.digits in (
       kept_then
           (kept_wider put.ensures.0 a.at 17 (omega arith) (omega (arith, len.ensures)))
-          (kept_set a.at 17 put.new.0 a.at len.result (omega arith) (omega arith)),
-      queue_counted put.new.0 a.at (omega (arith, c.requires, put.ensures.0.long)) len.result (omega (arith, len.ensures))
+          (kept_set a.at 17 put.new.cells a.at len.result (omega arith) (omega arith)),
+      queue_counted put.new.cells a.at (omega (arith, c.requires, put.ensures.0.long)) len.result (omega (arith, len.ensures))
           ∙ put.ensures.1
           ∙ ap (λ (k : ℕ). digits len.result k) number
           ∙ ap (λ (k : ℕ). digits k a.list.digits) counted,

@@ -13,17 +13,16 @@ use Rattle.pools.proofs.pool.pool_of.Goals as goal
 pub returns-in-Letter : goal.returns-in-Letter
 unfolding pool_of pool_count
 returns-in-Letter c =
-    let group = c.enum_told-1.given.1 in
-    let n = c.n-1.given in
-    let told = sym (ap letter_answer n.1) ∙ c.letter.ensures ∙ ap letter_rule (to_z-of_z c.ranges.note) in
-    let is = letter_is c.args.note c.requires n.0.0 told in
+    let group = c.in-NoteLetter.is in
+    let told = sym (ap letter_answer c.in-Letter.is) ∙ c.letter.ensures ∙ ap letter_rule (to_z-of_z c.ranges.note) in
+    let is = letter_is c.args.note c.requires c.in-Letter.n told in
     (rw group is, rw (group, is) (letter_below c.args.note), rw is (letter_below c.args.note))
 
 pub returns-in-Refused : goal.returns-in-Refused
 returns-in-Refused c =
-    let told = sym (ap letter_answer c.enum_told-in-Refused-1.given.1) ∙ c.letter.ensures ∙ ap letter_rule (to_z-of_z c.ranges.note) in
+    let told = sym (ap letter_answer c.in-Refused.is) ∙ c.letter.ensures ∙ ap letter_rule (to_z-of_z c.ranges.note) in
     absurd (letter_not c.args.note c.requires _ told)
 
 pub returns-in-Channel : goal.returns-in-Channel
 unfolding pool_of pool_count
-returns-in-Channel c = (rw c.enum_told-in-Channel-1.given.1, rw c.enum_told-in-Channel-1.given.1 (omega arith), omega arith)
+returns-in-Channel c = (rw c.in-Channel.is, rw c.in-Channel.is (omega arith), omega arith)

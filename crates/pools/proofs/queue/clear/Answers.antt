@@ -1,10 +1,8 @@
 -- `queue::clear` meets its contract. The loop's invariant: i cells are filled. Assumes nothing.
-use Prim.Native.Nat.{◌+◌, ◌-◌, ◌≤◌}
-use mathlib.Core.Path.{◌≡◌, refl, sym, ap, ◌∙◌}
+use Prim.Native.Nat.{◌+◌}
+use mathlib.Core.Path.{◌≡◌, refl, ap, ◌∙◌}
 use mathlib.Core.List.{[], ◌∷◌, ◌++◌}
 use native.Mathlib.Omega.{arith}
-use lib.ListN.{length, take, drop, replicate}
-use Rattle.pools.specs.PoolInternal.{Kept}
 use Rattle.pools.proofs.Regions.{kept_same, kept_then, kept_set, kept_wider, put, zeros_more}
 use Rattle.pools.proofs.queue.clear.Goals as goal
 
@@ -31,7 +29,8 @@ loop-i-preserved c =
     let a = c.args in
     let l = c.loop-i in (
       omega arith,
-      kept_then (kept_wider l.invariant.1 a.from (l.i + 1) (omega arith) (omega arith)) (kept_set a.from (l.i + 1) l.cells (a.from + l.i) 0 (omega arith) (omega arith)),
+      kept_then (kept_wider l.invariant.1 a.from (l.i + 1) (omega arith) (omega arith))
+          (kept_set a.from (l.i + 1) l.cells (a.from + l.i) 0 (omega arith) (omega arith)),
       put l.cells a.from l.i 0 (omega (arith, l.invariant.1.long)) ∙ ap (λ r. r ++ (0 ∷ [])) l.invariant.2 ∙ zeros_more l.i,
     )
 

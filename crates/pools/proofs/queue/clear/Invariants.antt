@@ -1,11 +1,8 @@
 -- `queue::clear` meets its contract. The loop's invariant: i cells are filled. Assumes nothing.
-use Prim.Native.Nat.{◌+◌, ◌-◌, ◌≤◌}
-use mathlib.Core.Path.{◌≡◌, refl, sym, ap, ◌∙◌}
-use mathlib.Core.List.{[], ◌∷◌, ◌++◌}
-use native.Mathlib.Omega.{arith}
-use lib.ListN.{length, take, drop, replicate}
+use Prim.Native.Nat.{◌-◌, ◌≤◌}
+use mathlib.Core.Path.{◌≡◌}
+use lib.ListN.{take, drop, replicate}
 use Rattle.pools.specs.PoolInternal.{Kept}
-use Rattle.pools.proofs.Regions.{kept_same, kept_then, kept_set, kept_wider, put, zeros_more}
 use Rattle.pools.proofs.queue.clear.Given as goal
 
 abbrev pub invariant-loop-i : goal.invariant-loop-i

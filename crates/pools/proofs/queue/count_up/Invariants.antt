@@ -1,12 +1,9 @@
 -- `queue::count_up` meets its contract. The loop's invariant: i cells are filled. Assumes nothing.
-use Prim.Native.Nat.{◌+◌, ◌-◌, ◌≤◌}
-use mathlib.Core.Path.{◌≡◌, refl, sym, ap, ◌∙◌}
-use mathlib.Core.List.{[], ◌∷◌, ◌++◌}
-use native.Mathlib.Omega.{arith}
-use lib.ListN.{length, take, drop}
+use Prim.Native.Nat.{◌-◌, ◌≤◌}
+use mathlib.Core.Path.{◌≡◌}
+use lib.ListN.{take, drop}
 use Rattle.channels.specs.Lists.{upward}
 use Rattle.pools.specs.PoolInternal.{Kept}
-use Rattle.pools.proofs.Regions.{kept_same, kept_then, kept_set, kept_wider, put, upward_more}
 use Rattle.pools.proofs.queue.count_up.Given as goal
 
 abbrev pub invariant-loop-i : goal.invariant-loop-i

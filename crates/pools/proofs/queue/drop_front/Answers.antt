@@ -1,13 +1,12 @@
 -- `queue::drop_front` meets its contract. Assumes nothing.
-use Prim.Native.Nat.{◌+◌, ◌-◌, ◌≤◌}
+use Prim.Native.Nat.{◌+◌, ◌-◌}
 use mathlib.Core.Path.{◌≡◌, sym, ap, ◌∙◌}
 use mathlib.Core.List.{[]}
 use native.Mathlib.Omega.{arith}
-use lib.ListN.{length, take, drop, set, length-set}
+use lib.ListN.{take, drop}
 use lib.Seq.{take-take}
 use Rattle.pools.specs.Block.{queue_at}
 use Rattle.pools.proofs.Regions.{kept_same, kept_then, kept_set, kept_wider, queue_counted, rest_of}
-use borrow.Author.Rules.{rules}
 use Rattle.pools.proofs.queue.drop_front.Goals as goal
 
 pub returns-then-n-gt0 : goal.returns-then-n-gt0
@@ -17,7 +16,7 @@ returns-then-n-gt0 c =
     let size = c.size-n in
     let shift = c.shift in
     let n = size.result in
-    let m = shift.new.0 in (
+    let m = shift.new.cells in (
       kept_then (kept_wider shift.ensures.0 a.at 17 (omega arith) (omega arith)) (kept_set a.at 17 m a.at (n - 1) (omega arith) (omega arith)),
       queue_counted m a.at (omega (arith, shift.ensures.0.long)) (n - 1) (omega arith)
           ∙ sym (take-take (n - 1) 15 (drop (a.at + 1) m) (omega arith))

@@ -1,5 +1,5 @@
 -- `queue::push` meets its contract. Assumes nothing.
-use Prim.Native.Nat.{◌+◌, ◌≤◌}
+use Prim.Native.Nat.{◌+◌}
 use mathlib.Core.Path.{◌≡◌, sym, ap, ◌∙◌}
 use native.Mathlib.Omega.{arith}
 use lib.ListN.{length, take, drop, set, length-set, length-drop}
@@ -8,7 +8,6 @@ use Rattle.pools.specs.Pool.{behind}
 use Rattle.pools.proofs.Queues.{behind_room, push_full}
 use Rattle.pools.specs.Block.{queue_at}
 use Rattle.pools.proofs.Regions.{kept_same, kept_then, kept_set, put, queue_counted}
-use borrow.Author.Rules.{rules}
 use Rattle.pools.proofs.queue.push.Goals as goal
 
 pub bounds-cells-at-then-n-lt16 : goal.bounds-cells-at-then-n-lt16

@@ -1,14 +1,11 @@
 -- `queue::remove` meets its contract. Assumes nothing.
-use Prim.Native.Nat.{◌+◌, ◌-◌, ◌≤◌}
-use mathlib.Core.Path.{◌≡◌, sym, ap, ◌∙◌}
+use Prim.Native.Nat.{◌+◌}
+use mathlib.Core.Path.{sym, ap, ◌∙◌}
 use native.Mathlib.Omega.{arith}
-use lib.Dec.{ltb}
-use lib.ListN.{length, take, drop, set, length-drop}
+use lib.ListN.{length, take, drop, length-drop}
 use lib.Seq.{length-take-le}
 use Rattle.channels.specs.Lists.{member, without}
-use Rattle.pools.specs.Block.{queue_at}
 use Rattle.pools.proofs.Regions.{kept_then, kept_set, kept_wider, queue_counted, fewer}
-use borrow.Author.Rules.{rules}
 use Rattle.pools.proofs.queue.remove.Goals as goal
 
 pub returns : goal.returns
@@ -18,7 +15,7 @@ returns c =
     let size = c.size-n in
     let sift = c.sift-left in
     let n = size.result in
-    let m = sift.new.0 in
+    let m = sift.new.cells in
     let all = take n (drop (a.at + 1) l) in
     let many = length-take-le n (drop (a.at + 1) l) (omega (arith, length-drop (a.at + 1) l)) in
     let left = length-take-le sift.result (drop (a.at + 1) m) (omega (arith, length-drop (a.at + 1) m, sift.ensures.1.long)) in (

@@ -1,10 +1,9 @@
 -- `queue::shift` meets its contract. The loop's invariant: i cells are moved down, and no cell past them has changed. Assumes nothing.
-use Prim.Native.Nat.{◌+◌, ◌-◌, ◌≤◌}
+use Prim.Native.Nat.{◌+◌}
 use mathlib.Core.Path.{◌≡◌, refl, sym, ap, ◌∙◌}
 use mathlib.Core.List.{[], ◌∷◌, ◌++◌}
 use native.Mathlib.Omega.{arith}
-use lib.ListN.{length, take, drop, get_or}
-use Rattle.pools.specs.PoolInternal.{Kept}
+use lib.ListN.{take, drop, get_or}
 use Rattle.pools.proofs.Regions.{kept_same, kept_then, kept_set, kept_wider, read_past, grown, put}
 use Rattle.pools.proofs.queue.shift.Goals as goal
 
@@ -43,9 +42,12 @@ loop-i-preserved c =
     let a = c.args in
     let l = c.loop-i in
     let y = get_or l.cells (a.from + l.i + 1) 0 in
-    let same : y ≡ get_or a.cells.now (a.from + 1 + l.i) 0 = read_past l.invariant.1 (a.from + l.i + 1) (omega arith) ∙ ap (λ n. get_or a.cells.now n 0) (omega arith) in (
+    let same : y ≡ get_or a.cells.now (a.from + 1 + l.i) 0 =
+    read_past l.invariant.1 (a.from + l.i + 1) (omega arith) ∙ ap (λ n. get_or a.cells.now n 0) (omega arith)
+    in (
       omega arith,
-      kept_then (kept_wider l.invariant.1 a.from (l.i + 1) (omega arith) (omega arith)) (kept_set a.from (l.i + 1) l.cells (a.from + l.i) y (omega arith) (omega arith)),
+      kept_then (kept_wider l.invariant.1 a.from (l.i + 1) (omega arith) (omega arith))
+          (kept_set a.from (l.i + 1) l.cells (a.from + l.i) y (omega arith) (omega arith)),
       put l.cells a.from l.i y (omega (arith, l.invariant.1.long))
           ∙ ap (λ r. r ++ (y ∷ [])) l.invariant.2
           ∙ ap (λ n. take l.i (drop (a.from + 1) a.cells.now) ++ (n ∷ [])) same

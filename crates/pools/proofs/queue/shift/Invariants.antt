@@ -1,11 +1,8 @@
 -- `queue::shift` meets its contract. The loop's invariant: i cells are moved down, and no cell past them has changed. Assumes nothing.
 use Prim.Native.Nat.{◌+◌, ◌-◌, ◌≤◌}
-use mathlib.Core.Path.{◌≡◌, refl, sym, ap, ◌∙◌}
-use mathlib.Core.List.{[], ◌∷◌, ◌++◌}
-use native.Mathlib.Omega.{arith}
-use lib.ListN.{length, take, drop, get_or}
+use mathlib.Core.Path.{◌≡◌}
+use lib.ListN.{take, drop}
 use Rattle.pools.specs.PoolInternal.{Kept}
-use Rattle.pools.proofs.Regions.{kept_same, kept_then, kept_set, kept_wider, read_past, grown, put}
 use Rattle.pools.proofs.queue.shift.Given as goal
 
 abbrev pub invariant-loop-i : goal.invariant-loop-i

@@ -1,15 +1,14 @@
--- `queue::sift` meets its contract. The loop's invariant: the first cells are those read so far without the number, and no cell from i on has changed. Assumes nothing.
-use Prim.Native.Nat.{◌+◌, ◌-◌, ◌≤◌}
+-- `queue::sift` meets its contract. The loop's invariant: the first cells are those read without the number, and none from i on has changed. Assumes nothing.
+use Prim.Native.Nat.{◌+◌}
 use mathlib.Core.Path.{◌≡◌, refl, sym, ap, ◌∙◌}
 use mathlib.Core.List.{[], ◌∷◌, ◌++◌}
-use mathlib.Core.Logic.{⊎_elim}
 use native.Mathlib.Omega.{arith}
 use lib.ListN.{length, take, drop, get_or, set, length-drop, length-take}
 use lib.Seq.{get_or-take, get_or-drop, length-take-le}
 use Rattle.channels.specs.Lists.{without}
-use Rattle.pools.specs.PoolInternal.{Kept}
 use Rattle.pools.proofs.Regions.{kept_same, kept_then, kept_set, kept_wider, read_past, put, put_behind, without_here, without_other, without_ended}
 use Rattle.pools.proofs.queue.sift.Goals as goal
+use Rattle.pools.proofs.queue.sift.Goals.{then-y-x, else-y-x}
 
 pub loop-i-init : goal.loop-i-init
 loop-i-init c = (omega arith, omega arith, kept_same _ _ _, refl)
@@ -49,28 +48,33 @@ loop-i-preserved c =
     let y = get_or l.cells (a.from + l.i) 0 in
     let long : length all ≡ a.len = length-take-le a.len (drop a.from a.cells.now) (omega (arith, length-drop a.from a.cells.now)) in
     let next : get_or all l.i 0 ≡ y =
-    get_or-take a.len (drop a.from a.cells.now) l.i 0 (omega arith) ∙ get_or-drop a.from a.cells.now l.i 0 ∙ sym (read_past l.invariant.2 (a.from + l.i) (omega arith))
+    get_or-take a.len (drop a.from a.cells.now) l.i 0 (omega arith)
+    ∙ get_or-drop a.from a.cells.now l.i 0
+    ∙ sym (read_past l.invariant.2 (a.from + l.i) (omega arith))
     in
-    let left = kept_then (kept_wider l.invariant.2 a.from (l.i + 1) (omega arith) (omega arith)) (kept_set a.from (l.i + 1) l.cells (a.from + l.auto) y (omega arith) (omega arith)) in
-    ⊎_elim
-    (λ w. (
-      omega arith,
-      omega arith,
-      left,
-      without_other a.x all l.i (take l.auto (drop a.from l.cells)) l.invariant.3 (omega arith) (λ e. w.0.taken (sym next ∙ e))
-          ∙ ap (λ n. (take l.auto (drop a.from l.cells) ++ (n ∷ [])) ++ without a.x (drop (l.i + 1) all)) next
-          ∙ ap (λ r. r ++ without a.x (drop (l.i + 1) all)) (sym (put l.cells a.from l.auto y (omega (arith, l.invariant.2.long))))
-          ∙ ap (λ n. take n (drop a.from (set l.cells (a.from + l.auto) y)) ++ without a.x (drop (l.i + 1) all)) (sym w.1),
-    ))
-    (λ w. (
-      omega arith,
-      omega arith,
-      left,
-      without_here a.x all l.i (take l.auto (drop a.from l.cells)) l.invariant.3 (omega arith) (next ∙ w.0.left)
-          ∙ ap (λ r. r ++ without a.x (drop (l.i + 1) all)) (sym (put_behind l.cells a.from l.auto y))
-          ∙ ap (λ n. take n (drop a.from (set l.cells (a.from + l.auto) y)) ++ without a.x (drop (l.i + 1) all)) (sym w.1),
-    ))
-    c.if-y-x.branch
+    let left =
+    kept_then (kept_wider l.invariant.2 a.from (l.i + 1) (omega arith) (omega arith))
+    (kept_set a.from (l.i + 1) l.cells (a.from + l.kept) y (omega arith) (omega arith))
+    in
+    elim c.if-y-x.branch [
+      | then-y-x w ↦ (
+        omega arith,
+        omega arith,
+        left,
+        without_other a.x all l.i (take l.kept (drop a.from l.cells)) l.invariant.3 (omega arith) (λ e. w.if-y-x.true (sym next ∙ e))
+            ∙ ap (λ n. (take l.kept (drop a.from l.cells) ++ (n ∷ [])) ++ without a.x (drop (l.i + 1) all)) next
+            ∙ ap (λ r. r ++ without a.x (drop (l.i + 1) all)) (sym (put l.cells a.from l.kept y (omega (arith, l.invariant.2.long))))
+            ∙ ap (λ n. take n (drop a.from (set l.cells (a.from + l.kept) y)) ++ without a.x (drop (l.i + 1) all)) (sym w.kept-is),
+      )
+      | else-y-x w ↦ (
+        omega arith,
+        omega arith,
+        left,
+        without_here a.x all l.i (take l.kept (drop a.from l.cells)) l.invariant.3 (omega arith) (next ∙ w.if-y-x.false)
+            ∙ ap (λ r. r ++ without a.x (drop (l.i + 1) all)) (sym (put_behind l.cells a.from l.kept y))
+            ∙ ap (λ n. take n (drop a.from (set l.cells (a.from + l.kept) y)) ++ without a.x (drop (l.i + 1) all)) (sym w.kept-is),
+      )
+    ]
 
 pub shape_of-cells : goal.shape_of-cells
 shape_of-cells c = omega arith
@@ -82,5 +86,6 @@ returns c =
     let e : l.i ≡ a.len = omega arith in (
       omega arith,
       rw e at l.invariant.2,
-      without_ended a.x (take a.len (drop a.from a.cells.now)) l.i (take l.auto (drop a.from l.cells)) l.invariant.3 (omega (arith, length-take a.len (drop a.from a.cells.now))),
+      without_ended a.x (take a.len (drop a.from a.cells.now)) l.i (take l.kept (drop a.from l.cells)) l.invariant.3
+          (omega (arith, length-take a.len (drop a.from a.cells.now))),
     )

@@ -1,7 +1,6 @@
 -- `queue::size` meets its contract. Assumes nothing.
 use native.Mathlib.Omega.{arith}
 use Rattle.pools.proofs.Regions.{queue_few, queue_many}
-use borrow.Author.Rules.{rules}
 use Rattle.pools.proofs.queue.size.Goals as goal
 
 pub returns-then-count-lt-MOST_ITEMS : goal.returns-then-count-lt-MOST_ITEMS

@@ -1,7 +1,6 @@
 -- `settings::group_by` meets its contract. Assumes nothing.
 use borrow.Author.Tests.{eq-eqb, ne_eqb}
 use Rattle.pools.specs.Block.{group_of}
-use borrow.Author.Rules.{rules}
 use Rattle.pools.proofs.settings.group_by.Goals as goal
 
 pub returns-then-cells-eq1 : goal.returns-then-cells-eq1

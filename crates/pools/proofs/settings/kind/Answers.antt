@@ -2,7 +2,6 @@
 use borrow.Author.Tests.{eq-eqb, ne_eqb}
 use Rattle.pools.specs.Block.{kind_at}
 use Rattle.channels.specs.TuningValue.{kind_of}
-use borrow.Author.Rules.{rules}
 use Rattle.pools.proofs.settings.kind.Goals as goal
 
 pub returns-then-cells-eq1 : goal.returns-then-cells-eq1

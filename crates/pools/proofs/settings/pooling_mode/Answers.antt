@@ -1,7 +1,6 @@
 -- `settings::pooling_mode` meets its contract. Assumes nothing.
 use borrow.Author.Tests.{eq-eqb, ne_eqb}
 use Rattle.pools.specs.Block.{mode_of}
-use borrow.Author.Rules.{rules}
 use Rattle.pools.proofs.settings.pooling_mode.Goals as goal
 
 pub returns-then-mode-eq1 : goal.returns-then-mode-eq1

@@ -14,12 +14,12 @@ use Rattle.pools.proofs.settings.put_settings.Goals as goal
 pub bounds-cells-682 : goal.bounds-cells-682
 bounds-cells-682 c =
     let put = c.put_list in
-    omega (arith, c.requires, put.ensures.0.long, length-set put.new.0 (settings + 17) c.group_number.result)
+    omega (arith, c.requires, put.ensures.0.long, length-set put.new.cells (settings + 17) c.group_number.result)
 
 pub bounds-cells-683 : goal.bounds-cells-683
 bounds-cells-683 c =
     let put = c.put_list in
-    let l = put.new.0 in
+    let l = put.new.cells in
     let g = c.group_number.result in
     omega (arith, c.requires, put.ensures.0.long, length-set l (settings + 17) g, length-set (set l (settings + 17) g) (settings + 18) c.mode_number.result)
 
@@ -27,7 +27,7 @@ pub returns : goal.returns
 returns c =
     let a = c.args in
     let put = c.put_list in
-    let l = put.new.0 in
+    let l = put.new.cells in
     let g = c.group_number.result in
     let m = c.mode_number.result in
     let k = c.kind_number.result in

@@ -7,8 +7,8 @@ use Prim.Native.Nat.{ℕ, ◌+◌, ◌*◌, ◌<◌, ◌≤◌}
 use native.Mathlib.Omega.{arith}
 use mir.Facts.{to_z-of_z}
 use mir.Syntax.{w32}
-use mir.Val.{to_z, of_z}
-use lib.ListN.{length, get_or}
+use mir.Val.{to_z, of_z, SFits}
+use lib.ListN.{length, get_or, take, drop}
 use Rattle.arithmetic.specs.Note.{is_note}
 use Rattle.channels.specs.Lists.{first}
 use Rattle.channels.specs.Places.{Place, place_of, place}
@@ -20,103 +20,102 @@ use Rattle.channels.proofs.RecordNumbers.{place_sound}
 use Rattle.pools.proofs.Blocks.{key_here}
 use Rattle.pools.proofs.Allocations.{front_is, front_no, found_beyond, allocated_free, allocated_nobody, allocated_lost, allocated_stolen}
 use borrow.Author.Rules.{rules}
+use lib.IntN.{ℤ}
+use Rattle.pools.specs.declared.block.PoolGroupBy.{PoolGroupBy}
 use Rattle.pools.proofs.state.allocate.Goals as goal
-use Rattle.pools.proofs.state.allocate.Goals.{After-pool_at-at, Else-free-gt0, Else-held-eq0, In-Found, Start}
 
--- the pool of the note
-module _ (c : After-pool_at-at) where
-  abbrev start : Start
-  start = c.before.before
+-- where the pool of the note stands
+at : (group : PoolGroupBy) (note : ℤ) → SFits w32 note → (a : ℕ) → a ≡ key_count + pool_of group (to_z w32 (of_z w32 note)) * 34
+    → a ≡ key_count + pool_of group note * 34
+at group note fits a e = e ∙ ap (λ z. key_count + pool_of group z * 34) (to_z-of_z fits)
 
-  abbrev cells : List ℕ
-  cells = start.args.cells.now
+-- the front of a queue that has none, and of one that has some
+module _ (l : List ℕ) (a n : ℕ) (items : queue_at l a ≡ take n (drop (a + 1) l)) where
+  empty : n ≡ 0 → first (queue_at l a) ≡ none
+  empty e = ap first items ∙ front_no l (a + 1) n e
 
-  at : c.pool_at-at.result ≡ key_count + pool_of start.args.group start.args.note * 34
-  at = c.pool_at-at.ensures.0 ∙ ap (λ z. key_count + pool_of start.args.group z * 34) (to_z-of_z start.ranges.note)
-
--- no channel is free
-full : (c : Else-free-gt0) → first (queue_at (cells c.before.before) c.before.before.pool_at-at.result) ≡ none
-full c = ap first c.before.size-free.ensures.1 ∙ front_no (cells c.before.before) (c.before.before.pool_at-at.result + 1) c.before.size-free.result (omega arith)
-
--- a key has held its channel longest
-module _ (c : Else-held-eq0) where
-  abbrev held : Else-free-gt0
-  held = c.before.before
-
-  abbrev pool : After-pool_at-at
-  pool = held.before.before
-
-  abbrev key : ℕ
-  key = get_or (cells pool) (pool.pool_at-at.result + 17 + 1) 0
-
-  oldest : first (queue_at (cells pool) (pool.pool_at-at.result + 17)) ≡ some key
-  oldest = ap first c.before.size-held.ensures.1 ∙ front_is (cells pool) (pool.pool_at-at.result + 17 + 1) c.before.size-held.result (omega arith) (omega arith)
-
--- where it sounds
-module _ (c : In-Found) where
-  abbrev order : Else-held-eq0
-  order = c.before.before.before.before.before.before.before
-
-  abbrev its : Place
-  its = record { channel = c.before.channel-1.given.0.0; note = c.before.channel-1.given.0.1.0 }
-
-  plain : to_z w32 (of_z w32 its.note) ≡ its.note
-  plain = to_z-of_z {w = w32} {z = its.note} (record { sfits = c.known_told-1.given.1.0.1 })
-
-  was : place_of (get_or (cells (pool order)) (key order) 0) ≡ some its
-  unfolding place
-  was = sym c.before.before.before.place_of.ensures ∙ ap place c.before.channel-1.given.1
-
-  sound : (its.channel < 16) × (is_note its.note ≡ true)
-  sound = place_sound (get_or (cells (pool order)) (key order) 0) its was
+  front : 0 < n → a + 1 < length l → first (queue_at l a) ≡ some (get_or l (a + 1) 0)
+  front h k = ap first items ∙ front_is l (a + 1) n h k
 
 pub returns-then-free-gt0 : goal.returns-then-free-gt0
 returns-then-free-gt0 c =
+    let a = c.args in
+    let l = a.cells.now in
+    let p = c.pool_at-at in
     let size = c.size-free in
-    let a = (start (goal.at.returns-then-free-gt0 c).After-pool_at-at).args in
     λ channels.
-    allocated_free channels a.group a.mode (cells (goal.at.returns-then-free-gt0 c).After-pool_at-at) a.note c.pool_at-at.result (at (goal.at.returns-then-free-gt0 c).After-pool_at-at) (get_or (cells (goal.at.returns-then-free-gt0 c).After-pool_at-at) (c.pool_at-at.result + 1) 0)
-    (ap first size.ensures.1 ∙ front_is (cells (goal.at.returns-then-free-gt0 c).After-pool_at-at) (c.pool_at-at.result + 1) size.result (omega arith) (omega arith))
+    allocated_free channels a.group a.mode l a.note p.result (at a.group a.note c.ranges.note p.result p.ensures.0) (get_or l (p.result + 1) 0)
+    (front l p.result size.result size.ensures.1 (omega arith) (omega (arith, c.requires.0, p.ensures.1)))
 
 pub returns-then-held-eq0 : goal.returns-then-held-eq0
 returns-then-held-eq0 c =
-    let a = (start (goal.at.returns-then-held-eq0 c).After-pool_at-at).args in
-    λ channels.
-    allocated_nobody channels a.group a.mode (cells (goal.at.returns-then-held-eq0 c).After-pool_at-at) a.note c.pool_at-at.result (at (goal.at.returns-then-held-eq0 c).After-pool_at-at) (full (goal.at.returns-then-held-eq0 c).Else-free-gt0)
-    (ap first c.size-held.ensures.1 ∙ front_no (cells (goal.at.returns-then-held-eq0 c).After-pool_at-at) (c.pool_at-at.result + 17 + 1) c.size-held.result c.if-held-eq0.true)
+    let a = c.args in
+    let l = a.cells.now in
+    let p = c.pool_at-at in
+    let full = empty l p.result c.size-free.result c.size-free.ensures.1 (omega arith) in
+    let none_held = empty l (p.result + 17) c.size-held.result c.size-held.ensures.1 c.if-held-eq0.true in
+    λ channels. allocated_nobody channels a.group a.mode l a.note p.result (at a.group a.note c.ranges.note p.result p.ensures.0) full none_held
 
 pub overflow_cast-key_at : goal.overflow_cast-key_at
-overflow_cast-key_at c = omega (arith, c.shared_slice_known-2-1.given (c.pool_at-at.result + 17 + 1))
+overflow_cast-key_at c = omega (arith, c.type_inv.cells (c.pool_at-at.result + 17 + 1))
 
 pub returns-then-key_at-ge-KEYS : goal.returns-then-key_at-ge-KEYS
 returns-then-key_at-ge-KEYS c =
-    let k = pool (goal.at.returns-then-key_at-ge-KEYS c).Else-held-eq0 in
-    let a = (start k).args in
+    let a = c.args in
+    let l = a.cells.now in
+    let p = c.pool_at-at in
+    let full = empty l p.result c.size-free.result c.size-free.ensures.1 (omega arith) in
+    let oldest = front l (p.result + 17) c.size-held.result c.size-held.ensures.1 (omega arith) (omega (arith, c.requires.0, p.ensures.1)) in
+    let key = get_or l (p.result + 17 + 1) 0 in
     λ channels.
-    allocated_lost channels a.group a.mode (cells k) a.note k.pool-at.result (at k) (full (held (goal.at.returns-then-key_at-ge-KEYS c).Else-held-eq0)) (key (goal.at.returns-then-key_at-ge-KEYS c).Else-held-eq0) (oldest (goal.at.returns-then-key_at-ge-KEYS c).Else-held-eq0)
-    (found_beyond channels a.group a.mode (cells k) (key (goal.at.returns-then-key_at-ge-KEYS c).Else-held-eq0) c.if-key_at-ge-KEYS.true)
+    allocated_lost channels a.group a.mode l a.note p.result (at a.group a.note c.ranges.note p.result p.ensures.0) full key oldest
+    (found_beyond channels a.group a.mode l key c.if-key_at-ge-KEYS.true)
 
 pub steal-requires : goal.steal-requires
-steal-requires c = (rw (to_z-of_z (start (pool (order (goal.at.steal-requires c).In-Found))).ranges.note) (start (pool (order (goal.at.steal-requires c).In-Found))).requires.1, rw (plain (goal.at.steal-requires c).In-Found) (sound (goal.at.steal-requires c).In-Found).1)
+unfolding place
+steal-requires c =
+    let a = c.args in
+    let key = get_or a.cells.now (c.pool_at-at.result + 17 + 1) 0 in
+    let f = c.in-Found in
+    let its : Place = record { channel = f.channel; note = f.found_note } in
+    let was : place_of (get_or a.cells.now key 0) ≡ some its = sym c.place_of.ensures ∙ ap place f.is in
+    let fits : SFits w32 f.found_note = search rules in
+    (rw (to_z-of_z c.ranges.note) c.requires.1, rw (to_z-of_z fits) (place_sound (get_or a.cells.now key 0) its was).1)
 
 pub returns-in-Found : goal.returns-in-Found
+unfolding place
 returns-in-Found c =
-    let o = order (goal.at.returns-in-Found c).In-Found in
-    let k = pool o in
-    let a = (start k).args in
-    let small : key o < key_count = omega arith in
-    let is = c.steal.ensures ∙ ap (λ z. stolen_by a.group a.mode z (key o) (its (goal.at.returns-in-Found c).In-Found).channel (to_z w32 (of_z w32 (its (goal.at.returns-in-Found c).In-Found).note))) (to_z-of_z (start k).ranges.note) ∙ ap (stolen_by a.group a.mode a.note (key o) (its (goal.at.returns-in-Found c).In-Found).channel) (plain (goal.at.returns-in-Found c).In-Found) in
+    let a = c.args in
+    let l = a.cells.now in
+    let p = c.pool_at-at in
+    let full = empty l p.result c.size-free.result c.size-free.ensures.1 (omega arith) in
+    let oldest = front l (p.result + 17) c.size-held.result c.size-held.ensures.1 (omega arith) (omega (arith, c.requires.0, p.ensures.1)) in
+    let key = get_or l (p.result + 17 + 1) 0 in
+    let small : key < key_count = omega arith in
+    let f = c.in-Found in
+    let its : Place = record { channel = f.channel; note = f.found_note } in
+    let was : place_of (get_or l key 0) ≡ some its = sym c.place_of.ensures ∙ ap place f.is in
+    let fits : SFits w32 f.found_note = search rules in
+    let is : c.steal.result ≡ stolen_by a.group a.mode a.note key f.channel f.found_note =
+    c.steal.ensures
+    ∙ ap (λ z. stolen_by a.group a.mode z key f.channel (to_z w32 (of_z w32 f.found_note))) (to_z-of_z c.ranges.note)
+    ∙ ap (stolen_by a.group a.mode a.note key f.channel) (to_z-of_z fits)
+    in
     λ channels.
-    subst (Allocates (state_with channels a.group a.mode (cells k)) a.note) (sym is)
-    (allocated_stolen channels a.group a.mode (cells k) a.note k.pool-at.result (at k) (full (held o)) (key o) (oldest o) (its (goal.at.returns-in-Found c).In-Found)
-    (sym (key_here channels a.group a.mode (cells k) (start k).requires.0 (key o) small) ∙ was (goal.at.returns-in-Found c).In-Found) small (sound (goal.at.returns-in-Found c).In-Found))
+    subst (Allocates (state_with channels a.group a.mode l) a.note) (sym is)
+    (allocated_stolen channels a.group a.mode l a.note p.result (at a.group a.note c.ranges.note p.result p.ensures.0) full key oldest its
+    (sym (key_here channels a.group a.mode l c.requires.0 key small) ∙ was) small (place_sound (get_or l key 0) its was))
 
 pub returns-in-NotFound : goal.returns-in-NotFound
 unfolding place
 returns-in-NotFound c =
-    let k = pool (goal.at.returns-in-NotFound c).Else-held-eq0 in
-    let a = (start k).args in
-    let small : key (goal.at.returns-in-NotFound c).Else-held-eq0 < key_count = omega arith in
+    let a = c.args in
+    let l = a.cells.now in
+    let p = c.pool_at-at in
+    let full = empty l p.result c.size-free.result c.size-free.ensures.1 (omega arith) in
+    let oldest = front l (p.result + 17) c.size-held.result c.size-held.ensures.1 (omega arith) (omega (arith, c.requires.0, p.ensures.1)) in
+    let key = get_or l (p.result + 17 + 1) 0 in
+    let small : key < key_count = omega arith in
     λ channels.
-    allocated_lost channels a.group a.mode (cells k) a.note k.pool-at.result (at k) (full (held (goal.at.returns-in-NotFound c).Else-held-eq0)) (key (goal.at.returns-in-NotFound c).Else-held-eq0) (oldest (goal.at.returns-in-NotFound c).Else-held-eq0)
-    (sym (key_here channels a.group a.mode (cells k) (start k).requires.0 (key (goal.at.returns-in-NotFound c).Else-held-eq0) small) ∙ sym c.place_of.ensures ∙ ap place c.enum_told-1.given.1)
+    allocated_lost channels a.group a.mode l a.note p.result (at a.group a.note c.ranges.note p.result p.ensures.0) full key oldest
+    (sym (key_here channels a.group a.mode l c.requires.0 key small) ∙ sym c.place_of.ensures ∙ ap place c.in-NotFound.is)

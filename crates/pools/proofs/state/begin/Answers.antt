@@ -19,7 +19,7 @@ returns c =
     let keys = c.clear in
     let pools = c.begin_pools in
     let put = c.put_settings in (
-      state_fresh (entries a.channels) a.group a.mode put.new.0 c.len-count.result (sym c.len-count.ensures)
+      state_fresh (entries a.channels) a.group a.mode put.new.cells c.len-count.result (sym c.len-count.ensures)
           put.ensures.1 put.ensures.2 put.ensures.3
           (before put.ensures.0 key_count (omega arith) ∙ before pools.ensures.0 key_count (omega arith) ∙ keys.ensures.1)
           (pools_before put.ensures.0 12 key_count (omega arith) ∙ pools.ensures.1),

@@ -1,10 +1,8 @@
 -- `state::begin_pools` meets its contract. The loop's invariant: i pools are begun. Assumes nothing.
-use Prim.Native.Nat.{◌+◌, ◌*◌, ◌-◌, ◌≤◌}
-use mathlib.Core.Path.{◌≡◌, refl, sym, ap, ◌∙◌}
+use Prim.Native.Nat.{◌+◌, ◌*◌}
+use mathlib.Core.Path.{◌≡◌, refl}
 use native.Mathlib.Omega.{arith}
-use lib.ListN.{length, replicate}
 use Rattle.pools.specs.Pool.{key_count}
-use Rattle.pools.specs.PoolInternal.{Kept}
 use Rattle.pools.specs.Block.{pools_from}
 use Rattle.pools.proofs.Regions.{kept_same, kept_then, kept_wider}
 use Rattle.pools.proofs.FreshBlocks.{new_pool, pools_more}
@@ -35,8 +33,9 @@ loop-i-preserved c =
     let a = c.args in
     let call = c.begin_pool in (
       omega arith,
-      kept_then (kept_wider l.invariant.1 key_count ((l.i + 1) * 34) (omega arith) (omega arith)) (kept_wider call.ensures.0 key_count ((l.i + 1) * 34) (omega arith) (omega arith)),
-      pools_more l.i l.cells call.new.0 key_count (key_count + l.i * 34) (new_pool a.count) refl call.ensures.0 l.invariant.2 call.ensures.1,
+      kept_then (kept_wider l.invariant.1 key_count ((l.i + 1) * 34) (omega arith) (omega arith))
+          (kept_wider call.ensures.0 key_count ((l.i + 1) * 34) (omega arith) (omega arith)),
+      pools_more l.i l.cells call.new.cells key_count (key_count + l.i * 34) (new_pool a.count) refl call.ensures.0 l.invariant.2 call.ensures.1,
     )
 
 pub shape_of-cells : goal.shape_of-cells

@@ -1,13 +1,11 @@
 -- `state::begin_pools` meets its contract. The loop's invariant: i pools are begun. Assumes nothing.
-use Prim.Native.Nat.{◌+◌, ◌*◌, ◌-◌, ◌≤◌}
-use mathlib.Core.Path.{◌≡◌, refl, sym, ap, ◌∙◌}
-use native.Mathlib.Omega.{arith}
-use lib.ListN.{length, replicate}
+use Prim.Native.Nat.{◌*◌, ◌-◌, ◌≤◌}
+use mathlib.Core.Path.{◌≡◌}
+use lib.ListN.{replicate}
 use Rattle.pools.specs.Pool.{key_count}
 use Rattle.pools.specs.PoolInternal.{Kept}
 use Rattle.pools.specs.Block.{pools_from}
-use Rattle.pools.proofs.Regions.{kept_same, kept_then, kept_wider}
-use Rattle.pools.proofs.FreshBlocks.{new_pool, pools_more}
+use Rattle.pools.proofs.FreshBlocks.{new_pool}
 use Rattle.pools.proofs.state.begin_pools.Given as goal
 
 abbrev pub invariant-loop-i : goal.invariant-loop-i

@@ -17,5 +17,5 @@ returns c =
     let f = c.free_key in
     let at = pool-at.ensures.0 ∙ ap (λ z. key_count + pool_of a.group z * 34) (to_z-of_z c.ranges.note) in (
       kept_wider f.ensures.0 0 settings (omega arith) (omega (arith, pool-at.ensures.1)),
-      λ channels mode. view_freed channels a.group mode a.cells.now f.new.0 a.note pool-at.result at f.ensures.0 a.key a.channel f.ensures.1,
+      λ channels mode. view_freed channels a.group mode a.cells.now f.new.cells a.note pool-at.result at f.ensures.0 a.key a.channel f.ensures.1,
     )

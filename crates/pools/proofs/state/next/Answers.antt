@@ -13,6 +13,7 @@ use Rattle.channels.specs.Places.{place}
 use Rattle.pools.specs.PoolAnswers.{next_held}
 use Rattle.pools.proofs.HeldKeys.{held_here, held_not, held_past}
 use Rattle.pools.proofs.Blocks.{keys_all}
+use mir.Val.{SFits}
 use Rattle.pools.proofs.state.next.Goals as goal
 
 pub loop-key-init : goal.loop-key-init
@@ -29,9 +30,9 @@ unfolding next_held place first held_keys found
 returns-in-Found c =
     let l = c.loop-key in
     let s = state_of c.args.cells.now in
-    let given = c.channel-1.given in
-    let note = to_z-of_z {w = w32} {z = given.0.1.0} (record { sfits = c.known_told-1.given.1.0.1 }) in
-    let was = sym c.lookup.ensures ∙ ap place given.1 in
+    let fits : SFits w32 c.in-Found.found_note = search rules in
+    let note = to_z-of_z {w = w32} {z = c.in-Found.found_note} fits in
+    let was = sym c.lookup.ensures ∙ ap place c.in-Found.is in
     rw note (sym (l.invariant ∙ ap first (held_here s.keys l.key _ (omega (arith, keys_all c.args.cells.now c.requires)) was)))
 
 pub overflow_add-key : goal.overflow_add-key
@@ -45,7 +46,7 @@ unfolding place held_keys found
 loop-key-preserved c =
     let l = c.loop-key in
     let s = state_of c.args.cells.now in
-    let was = sym c.lookup.ensures ∙ ap place c.enum_told-1.given.1 in
+    let was = sym c.lookup.ensures ∙ ap place c.in_default.is in
     l.invariant ∙ ap first (held_not s.keys l.key (omega (arith, keys_all c.args.cells.now c.requires)) was)
 
 pub returns : goal.returns

@@ -1,7 +1,5 @@
 -- `state::note_if` meets its contract. Assumes nothing.
-use mathlib.Core.Path.{◌≡◌, refl}
 use mir.Facts.{to_z-of_z}
-use borrow.Author.Rules.{rules}
 use Rattle.pools.proofs.state.note_if.Goals as goal
 
 pub returns-then-stops : goal.returns-then-stops

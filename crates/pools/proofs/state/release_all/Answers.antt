@@ -12,25 +12,20 @@ use Rattle.pools.specs.PoolAnswers.{next_held}
 use Rattle.pools.proofs.HeldKeys.{Met, next_met, next_none, walked}
 use Rattle.pools.proofs.Pools.{stop_turn}
 use Rattle.pools.proofs.Blocks.{keys_all}
+use mathlib.Core.List.{List}
+use lib.IntN.{ℤ}
+use Rattle.channels.specs.declared.keys.NextKey.{NextKey}
+use Rattle.channels.specs.declared.keys.NextKey.TheVariants as N
 use Rattle.pools.proofs.state.release_all.Goals as goal
-use Rattle.pools.proofs.state.release_all.Goals.{At-loop-from, In-Held}
 
-module _ (c : In-Held) where
-  abbrev l : At-loop-from
-  l = c.before.before.before.before.before.before
-
-  long : length l.loop-from.cells ≡ cell_count
-  long = l.loop-from.inv.1 ∙ l.before.before.requires
-
+-- the key that is found
+module _ (l : List ℕ) (from : ℕ) (r : NextKey) (key channel : ℕ) (note : ℤ) where
   abbrev held : Held
-  held = let g = c.before.key-1.given.0 in record { key = g.0; place = record { channel = g.1.0; note = g.1.1.0 } }
+  held = record { key = key; place = record { channel = channel; note = note } }
 
-  met : Met (state_of l.loop-from.cells) l.loop-from.from held
+  met : next_held r ≡ first (held_keys (state_of l) from) → r ≡ N.Held key channel note → Met (state_of l) from held
   unfolding next_held
-  met = next_met (state_of l.loop-from.cells) l.loop-from.from held (sym c.before.before.before.next.ensures ∙ ap next_held c.before.key-1.given.1)
-
-  inside : held.key < key_count
-  inside = omega (arith, met.inside, keys_all l.loop-from.cells long)
+  met e is = next_met (state_of l) from held (sym e ∙ ap next_held is)
 
 pub loop-from-init : goal.loop-from-init
 unfolding stopped
@@ -42,28 +37,47 @@ next-requires c = c.loop-from.invariant.1 ∙ c.requires
 pub returns-in_default : goal.returns-in_default
 unfolding next_held released_all
 returns-in_default c =
-    let none = sym c.next.ensures ∙ ap next_held c.enum_told-1.given.1 in
-    (sym (c.loop-from.invariant.3 ∙ ap (released_all (state_of c.loop-from.cells)) (next_none (state_of c.loop-from.cells) c.loop-from.from none)), c.loop-from.invariant.2)
+    let none = sym c.next.ensures ∙ ap next_held c.in_default.is in
+    let l = c.loop-from in
+    (sym (l.invariant.3 ∙ ap (released_all (state_of l.cells)) (next_none (state_of l.cells) l.from none)), l.invariant.2)
 
 pub release-requires : goal.release-requires
-release-requires c = (long (goal.at.release-requires c).In-Held, inside (goal.at.release-requires c).In-Held)
+release-requires c =
+    let l = c.loop-from in
+    let h = c.in-Held in
+    let m = met l.cells l.from c.next.result h.key h.channel h.note c.next.ensures h.is in
+    let long = l.invariant.1 ∙ c.requires in
+    (long, omega (arith, m.inside, keys_all l.cells long))
 
 pub overflow_add-from : goal.overflow_add-from
-overflow_add-from c = omega (arith, inside (goal.at.overflow_add-from c).In-Held)
+overflow_add-from c =
+    let l = c.loop-from in
+    let h = c.in-Held in
+    let m = met l.cells l.from c.next.result h.key h.channel h.note c.next.ensures h.is in
+    let long = l.invariant.1 ∙ c.requires in
+    omega (arith, m.inside, keys_all l.cells long)
 
 pub loop-from-smaller : goal.loop-from-smaller
-loop-from-smaller c = omega (arith, inside (goal.at.loop-from-smaller c).In-Held, (met (goal.at.loop-from-smaller c).In-Held).reached)
+loop-from-smaller c =
+    let l = c.loop-from in
+    let h = c.in-Held in
+    let m = met l.cells l.from c.next.result h.key h.channel h.note c.next.ensures h.is in
+    let long = l.invariant.1 ∙ c.requires in
+    omega (arith, m.inside, keys_all l.cells long, m.reached)
 
 pub loop-from-preserved : goal.loop-from-preserved
 loop-from-preserved c =
+    let l = c.loop-from in
+    let h = c.in-Held in
     let call = c.release in
-    let t = state_of (l (goal.at.loop-from-preserved c).In-Held).loop.cells in
-    let h = held (goal.at.loop-from-preserved c).In-Held in (
-      omega (arith, inside (goal.at.loop-from-preserved c).In-Held),
-      call.auto.0 ∙ (l (goal.at.loop-from-preserved c).In-Held).loop.invariant.1,
-      call.ensures.2 ∙ (l (goal.at.loop-from-preserved c).In-Held).loop.invariant.2,
-      (l (goal.at.loop-from-preserved c).In-Held).loop.invariant.3
-          ∙ stop_turn t (l (goal.at.loop-from-preserved c).In-Held).loop.from h (met (goal.at.loop-from-preserved c).In-Held)
+    let t = state_of l.cells in
+    let m = met l.cells l.from c.next.result h.key h.channel h.note c.next.ensures h.is in
+    let long = l.invariant.1 ∙ c.requires in (
+      omega (arith, m.inside, keys_all l.cells long),
+      call.auto.cells ∙ l.invariant.1,
+      call.ensures.2 ∙ l.invariant.2,
+      l.invariant.3
+          ∙ stop_turn t l.from (held l.cells l.from c.next.result h.key h.channel h.note) m
           ∙ ap (λ (u : State). released_all u (held_keys u (h.key + 1))) (sym call.ensures.1),
     )
 
@@ -73,5 +87,6 @@ shape_of-cells c = c.loop-from.invariant.1
 pub returns : goal.returns
 unfolding released_all
 returns c =
-    let s = state_of c.loop-from.cells in
-    (sym (c.loop-from.invariant.3 ∙ ap (released_all s) (walked s c.loop-from.from (omega (arith, keys_all c.loop-from.cells (c.loop-from.invariant.1 ∙ c.requires))))), c.loop-from.invariant.2)
+    let l = c.loop-from in
+    let s = state_of l.cells in
+    (sym (l.invariant.3 ∙ ap (released_all s) (walked s l.from (omega (arith, keys_all l.cells (l.invariant.1 ∙ c.requires))))), l.invariant.2)

@@ -7,35 +7,42 @@ use mir.Facts.{to_z-of_z}
 use lib.Dec.{eqb}
 use Rattle.pools.specs.Pool.{pool_of}
 use Rattle.pools.specs.PoolInternal.{stolen_by, stolen_in}
+use Prim.Native.Nat.{ℕ}
+use lib.IntN.{ℤ}
+use Rattle.pools.specs.declared.block.PoolGroupBy.{PoolGroupBy}
 use Rattle.pools.proofs.state.steal.Goals as goal
-use Rattle.pools.proofs.state.steal.Goals.{After-pool_of-2, Else-pool_of, Start}
 
--- the pools of the two notes
-module _ (c : After-pool_of-2) where
-  abbrev start : Start
-  start = c.before.before
-
-  theirs : c.before.pool_of.result ≡ pool_of start.args.group start.args.old_note
-  theirs = c.before.pool_of.ensures.0 ∙ ap (pool_of _) (to_z-of_z start.ranges.old_note)
-
-  ours : c.pool_of-2.result ≡ pool_of start.args.group start.args.note
-  ours = c.pool_of-2.ensures.0 ∙ ap (pool_of _) (to_z-of_z start.ranges.note)
-
-same : (c : Else-pool_of) → eqb (pool_of c.before.before.before.args.group c.before.before.before.args.old_note) (pool_of c.before.before.before.args.group c.before.before.before.args.note) ≡ true
-same c = eq-eqb _ _ (sym (theirs c.before) ∙ c.if-pool_of.false ∙ ours c.before)
+-- The numbers of two pools, as the two calls answer them, are equal where the pools are.
+same : (g : PoolGroupBy) (old note : ℤ) (m n : ℕ) → m ≡ pool_of g old → n ≡ pool_of g note → m ≡ n → eqb (pool_of g old) (pool_of g note) ≡ true
+same g old note m n p q e = eq-eqb _ _ (sym p ∙ e ∙ q)
 
 pub returns-then-pool_of : goal.returns-then-pool_of
 unfolding stolen_by
-returns-then-pool_of c = rw (ne_eqb _ _ (λ e. c.if-pool_of.true (theirs (goal.at.returns-then-pool_of c).After-pool_of-2 ∙ e ∙ sym (ours (goal.at.returns-then-pool_of c).After-pool_of-2))))
+returns-then-pool_of c =
+    let theirs = c.pool_of.ensures.0 ∙ ap (pool_of c.args.group) (to_z-of_z c.ranges.old_note) in
+    let ours = c.pool_of-2.ensures.0 ∙ ap (pool_of c.args.group) (to_z-of_z c.ranges.note) in
+    rw (ne_eqb _ _ (λ e. c.if-pool_of.true (theirs ∙ e ∙ sym ours)))
 
 pub returns-in-Block : goal.returns-in-Block
 unfolding stolen_by stolen_in
-returns-in-Block c = rw (same (goal.at.returns-in-Block c).Else-pool_of, c.enum_told-1.given.1)
+returns-in-Block c =
+    let a = c.args in
+    let theirs = c.pool_of.ensures.0 ∙ ap (pool_of a.group) (to_z-of_z c.ranges.old_note) in
+    let ours = c.pool_of-2.ensures.0 ∙ ap (pool_of a.group) (to_z-of_z c.ranges.note) in
+    rw (same a.group a.old_note a.note c.pool_of.result c.pool_of-2.result theirs ours c.if-pool_of.false, c.in-Block.is)
 
 pub returns-in-Stop : goal.returns-in-Stop
 unfolding stolen_by stolen_in
-returns-in-Stop c = rw (same (goal.at.returns-in-Stop c).Else-pool_of, c.enum_told-in-Stop-1.given.1, to_z-of_z c.ranges.old_note)
+returns-in-Stop c =
+    let a = c.args in
+    let theirs = c.pool_of.ensures.0 ∙ ap (pool_of a.group) (to_z-of_z c.ranges.old_note) in
+    let ours = c.pool_of-2.ensures.0 ∙ ap (pool_of a.group) (to_z-of_z c.ranges.note) in
+    rw (same a.group a.old_note a.note c.pool_of.result c.pool_of-2.result theirs ours c.if-pool_of.false, c.in-Stop.is, to_z-of_z c.ranges.old_note)
 
 pub returns-in-Ignore : goal.returns-in-Ignore
 unfolding stolen_by stolen_in
-returns-in-Ignore c = rw (same (goal.at.returns-in-Ignore c).Else-pool_of, c.enum_told-in-Ignore-1.given.1, to_z-of_z c.ranges.old_note)
+returns-in-Ignore c =
+    let a = c.args in
+    let theirs = c.pool_of.ensures.0 ∙ ap (pool_of a.group) (to_z-of_z c.ranges.old_note) in
+    let ours = c.pool_of-2.ensures.0 ∙ ap (pool_of a.group) (to_z-of_z c.ranges.note) in
+    rw (same a.group a.old_note a.note c.pool_of.result c.pool_of-2.result theirs ours c.if-pool_of.false, c.in-Ignore.is, to_z-of_z c.ranges.old_note)

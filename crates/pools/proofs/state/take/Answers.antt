@@ -22,6 +22,8 @@ returns c =
     let cell = ap place_of (c.record_of.ensures ∙ ap (λ z. cell_of z a.channel) plain) ∙ place_cell a.note c.requires.1 a.channel c.requires.2 in (
       kept_then
           (kept_wider f.ensures.0 0 settings (omega arith) (omega (arith, pool-at.ensures.1)))
-          (kept_set 0 settings f.new.0 a.key c.record_of.result (omega arith) (omega (arith, c.requires.3))),
-      λ channels mode. view_taken channels a.group mode a.cells.now f.new.0 a.note pool-at.result at f.ensures.0 a.key a.channel c.record_of.result c.requires.3 f.ensures.1 cell,
+          (kept_set 0 settings f.new.cells a.key c.record_of.result (omega arith) (omega (arith, c.requires.3))),
+      λ channels mode.
+          view_taken channels a.group mode a.cells.now f.new.cells a.note pool-at.result at f.ensures.0 a.key a.channel c.record_of.result c.requires.3
+          f.ensures.1 cell,
     )

@@ -1,9 +1,5 @@
 -- `aot::AotTuningModel::empty` meets its contract: that of the call in place. Assumes nothing.
-
 use Rattle.models.proofs.aot.AotTuningModel.empty.Goals as goal
-
-pub open-requires : goal.open-requires
-open-requires c = tt
 
 pub returns : goal.returns
 returns c = c.open.ensures.0

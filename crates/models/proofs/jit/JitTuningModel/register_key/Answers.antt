@@ -15,4 +15,5 @@ returns c =
     let s = state_of a.self.cells in
     let call = c.register_key-result in
     let rule = register_rule s a.key a.pitch.hz in
-    ap (λ (o : Outcome Press). (o, state_of call.new.0)) call.ensures.0 ∙ ap (λ (t : State). ((replied s rule).0, t)) (moves_state rule a.self.cells call.new.0 call.ensures.1)
+    ap (λ (o : Outcome Press). (o, state_of call.new.cells)) call.ensures.0
+    ∙ ap (λ (t : State). ((replied s rule).0, t)) (moves_state rule a.self.cells call.new.cells call.ensures.1)
