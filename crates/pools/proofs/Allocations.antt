@@ -3,7 +3,7 @@ use Prim.Native.Nat.{ℕ, zero, suc, ◌+◌, ◌*◌, ◌<◌, ◌≤◌}
 use mathlib.Core.Path.{◌≡◌, refl, sym, ap, ◌∙◌}
 use mathlib.Core.Bool.{Bool, true, false, cond}
 use mathlib.Core.List.{List, [], ◌∷◌, map}
-use mathlib.Core.Option.{Option, some, none}
+use mathlib.Core.Option.{some, none}
 use native.Mathlib.Omega.{arith}
 use native.Mathlib.Nat.{mod-lt}
 use lib.IntN.{ℤ}
@@ -13,7 +13,7 @@ use lib.ListN.{length, take, drop, get_or, length-take, length-map, get_or-eq_de
 use lib.Seq.{drop-cons}
 use borrow.Author.Tests.{eqb-true, eqb-false}
 use Rattle.arithmetic.specs.Note.{is_note}
-use Rattle.arithmetic.specs.Outcome.{Outcome, value, refused}
+use Rattle.arithmetic.specs.Outcome.{value, refused}
 use Rattle.channels.specs.Lists.{first}
 use Rattle.channels.specs.Places.{Place, is_held, channel_of, place_of}
 use Rattle.pools.specs.Pool.{key_count, Pool, State, Held, pool_count, pool_of, pool, found, held_at, oldest, oldest_of, Press, pressed, unless_held, replied}
@@ -23,8 +23,8 @@ use Rattle.pools.specs.declared.block.PoolingMode.TheVariants.{Block, Stop, Igno
 use Rattle.pools.proofs.Pools.{pool_small}
 use Rattle.pools.proofs.PressCases.{pressed_front, pressed_nobody, pressed_blocked, pressed_elsewhere, pressed_stopping, pressed_ignoring}
 use Rattle.pools.specs.declared.state.Allocation as A
-use Rattle.pools.specs.Block.{queue_at, state_of, kind_at, Moves, cell_count, pool_at, pools_from, state_with}
-use Rattle.pools.specs.PoolInternal.{Sound, answered, committed, forgotten_if, stolen_in, stolen_by, Allocates}
+use Rattle.pools.specs.Block.{queue_at, state_of, kind_at, Moves, pool_at, pools_from, state_with}
+use Rattle.pools.specs.PoolInternal.{answered, committed, forgotten_if, stolen_in, stolen_by, Allocates}
 use Rattle.pools.proofs.Blocks.{pool_here}
 
 -- ---- in any state

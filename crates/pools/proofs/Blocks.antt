@@ -1,9 +1,9 @@
 -- Laws of a pool model's state in a block: what a change of a pool's region or of a key's record does to the state. Assumes nothing.
-use Prim.Native.Nat.{ℕ, zero, suc, ◌+◌, ◌*◌, ◌-◌, ◌<◌, ◌≤◌, ◌%◌}
+use Prim.Native.Nat.{ℕ, zero, suc, ◌+◌, ◌*◌, ◌<◌, ◌≤◌}
 use mathlib.Core.Path.{◌≡◌, refl, sym, ap, ◌∙◌}
-use mathlib.Core.Bool.{Bool, true, false, cond}
+use mathlib.Core.Bool.{true, false}
 use mathlib.Core.List.{List, [], ◌∷◌, ◌++◌, map, map-append}
-use mathlib.Core.Option.{Option, some, none}
+use mathlib.Core.Option.{some, none}
 use native.Mathlib.Omega.{arith}
 use native.Mathlib.Nat.{mod-eq_of_lt}
 use lib.IntN.{ℤ}
@@ -16,11 +16,11 @@ use Rattle.channels.specs.Places.{Place, note_of, channel_of, place_of}
 use Rattle.pools.specs.Pool.{key_count, Pool, State, pool_count, pool_of, pool, empty_pool, found, with_pool, with_key, behind, taken_in, freed_in, freed, taken, forgotten, replied}
 use Rattle.pools.specs.declared.block.PoolGroupBy.{PoolGroupBy}
 use Rattle.pools.specs.declared.block.PoolingMode.{PoolingMode}
-use Rattle.pools.proofs.Pools.{pool_small, pools_few}
+use Rattle.pools.proofs.Pools.{pool_small}
 use Rattle.pools.specs.Block.{settings, cell_count, queue_at, pool_at, pools_from, channels_at, group_of, mode_of, kind_at, state_with, state_of, Moves}
 use Rattle.channels.specs.TuningValue.{kind_of}
 use Rattle.pools.specs.PoolInternal.{Kept, SettingsKept}
-use Rattle.pools.proofs.Regions.{before, kept_set, kept_wider, read_past, queue_past, queue_front}
+use Rattle.pools.proofs.Regions.{before, kept_set, read_past, queue_past, queue_front}
 use Rattle.channels.proofs.RecordNumbers.{place_sound}
 
 -- ---- what is read through a function

@@ -7,7 +7,7 @@ use mathlib.Core.Logic.{◌≢◌, inl, inr}
 use native.Mathlib.Omega.{arith}
 use lib.IntN.{ℤ}
 use lib.Ieee.{Float}
-use lib.ListN.{length, get_or, drop}
+use lib.ListN.{drop}
 use lib.Seq.{get_or-set_other, drop-set-lt}
 use Rattle.arithmetic.specs.Outcome.{Outcome, value, refused, refuse◌unless◌then◌}
 use Rattle.arithmetic.specs.Refusal.{pitch_out_of_range, note_out_of_range}

@@ -1,14 +1,12 @@
 -- A press of a key that is not held, by whether a channel is free and, where none is, by the longest-held key and the pooling mode. Assumes nothing.
 use Prim.Native.Nat.{ℕ, ◌<◌}
-use mathlib.Core.Path.{◌≡◌, refl, sym, ap, ◌∙◌}
-use mathlib.Core.List.{List, [], ◌∷◌}
-use mathlib.Core.Option.{Option, some, none}
+use mathlib.Core.Path.{◌≡◌, refl, ap, ◌∙◌}
+use mathlib.Core.Option.{some, none}
 use mathlib.Core.Logic.{◌≢◌}
-use native.Mathlib.Omega.{arith}
 use lib.IntN.{ℤ}
 use lib.Ieee.{Float}
 use lib.Dec.{eqb, eqb_refl}
-use lib.ListN.{length, get_or, drop}
+use lib.ListN.{length, get_or}
 use lib.Seq.{get_or-set_same, get_or-set_other}
 use Rattle.channels.specs.Lists.{first}
 use Rattle.pools.specs.Pool.{Pool, State, Held, pool_of, empty_pool, pool, with_pool, freed, freed_in, forgotten, with_key, behind, released, oldest, room, made_room, room_for, room_by, accepted, rejected, taken, pressed}

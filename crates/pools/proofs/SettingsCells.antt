@@ -1,6 +1,6 @@
 -- The settings as they are put into a block. Assumes nothing.
-use Prim.Native.Nat.{ℕ, zero, suc, ◌+◌, ◌<◌, ◌≤◌, ◌%◌}
-use mathlib.Core.Path.{◌≡◌, refl, sym, ap, ◌∙◌}
+use Prim.Native.Nat.{ℕ, suc, ◌+◌}
+use mathlib.Core.Path.{◌≡◌, refl, ap, ◌∙◌}
 use mathlib.Core.List.{List, [], ◌∷◌, map}
 use native.Mathlib.Omega.{arith}
 use native.Mathlib.Nat.{mod-eq_of_lt}
@@ -11,7 +11,7 @@ use Rattle.pools.specs.Block.{settings, cell_count, queue_at, channels_at, kind_
 use Rattle.channels.specs.TuningValue.{kind_of}
 use Rattle.pools.specs.PoolInternal.{Kept}
 use Rattle.channels.proofs.ChannelLists.{Low}
-use Rattle.pools.proofs.Regions.{kept_then, kept_wider, kept_set, queue_front}
+use Rattle.pools.proofs.Regions.{kept_then, kept_set, queue_front}
 
 -- a list of MIDI channels is read as it is
 pub channels_low : (l : List ℕ) → Low l → map channel_of l ≡ l

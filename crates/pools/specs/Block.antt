@@ -1,8 +1,7 @@
 -- A pool tuner's state in one block of numbers, `key_count` + 428 of them: a record for each key; for each of twelve pools the queue of its free channels and
 -- that of its keys in press order; the queue of the channel list; the group, the pooling mode and the tuning kind. Every content is some state: a queue's
 -- count that is too large counts as sixteen, a channel is read by its remainder by 16, and a setting that names none is read as 0. Assumes nothing.
-use Rattle.std.specs.Prelude.{ℕ, zero, suc, ◌+◌, ◌/◌, ◌%◌, ◌≡◌, cond, List, [], ◌∷◌, map, eqb, ℤ, pos, ◌-ℤ◌, Float, take, drop, get_or}
-use Rattle.std.proofs.Math.Option.{Option, some, none}
+use Rattle.std.specs.Prelude.{ℕ, zero, suc, ◌+◌, ◌≡◌, cond, List, [], ◌∷◌, map, eqb, ℤ, Float, take, drop, get_or}
 use Rattle.arithmetic.specs.Note.{is_note}
 use Rattle.arithmetic.specs.Outcome.{Outcome, value, refused, refuse◌unless◌then◌}
 use Rattle.arithmetic.specs.Refusal.{note_out_of_range}

@@ -1,6 +1,6 @@
 -- Pools of channels (document 01, "jit.rs"): presses, releases, lookups, repitches and stop, over lists. A channel is a number from 0, which stands for
 -- that entry of the channel list; a key is a number below `key_count`; a note is a whole number. Assumes nothing.
-use Rattle.std.specs.Prelude.{ℕ, suc, Bool, true, false, not, cond, List, [], ◌∷◌, ◌++◌, ℤ, Float, length, take, drop, get_or, set, replicate}
+use Rattle.std.specs.Prelude.{ℕ, suc, not, cond, List, [], ◌∷◌, ◌++◌, ℤ, Float, length, take, drop, get_or, set, replicate}
 use Rattle.std.proofs.Math.Option.{Option, some, none}
 use Rattle.arithmetic.specs.Refusal.{pitch_out_of_range, key_held}
 use Rattle.arithmetic.specs.Outcome.{Outcome, value, refused, refuse◌unless◌then◌}

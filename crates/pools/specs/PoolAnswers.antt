@@ -1,5 +1,5 @@
 -- What each case of the answers of pools is in the words of the rules. Assumes nothing.
-use Rattle.std.specs.Prelude.{ℕ, ℤ, Float}
+use Rattle.std.specs.Prelude.{ℤ, Float}
 use Rattle.std.proofs.Math.Option.{Option, some, none}
 use Rattle.arithmetic.specs.Outcome.{Outcome, value, refused}
 use Rattle.channels.specs.Places.{Place}

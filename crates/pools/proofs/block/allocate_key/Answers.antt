@@ -10,7 +10,7 @@ use mir.Val.{to_z, of_z, SFits}
 use Rattle.arithmetic.specs.Outcome.{Outcome}
 use Rattle.arithmetic.specs.Answers.{approximation}
 use Rattle.arithmetic.specs.Note.{is_note}
-use Rattle.arithmetic.specs.Pitch.{is_pitch, detuning_of}
+use Rattle.arithmetic.specs.Pitch.{is_pitch}
 use Rattle.arithmetic.specs.Nearest.{nearest_note}
 use Rattle.arithmetic.proofs.Nearest.{nearest_is_note}
 use Rattle.arithmetic.proofs.Refusals.{nearest_refuses}

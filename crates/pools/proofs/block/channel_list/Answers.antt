@@ -1,6 +1,5 @@
 -- `block::channel_list` meets its contract. Assumes nothing.
 use Rattle.pools.specs.Block.{state_of, state_with}
-use borrow.Author.Rules.{rules}
 use Rattle.pools.proofs.block.channel_list.Goals as goal
 
 pub returns : goal.returns

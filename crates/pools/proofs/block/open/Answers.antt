@@ -1,5 +1,4 @@
 -- `block::open` meets its contract. Assumes nothing.
-use borrow.Author.Rules.{rules}
 use Rattle.pools.proofs.block.open.Goals as goal
 
 pub returns : goal.returns

@@ -1,19 +1,17 @@
 -- `block::repitch_key` meets its contract: a found key has a note, so only the pitch can be refused. Assumes nothing.
 use borrow.Author.Rules.{rules}
 use mathlib.Core.Path.{◌≡◌, sym, ap, ◌∙◌}
-use mathlib.Core.Bool.{true}
 use mathlib.Core.Option.{some}
 use mir.Facts.{to_z-of_z}
 use mir.Syntax.{w32}
-use mir.Val.{to_z, of_z, SFits}
+use mir.Val.{SFits}
 use Rattle.arithmetic.specs.Answers.{ratio_answer}
-use Rattle.arithmetic.specs.Note.{is_note}
-use Rattle.arithmetic.specs.Pitch.{is_pitch, detuning_rule}
+use Rattle.arithmetic.specs.Pitch.{detuning_rule}
 use Rattle.channels.specs.Places.{Place, place}
 use Rattle.pools.specs.Pool.{found, repitch_rule, tuning}
 use Rattle.pools.specs.Block.{state_of}
 use Rattle.pools.specs.PoolAnswers.{repitched}
-use Rattle.pools.proofs.Pools.{not_true, not_false, detuning_is, detuning_not}
+use Rattle.pools.proofs.Pools.{detuning_is, detuning_not}
 use Rattle.pools.proofs.Blocks.{found_note}
 use Rattle.pools.proofs.block.repitch_key.Goals as goal
 

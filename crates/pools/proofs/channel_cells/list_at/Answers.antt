@@ -5,12 +5,10 @@ use mathlib.Core.List.{List, map}
 use native.Mathlib.Omega.{arith}
 use lib.ListN.{length, get_or, take, drop, length-drop, length-map}
 use lib.Seq.{drop-length, get_or-take, get_or-drop}
-use Rattle.channels.specs.ChannelList.{entries}
 use Rattle.channels.specs.Places.{channel_of}
 use Rattle.channels.proofs.ChannelLists.{number, number_word, Low, low_drop, number_turn, digits_number}
 use Rattle.pools.proofs.Regions.{length_part}
 use Rattle.pools.proofs.Blocks.{get_d_map_below}
-use borrow.Author.Rules.{rules}
 use Rattle.pools.proofs.channel_cells.list_at.Invariants.{items}
 use Rattle.pools.proofs.channel_cells.list_at.Goals as goal
 

@@ -1,16 +1,10 @@
 -- `channel_cells::list_at` meets its contract. The loop's invariant: the number has the digits of the items from i on. Assumes nothing.
-use Prim.Native.Nat.{ℕ, min, ◌≤◌, ◌<◌, ◌-◌, ◌*◌, ◌+◌, ◌^◌, ◌%◌}
-use mathlib.Core.Path.{◌≡◌, sym, ap, ◌∙◌}
+use Prim.Native.Nat.{ℕ, ◌≤◌, ◌+◌}
+use mathlib.Core.Path.{◌≡◌}
 use mathlib.Core.List.{List, map}
-use native.Mathlib.Omega.{arith}
-use lib.ListN.{length, get_or, take, drop, length-drop, length-map}
-use lib.Seq.{drop-length, get_or-take, get_or-drop}
-use Rattle.channels.specs.ChannelList.{entries}
+use lib.ListN.{take, drop}
 use Rattle.channels.specs.Places.{channel_of}
-use Rattle.channels.proofs.ChannelLists.{number, number_word, Low, low_drop, number_turn, digits_number}
-use Rattle.pools.proofs.Regions.{length_part}
-use Rattle.pools.proofs.Blocks.{get_d_map_below}
-use borrow.Author.Rules.{rules}
+use Rattle.channels.proofs.ChannelLists.{number}
 use Rattle.pools.proofs.channel_cells.list_at.Given as goal
 
 -- the items, each read as a channel

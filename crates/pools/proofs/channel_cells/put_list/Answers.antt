@@ -1,12 +1,10 @@
 -- `channel_cells::put_list` meets its contract: the digits, and how many there are. Assumes nothing.
-use mathlib.Core.Path.{◌≡◌, sym, ap, ◌∙◌}
-use Prim.Native.Nat.{ℕ, ◌+◌, min}
+use mathlib.Core.Path.{◌≡◌, ap, ◌∙◌}
+use Prim.Native.Nat.{ℕ, min}
 use native.Mathlib.Omega.{arith}
-use lib.ListN.{length}
 use Rattle.channels.specs.ChannelList.{entries, digits}
 use Rattle.channels.proofs.ChannelLists.{entries_few, length_digits}
 use Rattle.pools.proofs.Regions.{kept_then, kept_wider, kept_set, queue_counted}
-use borrow.Author.Rules.{rules}
 use Rattle.pools.proofs.channel_cells.put_list.Goals as goal
 
 pub put_digits-requires : goal.put_digits-requires

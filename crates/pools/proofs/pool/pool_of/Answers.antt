@@ -1,5 +1,4 @@
 -- `pool::pool_of` meets its contract: a note has a letter, which is below 12. Assumes nothing.
-use borrow.Author.Rules.{rules}
 use mathlib.Core.Path.{sym, ap, ◌∙◌}
 use native.Mathlib.Omega.{arith}
 use mir.Facts.{to_z-of_z}

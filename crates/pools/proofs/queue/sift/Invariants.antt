@@ -12,7 +12,7 @@ invariant-loop-i l = (l.kept ≤ l.i)
     × (l.i ≤ l.len)
     × Kept l.from l.i l.initial.cells l.cells
     × (without l.x (take l.len (drop l.from l.initial.cells))
-        ≡ take l.kept (drop l.from l.cells) ++ without l.x (drop l.i (take l.len (drop l.from l.initial.cells))))
+    ≡ take l.kept (drop l.from l.cells) ++ without l.x (drop l.i (take l.len (drop l.from l.initial.cells))))
 
 abbrev pub decreases-loop-i : goal.decreases-loop-i
 decreases-loop-i l = l.len - l.i

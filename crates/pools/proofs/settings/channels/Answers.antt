@@ -1,6 +1,5 @@
 -- `settings::channels` meets its contract. Assumes nothing.
 use Rattle.pools.specs.Block.{channels_at}
-use borrow.Author.Rules.{rules}
 use Rattle.pools.proofs.settings.channels.Goals as goal
 
 pub returns : goal.returns

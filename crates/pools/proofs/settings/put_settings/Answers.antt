@@ -1,11 +1,10 @@
 -- `settings::put_settings` meets its contract: each setting is read back as it was put. Assumes nothing.
-use borrow.Author.Rules.{rules}
-use mathlib.Core.Path.{◌≡◌, sym, ap, ◌∙◌}
+use mathlib.Core.Path.{ap, ◌∙◌}
 use native.Mathlib.Omega.{arith}
 use Prim.Native.Nat.{◌+◌}
-use lib.ListN.{length, set, length-set}
+use lib.ListN.{set, length-set}
 use Rattle.channels.specs.ChannelList.{entries}
-use Rattle.pools.specs.Block.{settings, cell_count, group_of, mode_of}
+use Rattle.pools.specs.Block.{settings, group_of, mode_of}
 use Rattle.channels.proofs.ChannelLists.{entries_low}
 use Rattle.pools.proofs.Regions.{kept_then, kept_wider}
 use Rattle.pools.proofs.SettingsCells.{put_kept, put_channels, put_group, put_mode, put_kind}

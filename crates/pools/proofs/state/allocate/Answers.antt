@@ -1,18 +1,16 @@
 -- `state::allocate` meets its contract, by the free channel at the front and the longest-held key. Assumes nothing.
 use mathlib.Core.Path.{◌≡◌, sym, ap, subst, ◌∙◌}
-use mathlib.Core.Bool.{true}
-use mathlib.Core.List.{List, []}
+use mathlib.Core.List.{List}
 use mathlib.Core.Option.{some, none}
-use Prim.Native.Nat.{ℕ, ◌+◌, ◌*◌, ◌<◌, ◌≤◌}
+use Prim.Native.Nat.{ℕ, ◌+◌, ◌*◌, ◌<◌}
 use native.Mathlib.Omega.{arith}
 use mir.Facts.{to_z-of_z}
 use mir.Syntax.{w32}
 use mir.Val.{to_z, of_z, SFits}
 use lib.ListN.{length, get_or, take, drop}
-use Rattle.arithmetic.specs.Note.{is_note}
 use Rattle.channels.specs.Lists.{first}
 use Rattle.channels.specs.Places.{Place, place_of, place}
-use Rattle.pools.specs.Pool.{key_count, pool_of, found}
+use Rattle.pools.specs.Pool.{key_count, pool_of}
 use Rattle.pools.specs.Block.{queue_at}
 use Rattle.pools.specs.Block.{state_with}
 use Rattle.pools.specs.PoolInternal.{stolen_by, Allocates}

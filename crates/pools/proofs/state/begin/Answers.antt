@@ -1,10 +1,9 @@
 -- `state::begin` meets its contract: no key is found, the pools are begun, and the settings are put behind them. Assumes nothing.
 use borrow.Author.Rules.{rules}
-use mathlib.Core.Path.{◌≡◌, sym, ◌∙◌}
+use mathlib.Core.Path.{sym, ◌∙◌}
 use native.Mathlib.Omega.{arith}
 use Rattle.channels.specs.ChannelList.{entries}
 use Rattle.pools.specs.Pool.{key_count}
-use Rattle.pools.specs.Block.{state_of}
 use Rattle.channels.proofs.ChannelLists.{entries_few}
 use Rattle.pools.proofs.Regions.{before}
 use Rattle.pools.proofs.FreshBlocks.{state_fresh, pools_before}

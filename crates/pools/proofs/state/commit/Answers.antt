@@ -1,14 +1,9 @@
 -- `state::commit` meets its contract: each step is one of the rule's. Assumes nothing.
-use mathlib.Core.Path.{◌≡◌, sym, ap, subst, ◌∙◌}
-use mathlib.Core.Bool.{true}
-use Prim.Native.Nat.{ℕ, ◌<◌}
+use mathlib.Core.Path.{sym, ap, subst, ◌∙◌}
 use mir.Facts.{to_z-of_z}
 use mir.Syntax.{w32}
-use mir.Val.{to_z, of_z, SFits}
-use lib.IntN.{ℤ}
-use lib.ListN.{length}
-use Rattle.arithmetic.specs.Note.{is_note}
-use Rattle.pools.specs.Pool.{State, freed, taken, key_count}
+use mir.Val.{SFits}
+use Rattle.pools.specs.Pool.{freed, taken}
 use Rattle.pools.specs.Block.{settings, state_with}
 use Rattle.pools.specs.PoolInternal.{Sound, committed, forgotten_if}
 use Rattle.pools.proofs.Regions.{kept_same, kept_then}

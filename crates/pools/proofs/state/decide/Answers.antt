@@ -1,5 +1,4 @@
 -- `state::decide` meets its contract: a held key is refused, and another is answered the channel that is allocated. Assumes nothing.
-use borrow.Author.Rules.{rules}
 use Prim.Native.Nat.{ℕ, ◌<◌}
 use mathlib.Core.Path.{◌≡◌, sym, ap, subst, ◌∙◌}
 use mir.Facts.{to_z-of_z}

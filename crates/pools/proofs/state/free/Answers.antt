@@ -1,5 +1,5 @@
 -- `state::free` meets its contract. Assumes nothing.
-use mathlib.Core.Path.{◌≡◌, ap, ◌∙◌}
+use mathlib.Core.Path.{ap, ◌∙◌}
 use native.Mathlib.Omega.{arith}
 use mir.Facts.{to_z-of_z}
 use Prim.Native.Nat.{◌+◌, ◌*◌}
@@ -7,7 +7,6 @@ use Rattle.pools.specs.Pool.{key_count, pool_of}
 use Rattle.pools.specs.Block.{settings}
 use Rattle.pools.proofs.Regions.{kept_wider}
 use Rattle.pools.proofs.Blocks.{view_freed}
-use borrow.Author.Rules.{rules}
 use Rattle.pools.proofs.state.free.Goals as goal
 
 pub returns : goal.returns

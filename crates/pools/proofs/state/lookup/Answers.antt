@@ -1,7 +1,6 @@
 -- `state::lookup` meets its contract. Assumes nothing.
-use mathlib.Core.Path.{◌≡◌, ◌∙◌}
+use mathlib.Core.Path.{◌∙◌}
 use Rattle.pools.proofs.Blocks.{place_at}
-use borrow.Author.Rules.{rules}
 use Rattle.pools.proofs.state.lookup.Goals as goal
 
 pub returns : goal.returns

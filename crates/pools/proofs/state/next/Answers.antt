@@ -1,13 +1,11 @@
 -- `state::next` meets its contract. The loop's invariant: the first found key of those asked for is that from `key` on. Assumes nothing.
 use borrow.Author.Rules.{rules}
-use Prim.Native.Nat.{◌-◌}
-use mathlib.Core.Path.{◌≡◌, refl, sym, ap, ◌∙◌}
+use mathlib.Core.Path.{refl, sym, ap, ◌∙◌}
 use native.Mathlib.Omega.{arith}
-use lib.ListN.{length}
 use mir.Facts.{to_z-of_z}
 use mir.Syntax.{w32}
 use Rattle.channels.specs.Lists.{first}
-use Rattle.pools.specs.Pool.{key_count, found, held_keys}
+use Rattle.pools.specs.Pool.{found, held_keys}
 use Rattle.pools.specs.Block.{state_of}
 use Rattle.channels.specs.Places.{place}
 use Rattle.pools.specs.PoolAnswers.{next_held}

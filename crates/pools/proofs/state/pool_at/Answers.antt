@@ -4,7 +4,6 @@ use mathlib.Core.Path.{◌≡◌, ap, ◌∙◌}
 use native.Mathlib.Omega.{arith}
 use mir.Facts.{to_z-of_z}
 use Rattle.pools.specs.Pool.{key_count, pool_of}
-use borrow.Author.Rules.{rules}
 use Rattle.pools.proofs.state.pool_at.Goals as goal
 
 pub returns : goal.returns

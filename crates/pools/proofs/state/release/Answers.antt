@@ -1,15 +1,12 @@
 -- `state::release` meets its contract, by whether the key is found. Assumes nothing.
 use borrow.Author.Rules.{rules}
-use Prim.Native.Nat.{ℕ, ◌+◌, ◌<◌}
+use Prim.Native.Nat.{◌+◌}
 use mathlib.Core.Path.{◌≡◌, refl, sym, ap, ◌∙◌}
-use mathlib.Core.Bool.{true}
-use mathlib.Core.List.{List}
 use mathlib.Core.Option.{some}
 use mir.Facts.{to_z-of_z}
 use mir.Syntax.{w32}
-use mir.Val.{to_z, of_z, SFits}
+use mir.Val.{SFits}
 use lib.ListN.{get_or}
-use Rattle.arithmetic.specs.Note.{is_note}
 use Rattle.channels.specs.Places.{Place, place}
 use Rattle.pools.specs.Pool.{State, found, freed, forgotten}
 use Rattle.pools.specs.Block.{settings, channels_at, mode_of, state_with, state_of}

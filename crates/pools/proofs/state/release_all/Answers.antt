@@ -1,13 +1,10 @@
 -- `state::release_all` meets its contract. The loop's invariant: what is left to release are the found keys from `from` on. Assumes nothing.
-use Prim.Native.Nat.{ℕ, ◌≤◌, ◌<◌, ◌-◌, ◌+◌}
+use Prim.Native.Nat.{ℕ, ◌+◌}
 use mathlib.Core.Path.{◌≡◌, refl, sym, ap, ◌∙◌}
-use mathlib.Core.Option.{some}
 use native.Mathlib.Omega.{arith}
-use borrow.Author.Rules.{rules}
-use lib.ListN.{length}
 use Rattle.channels.specs.Lists.{first}
-use Rattle.pools.specs.Pool.{key_count, State, Held, held_keys, released_all, stopped}
-use Rattle.pools.specs.Block.{cell_count, state_of, kind_at}
+use Rattle.pools.specs.Pool.{State, Held, held_keys, released_all, stopped}
+use Rattle.pools.specs.Block.{state_of}
 use Rattle.pools.specs.PoolAnswers.{next_held}
 use Rattle.pools.proofs.HeldKeys.{Met, next_met, next_none, walked}
 use Rattle.pools.proofs.Pools.{stop_turn}

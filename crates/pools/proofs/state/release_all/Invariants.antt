@@ -1,17 +1,9 @@
 -- `state::release_all` meets its contract. The loop's invariant: what is left to release are the found keys from `from` on. Assumes nothing.
-use Prim.Native.Nat.{ℕ, ◌≤◌, ◌<◌, ◌-◌, ◌+◌}
-use mathlib.Core.Path.{◌≡◌, refl, sym, ap, ◌∙◌}
-use mathlib.Core.Option.{some}
-use native.Mathlib.Omega.{arith}
-use borrow.Author.Rules.{rules}
+use Prim.Native.Nat.{◌≤◌, ◌-◌}
+use mathlib.Core.Path.{◌≡◌}
 use lib.ListN.{length}
-use Rattle.channels.specs.Lists.{first}
-use Rattle.pools.specs.Pool.{key_count, State, Held, held_keys, released_all, stopped}
-use Rattle.pools.specs.Block.{cell_count, state_of, kind_at}
-use Rattle.pools.specs.PoolAnswers.{next_held}
-use Rattle.pools.proofs.HeldKeys.{Met, next_met, next_none, walked}
-use Rattle.pools.proofs.Pools.{stop_turn}
-use Rattle.pools.proofs.Blocks.{keys_all}
+use Rattle.pools.specs.Pool.{key_count, held_keys, released_all, stopped}
+use Rattle.pools.specs.Block.{state_of, kind_at}
 use Rattle.pools.proofs.state.release_all.Given as goal
 
 abbrev pub invariant-loop-from : goal.invariant-loop-from

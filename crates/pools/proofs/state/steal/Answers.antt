@@ -1,7 +1,6 @@
 -- `state::steal` meets its contract, by the pools of the two notes and the pooling mode. Assumes nothing.
-use borrow.Author.Rules.{rules}
 use borrow.Author.Tests.{eq-eqb, ne_eqb}
-use mathlib.Core.Path.{◌≡◌, refl, sym, ap, ◌∙◌}
+use mathlib.Core.Path.{◌≡◌, sym, ap, ◌∙◌}
 use mathlib.Core.Bool.{true}
 use mir.Facts.{to_z-of_z}
 use lib.Dec.{eqb}

@@ -1,5 +1,5 @@
 -- `state::take` meets its contract. Assumes nothing.
-use mathlib.Core.Path.{◌≡◌, ap, ◌∙◌}
+use mathlib.Core.Path.{ap, ◌∙◌}
 use native.Mathlib.Omega.{arith}
 use mir.Facts.{to_z-of_z}
 use Prim.Native.Nat.{◌+◌, ◌*◌}
@@ -9,7 +9,6 @@ use Rattle.pools.proofs.Regions.{kept_then, kept_wider, kept_set}
 use Rattle.channels.specs.Places.{place_of, cell_of}
 use Rattle.channels.proofs.RecordNumbers.{place_cell}
 use Rattle.pools.proofs.Blocks.{view_taken}
-use borrow.Author.Rules.{rules}
 use Rattle.pools.proofs.state.take.Goals as goal
 
 pub returns : goal.returns
