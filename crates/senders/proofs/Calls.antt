@@ -13,7 +13,7 @@ use Rattle.pools.specs.Pool.{State, found, released, accepted, rejected, registe
 use Rattle.pools.specs.Block.{state_of, kind_at}
 use Rattle.channels.specs.TuningValue.{sent_as}
 use Rattle.channels.specs.declared.tuning_value.TuningKind.{TuningKind}
-use Rattle.senders.specs.Lent.{Effect, sends, sent, fitted, Moved, Answers, Steps}
+use Rattle.senders.specs.Lent.{Effect, sends, sent, Answers, Steps}
 use Rattle.senders.specs.Midi.{bytes_of}
 use Rattle.senders.specs.Tuner.{on_channel, press_messages, key_messages}
 use Rattle.senders.specs.Jit.{Tuner, view, tuner, with_pool, Pressed, sounds, rejects, note_on_rule, note_off_rule}

@@ -1,10 +1,10 @@
 -- How large a buffer the calls of a pool tuner for one key need: what they say counts the bytes that they send, and these are no more than 18, a
 -- stopped note's note-off, four messages of a fine tuning and a note-on. Assumes nothing.
-use Prim.Native.Nat.{ℕ, ◌+◌, ◌≤◌}
+use Prim.Native.Nat.{ℕ, ◌≤◌}
 use native.Mathlib.Omega.{arith}
 use mathlib.Core.Path.{◌≡◌, refl}
 use mathlib.Core.Bool.{Bool, true, false, cond}
-use mathlib.Core.List.{List, []}
+use mathlib.Core.List.{List}
 use mathlib.Core.Option.{Option, some, none}
 use lib.Ieee.{Float}
 use lib.IntN.{ℤ}
@@ -16,7 +16,7 @@ use Rattle.pools.specs.Pool.{State, Press, accepted, rejected, found, released, 
 use Rattle.channels.specs.TuningValue.{sent_as}
 use Rattle.channels.specs.declared.tuning_value.Tuning.{Tuning}
 use Rattle.channels.specs.declared.tuning_value.Tuning.TheVariants.{Fine, Bend}
-use Rattle.senders.specs.Lent.{Effect, Answer, sends}
+use Rattle.senders.specs.Lent.{Effect, sends}
 use Rattle.senders.specs.Message.{Message, is_data}
 use Rattle.senders.specs.Midi.{bytes_of, meant}
 use Rattle.senders.specs.Mts.{tuning_messages}

@@ -1,6 +1,6 @@
 -- `answer::answer` meets its contract: what the tuner sent, or its refusal, is shown, and what could not be shown was not sent. Assumes nothing.
-use Prim.Native.Nat.{ℕ, ◌≤◌, ◌<◌, ◌*◌, ◌/◌, min}
-use mathlib.Core.Path.{◌≡◌, refl, sym, ap, subst, ◌∙◌}
+use Prim.Native.Nat.{ℕ, ◌≤◌, ◌/◌, min}
+use mathlib.Core.Path.{◌≡◌, refl, sym, subst}
 use mathlib.Core.List.{List, ◌++◌}
 use native.Mathlib.Omega.{arith}
 use lib.ListN.{length, take, drop, replicate}
@@ -8,12 +8,12 @@ use lib.Seq.{length-take-le}
 use Rattle.channels.specs.Outcome.{refused}
 use Rattle.senders.specs.Lent.{Steps}
 use Rattle.senders.specs.Answers.{sent_answer}
-use Rattle.senders.specs.Jit.{Tuner, view}
+use Rattle.senders.specs.Jit.{view}
 use Rattle.senders.proofs.Lent.{ends_short}
 use Rattle.lines.specs.Line.{meant}
-use Rattle.lines.specs.Console.{event_rule, line_rule}
+use Rattle.lines.specs.Console.{line_rule}
 use Rattle.lines.proofs.Shows.{shown_length}
-use Rattle.lines.proofs.Hears.{SentHere, sent_longer, Unsent, by_rule, by_room, heard_some, heard_none, not_short, line_written, line_kept, line_short}
+use Rattle.lines.proofs.Hears.{sent_longer, by_rule, by_room, heard_some, heard_none, not_short, line_written, line_kept, line_short}
 use Rattle.lines.proofs.Rooms.{answer_least, bytes_fit}
 use Rattle.lines.proofs.answer.answer.Goals as goal
 
@@ -82,8 +82,8 @@ returns-in-Written c =
     let n = c.in-Written.n in
     let bytes = c.hear.new.out ++ drop room zeros in
     let fits =
-        bytes_fit (take n bytes) (length a.out.now) (omega arith)
-        (omega (arith, length-take-le n bytes sent.within, here.within, length-take-le room zeros at_most, c.shown_room-room.ensures))
+    bytes_fit (take n bytes) (length a.out.now) (omega arith)
+    (omega (arith, length-take-le n bytes sent.within, here.within, length-take-le room zeros at_most, c.shown_room-room.ensures))
     in
     line_written {view = view} (view block) a.line.now c.parse.ensures sent fits c.show_bytes.ensures
 

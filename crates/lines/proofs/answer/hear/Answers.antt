@@ -6,7 +6,6 @@ use Rattle.lines.specs.Line.{meant}
 use Rattle.lines.specs.Console.{event_rule}
 use Rattle.lines.proofs.Hears.{meant_event, on_heard, off_heard, bend_heard}
 use Rattle.lines.specs.declared.line.Line.{Line}
-use borrow.Author.Rules.{rules}
 use Rattle.lines.proofs.answer.hear.Goals as goal
 
 pub returns-in_default : goal.returns-in_default

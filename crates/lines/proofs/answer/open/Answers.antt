@@ -2,7 +2,6 @@
 use Rattle.pools.specs.Pool.{open_rule}
 use Rattle.channels.specs.ChannelList.{list_rule, list_from}
 use Rattle.lines.specs.Console.{opened}
-use borrow.Author.Rules.{rules}
 use Rattle.lines.proofs.answer.open.Goals as goal
 
 pub returns : goal.returns

@@ -1,7 +1,6 @@
 -- `lines::answer::pitch_of` meets its contract. Assumes nothing.
 use lib.Ieee.{of_bits, of_int}
 use Rattle.lines.specs.Console.{pitch_of}
-use borrow.Author.Rules.{rules}
 use Rattle.lines.proofs.answer.pitch_of.Goals as goal
 
 pub returns : goal.returns

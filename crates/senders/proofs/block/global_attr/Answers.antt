@@ -1,5 +1,4 @@
 -- `block::global_attr` meets its contract. Assumes nothing.
-use borrow.Author.Rules.{rules}
 use Rattle.senders.proofs.block.global_attr.Goals as goal
 
 pub returns : goal.returns

@@ -1,5 +1,4 @@
 -- `block::note_attr` meets its contract: the key's message where the key is found. Assumes nothing.
-use borrow.Author.Rules.{rules}
 use Rattle.senders.proofs.block.note_attr.Goals as goal
 
 pub returns : goal.returns

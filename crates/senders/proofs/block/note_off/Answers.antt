@@ -1,12 +1,10 @@
 -- `block::note_off` meets its contract: refused by the test of the velocity, or it ends as the writing of its message does, and only where it was written
 -- the key is released. Assumes nothing.
-use mathlib.Core.Path.{refl, ap, ◌∙◌}
 use native.Mathlib.Omega.{arith}
 use borrow.Author.Tests.{le-ltb}
-use Rattle.senders.specs.Jit.{view, with_pool}
+use Rattle.senders.specs.Jit.{view}
 use Rattle.senders.proofs.Calls.{view_moved, release_bytes, release_sent_lem}
 use Rattle.senders.proofs.Lent.{ends_refused, ends_written_counted, ends_unwritten}
-use borrow.Author.Rules.{rules}
 use Rattle.senders.proofs.block.note_off.Goals as goal
 
 pub returns-then-velocity-gt-HIGHEST_DATA_BYTE : goal.returns-then-velocity-gt-HIGHEST_DATA_BYTE

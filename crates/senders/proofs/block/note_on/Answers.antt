@@ -6,7 +6,6 @@ use Prim.Native.Nat.{ℕ, ◌<◌}
 use native.Mathlib.Omega.{arith}
 use mir.Syntax.{w32}
 use mir.Val.{to_z, of_z}
-use mir.Facts.{to_z-of_z}
 use borrow.Author.Tests.{le-ltb}
 use Rattle.channels.specs.Outcome.{Outcome, value}
 use Rattle.pools.specs.Pool.{State, Press, accepted, register_rule, replied}
@@ -14,7 +13,7 @@ use Rattle.pools.specs.Block.{state_of, kind_at, Moves}
 use Rattle.pools.specs.PoolAnswers.{stopped_note, press}
 use Rattle.pools.proofs.PoolPresses.{press_measurable, register_again, rejected_stays}
 use Rattle.channels.proofs.Values.{sent_in_steps}
-use Rattle.senders.specs.Jit.{view, with_pool}
+use Rattle.senders.specs.Jit.{view}
 use Rattle.senders.proofs.Lent.{ends_refused, ends_sent, ends_unwritten, put_none}
 use Rattle.senders.proofs.Calls.{reply_value, reply_refused, view_moved, press_bytes, press_sent_lem, press_rejected, press_refused, ends_sounding}
 use borrow.Author.Rules.{rules}

@@ -14,7 +14,6 @@ use Rattle.pools.specs.declared.block.RepitchKeyResult.TheVariants.{Found, NotFo
 use Rattle.pools.proofs.PoolPresses.{repitch_measurable}
 use Rattle.channels.proofs.Values.{sent_in_steps}
 use Rattle.senders.proofs.Lent.{ends_refused, ends_counted, put_none}
-use borrow.Author.Rules.{rules}
 use Rattle.senders.proofs.block.note_pitch.Goals as goal
 use Rattle.senders.proofs.block.note_pitch.Goals.{In-Found}
 

@@ -1,13 +1,10 @@
 -- `block::start` meets its contract, by the channel list's answer. Assumes nothing.
-use mathlib.Core.Path.{◌≡◌, refl, sym, ap, ◌∙◌}
-use Rattle.channels.specs.Outcome.{value}
-use Rattle.channels.specs.ChannelList.{entries, present, channels_answer}
+use mathlib.Core.Path.{refl, sym, ap, ◌∙◌}
+use Rattle.channels.specs.ChannelList.{entries, channels_answer}
 use Rattle.pools.specs.Pool.{State, open_rule, fresh}
 use Rattle.pools.specs.declared.block.PoolGroupBy.TheVariants.{Channel}
 use Rattle.channels.specs.declared.tuning_value.TuningKind.{TuningKind}
-use Rattle.pools.specs.Block.{state_of, kind_at}
-use Rattle.senders.specs.Jit.{Tuner}
-use borrow.Author.Rules.{rules}
+use Rattle.pools.specs.Block.{kind_at}
 use Rattle.senders.proofs.block.start.Goals as goal
 
 pub returns-in-Listed : goal.returns-in-Listed
@@ -20,7 +17,7 @@ returns-in-Listed c =
     rw (sym listed) (
       refl,
       ap (λ (s : State). record { pool = s; kind = kind_at opened.new.cells }) opened.ensures.0
-      ∙ ap (λ (k : TuningKind). record { pool = fresh (entries list) Channel a.pooling_mode; kind = k }) opened.ensures.1,
+          ∙ ap (λ (k : TuningKind). record { pool = fresh (entries list) Channel a.pooling_mode; kind = k }) opened.ensures.1,
     )
 
 pub returns-in-Refused : goal.returns-in-Refused

@@ -1,10 +1,8 @@
 -- `block::stop` meets its contract: no room, or every found key is released. Assumes nothing.
-use mathlib.Core.Path.{refl, ap}
+use mathlib.Core.Path.{refl}
 use native.Mathlib.Omega.{arith}
-use Rattle.senders.specs.Jit.{view, with_pool}
 use Rattle.senders.proofs.Lent.{ends_short, ends_counted}
 use Rattle.senders.proofs.Calls.{view_moved}
-use borrow.Author.Rules.{rules}
 use Rattle.senders.proofs.block.stop.Goals as goal
 
 pub returns-then-out-stop_len : goal.returns-then-out-stop_len

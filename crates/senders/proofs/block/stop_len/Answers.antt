@@ -2,12 +2,11 @@
 use borrow.Author.Rules.{rules}
 use mathlib.Core.Path.{◌≡◌, sym, ap, ◌∙◌}
 use mathlib.Core.Option.{some}
-use Prim.Native.Nat.{◌+◌, ◌-◌, ◌*◌, ◌≤◌, ◌<◌}
+use Prim.Native.Nat.{◌<◌}
 use native.Mathlib.Omega.{arith}
 use lib.ListN.{length}
 use mir.Syntax.{w32}
 use mir.Val.{to_z, of_z}
-use mir.Facts.{to_z-of_z}
 use Rattle.channels.specs.Lists.{first}
 use Rattle.pools.specs.Pool.{Held, key_count, held_keys}
 use Rattle.pools.specs.Block.{state_of}
@@ -17,7 +16,7 @@ use Rattle.pools.proofs.Blocks.{keys_few}
 use Rattle.senders.specs.Jit.{view}
 use Rattle.senders.specs.declared.tuner.NoteMessage.TheVariants.{Off}
 use Rattle.senders.proofs.Channels.{key_small}
-use Rattle.senders.proofs.Stops.{releases, release, release_none, release_past, next_counted}
+use Rattle.senders.proofs.Stops.{release, release_none, release_past, next_counted}
 use Rattle.senders.specs.Midi.{bytes_of}
 use Rattle.senders.proofs.block.stop_len.Goals as goal
 use Rattle.senders.proofs.block.stop_len.Goals.{After-key_len-len, In-Held}

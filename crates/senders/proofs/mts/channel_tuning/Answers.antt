@@ -7,7 +7,6 @@ use Rattle.channels.specs.Answers.{tuning_answer}
 use Rattle.channels.specs.TuningValue.{tuning_rule}
 use Rattle.channels.proofs.Values.{value_in_steps}
 use Rattle.senders.proofs.Lent.{ends_refused}
-use borrow.Author.Rules.{rules}
 use Rattle.senders.proofs.mts.channel_tuning.Goals as goal
 use Rattle.senders.proofs.mts.channel_tuning.Goals.{In-Value}
 

@@ -7,7 +7,6 @@ use Rattle.channels.specs.ChannelList.{entries, entry_answer}
 use Rattle.senders.specs.Tuner.{note_messages}
 use Rattle.senders.proofs.Channels.{on_entry_lem, past_entries}
 use Rattle.senders.proofs.Sizes.{note_size}
-use borrow.Author.Rules.{rules}
 use Rattle.senders.proofs.tuner.key_len.Goals as goal
 use Rattle.senders.proofs.tuner.key_len.Goals.{Start}
 

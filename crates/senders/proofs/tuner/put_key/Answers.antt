@@ -12,7 +12,6 @@ use Rattle.senders.specs.Message.{Message}
 use Rattle.senders.specs.Tuner.{note_messages}
 use Rattle.senders.proofs.Channels.{entry_low, on_entry_lem, past_entries}
 use Rattle.senders.proofs.Lent.{put_none}
-use borrow.Author.Rules.{rules}
 use Rattle.senders.proofs.tuner.put_key.Goals as goal
 use Rattle.senders.proofs.tuner.put_key.Goals.{In-Channel, Start}
 

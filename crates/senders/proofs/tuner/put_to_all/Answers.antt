@@ -1,22 +1,16 @@
 -- `senders::tuner::put_to_all` meets its contract. The loop's invariant: the messages to the entries before `i` were put. Assumes nothing.
 use mathlib.Core.Path.{◌≡◌, refl, sym, ap, ◌∙◌}
 use mathlib.Core.Option.{some}
-use mathlib.Core.List.{[], ◌∷◌}
-use Prim.Native.Nat.{◌-◌, ◌≤◌}
 use native.Mathlib.Omega.{arith}
-use lib.ListN.{length, take, get_elem?}
+use lib.ListN.{get_elem?}
 use lib.Seq.{take_all}
 use Rattle.channels.specs.ChannelList.{entries, entry_answer}
-use Rattle.senders.specs.Lent.{Put}
-use Rattle.senders.specs.Midi.{bytes_of, meant}
-use Rattle.senders.specs.Tuner.{each}
 use Rattle.senders.proofs.Channels.{entry_low, has_entry, valid_on, all_more, all_room}
 use Rattle.senders.proofs.Lent.{put_none, put_then}
-use borrow.Author.Rules.{rules}
 use Rattle.senders.proofs.tuner.put_to_all.Goals as goal
 use Rattle.senders.proofs.tuner.put_to_all.Goals.{In-Channel}
 
-known : (c : In-Channel) → 
+known : (c : In-Channel) →
     get_elem? (entries c.args.channels) c.loop-i.i ≡ some c.in-Channel.channel
 known c = sym c.entry.ensures ∙ ap entry_answer c.in-Channel.is
 
@@ -48,7 +42,7 @@ loop-i-preserved c =
     let a = c.args in (
       omega arith,
       rw (all_more a.message (entries a.channels) c.loop-i.i (known (goal.at.loop-i-preserved c).In-Channel))
-      (put_then c.loop-i.invariant.1 c.put_message-at.ensures (omega arith)),
+          (put_then c.loop-i.invariant.1 c.put_message-at.ensures (omega arith)),
       omega arith,
     )
 

@@ -1,18 +1,12 @@
 -- `senders::tuner::put_to_all` meets its contract. The loop's invariant: the messages to the entries before `i` were put. Assumes nothing.
-use mathlib.Core.Path.{◌≡◌, refl, sym, ap, ◌∙◌}
-use mathlib.Core.Option.{some}
+use mathlib.Core.Path.{◌≡◌}
 use mathlib.Core.List.{[], ◌∷◌}
 use Prim.Native.Nat.{◌-◌, ◌≤◌}
-use native.Mathlib.Omega.{arith}
-use lib.ListN.{length, take, get_elem?}
-use lib.Seq.{take_all}
-use Rattle.channels.specs.ChannelList.{entries, entry_answer}
+use lib.ListN.{length, take}
+use Rattle.channels.specs.ChannelList.{entries}
 use Rattle.senders.specs.Lent.{Put}
 use Rattle.senders.specs.Midi.{bytes_of, meant}
 use Rattle.senders.specs.Tuner.{each}
-use Rattle.senders.proofs.Channels.{entry_low, has_entry, valid_on, all_more, all_room}
-use Rattle.senders.proofs.Lent.{put_none, put_then}
-use borrow.Author.Rules.{rules}
 use Rattle.senders.proofs.tuner.put_to_all.Given as goal
 
 abbrev pub invariant-loop-i : goal.invariant-loop-i

@@ -2,7 +2,6 @@
 use native.Mathlib.Omega.{arith}
 use borrow.Author.Tests.{le-ltb, lt-ltb}
 use Rattle.senders.proofs.Lent.{ends_refused}
-use borrow.Author.Rules.{rules}
 use Rattle.senders.proofs.tuner.send_checked_key.Goals as goal
 
 pub returns-then-value-gt-HIGHEST_DATA_BYTE : goal.returns-then-value-gt-HIGHEST_DATA_BYTE

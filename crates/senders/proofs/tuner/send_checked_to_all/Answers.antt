@@ -10,7 +10,6 @@ use Rattle.senders.specs.Midi.{bytes_of, meant}
 use Rattle.senders.specs.Tuner.{to_all}
 use Rattle.senders.proofs.Lent.{ends_refused}
 use Rattle.senders.proofs.Messages.{checked_valid, checked_refused, valid_checked}
-use borrow.Author.Rules.{rules}
 use Rattle.senders.proofs.tuner.send_checked_to_all.Goals as goal
 use Rattle.senders.proofs.tuner.send_checked_to_all.Goals.{In-Passed}
 

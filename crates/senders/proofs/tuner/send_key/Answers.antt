@@ -2,7 +2,6 @@
 use mathlib.Core.Path.{◌≡◌, refl}
 use mir.Syntax.{w32}
 use mir.Val.{to_z, of_z}
-use mir.Facts.{to_z-of_z}
 use native.Mathlib.Omega.{arith}
 use Rattle.channels.specs.ChannelList.{entries}
 use Rattle.channels.specs.Places.{place}

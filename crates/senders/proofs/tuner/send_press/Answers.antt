@@ -15,7 +15,6 @@ use Rattle.senders.specs.Tuner.{press_messages}
 use Rattle.senders.proofs.Channels.{entry_low, on_entry_lem, past_entries}
 use Rattle.senders.proofs.Lent.{ends_short, ends_counted, put_none}
 use Rattle.senders.proofs.Sizes.{press_size}
-use borrow.Author.Rules.{rules}
 use Rattle.senders.proofs.tuner.send_press.Goals as goal
 use Rattle.senders.proofs.tuner.send_press.Goals.{In-Channel, Start}
 

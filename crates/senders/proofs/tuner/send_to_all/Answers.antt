@@ -9,7 +9,6 @@ use Rattle.senders.specs.Tuner.{is_kept}
 use Rattle.senders.proofs.Channels.{all_size}
 use Rattle.senders.proofs.Lent.{ends_short, ends_counted, put_none}
 use Rattle.senders.proofs.Messages.{record_length}
-use borrow.Author.Rules.{rules}
 use Rattle.senders.proofs.tuner.send_to_all.Goals as goal
 use Rattle.senders.proofs.tuner.send_to_all.Goals.{Else-is_kept}
 

@@ -7,7 +7,6 @@ use Rattle.channels.specs.ChannelList.{entries, entry_answer}
 use Rattle.senders.specs.Mts.{tuning_messages}
 use Rattle.senders.proofs.Channels.{entry_low, on_entry_lem, past_entries}
 use Rattle.senders.proofs.Lent.{ends_counted, put_none}
-use borrow.Author.Rules.{rules}
 use Rattle.senders.proofs.tuner.send_tuning.Goals as goal
 use Rattle.senders.proofs.tuner.send_tuning.Goals.{In-Channel}
 

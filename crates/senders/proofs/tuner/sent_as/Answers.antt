@@ -5,7 +5,6 @@ use native.Mathlib.Omega.{arith}
 use Rattle.channels.specs.Answers.{tuning_answer}
 use Rattle.channels.specs.TuningValue.{tuning_rule}
 use Rattle.channels.proofs.Values.{sent_value}
-use borrow.Author.Rules.{rules}
 use Rattle.senders.proofs.tuner.sent_as.Goals as goal
 use Rattle.senders.proofs.tuner.sent_as.Goals.{After-tuning_of}
 

@@ -1,5 +1,5 @@
 -- `lines::step::Console::finish` meets its contract: a line that has begun is ended by a feed. Assumes nothing.
-use Prim.Native.Nat.{ℕ, ◌<◌}
+use Prim.Native.Nat.{◌<◌}
 use native.Mathlib.Omega.{arith}
 use mathlib.Core.List.{[]}
 use mathlib.Core.Path.{◌≡◌}

@@ -2,7 +2,6 @@
 use mathlib.Core.Path.{ap}
 use mathlib.Core.List.{[]}
 use Rattle.senders.specs.Jit.{Tuner}
-use borrow.Author.Rules.{rules}
 use Rattle.lines.proofs.step.Console.new.Goals as goal
 
 pub returns : goal.returns

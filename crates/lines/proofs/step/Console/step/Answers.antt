@@ -1,12 +1,11 @@
 -- `step::Console::step` meets its contract. The invariant: what the call does is what it has taken and written, and then what it does with
 -- the rest of the piece. Assumes nothing.
-use Prim.Native.Nat.{ℕ, ◌+◌, ◌-◌}
+use Prim.Native.Nat.{ℕ, ◌-◌}
 use native.Mathlib.Omega.{arith}
 use mathlib.Core.Path.{◌≡◌, refl, sym, ◌∙◌, ap, subst}
 use mathlib.Core.List.{List, [], ◌++◌}
 use lib.ListN.{length, take, drop, length-take, length-drop}
 use lib.Seq.{length-take-le, take-length}
-use borrow.Rule.Slice.PartMut.{put_mid}
 use Rattle.channels.proofs.Arrays.{long_field}
 use Rattle.senders.specs.Lent.{Steps}
 use Rattle.senders.specs.Answers.{sent_answer}
@@ -19,7 +18,7 @@ use Rattle.lines.proofs.Clips.{clip_clip}
 use Rattle.lines.proofs.Holds.{held_more}
 use Rattle.lines.proofs.Hears.{as_kept}
 use Rattle.lines.proofs.Ends.{ended_by_lem}
-use Rattle.lines.proofs.Progress.{Progress, starting, stopped, below, unchanged, held_up, turn, ended}
+use Rattle.lines.proofs.Progress.{starting, stopped, below, unchanged, held_up, turn, ended}
 use Rattle.lines.proofs.step.Console.step.Invariants.{con}
 use Rattle.lines.proofs.step.Console.step.Goals as goal
 
@@ -38,7 +37,6 @@ module _ (cells held : List ℕ) (len : ℕ) (more new : List ℕ) (n : ℕ) (ke
   ends : (back : List ℕ) (reply : Sent) {out text : List ℕ} → Steps view (line_rule (view cells) (take n new)) cells out (sent_answer reply) back text
       → EndedBy (session (con cells held len)) more out text reply (view back)
   ends back reply s = ended_by_lem (con cells held len) (take n new) more reply back (ap clip kept ∙ clip_clip (take len held ++ more)) s
-
 
 pub loop-at-init : goal.loop-at-init
 loop-at-init c =
@@ -105,9 +103,9 @@ returns-in_default c =
     let end = ends l.cells l.held l.len more c.hold-len.new.held c.hold-len.result kept call.new.cells call.result call.ensures in
     let line = take c.hold-len.result c.hold-len.new.held in
     let same =
-        as_kept {view = view} (answer (view l.cells) line)
-        (subst (λ (x : Sent). Steps view (line_rule (view l.cells) line) l.cells (from l.out l.end) (sent_answer x) call.new.cells call.new.out)
-        c.in_default.is call.ensures)
+    as_kept {view = view} (answer (view l.cells) line)
+    (subst (λ (x : Sent). Steps view (line_rule (view l.cells) line) l.cells (from l.out l.end) (sent_answer x) call.new.cells call.new.out)
+    c.in_default.is call.ensures)
     in
     held_up (con l.cells l.held l.len) l.invariant.0 c.find-n.ensures c.if-n-rest.false end
     (con call.new.cells c.hold-len.new.held c.hold-len.result) c.in_default.is
@@ -122,8 +120,8 @@ overflow_add-end c =
     let call = c.answer-reply in
     let end = ends l.cells l.held l.len more c.hold-len.new.held c.hold-len.result kept call.new.cells call.result call.ensures in
     let along =
-        turn (con l.cells l.held l.len) l.invariant.0 c.find-n.ensures c.if-n-rest.false end (record { tuner = view call.new.cells; begun = [] })
-        c.in-Written.is refl
+    turn (con l.cells l.held l.len) l.invariant.0 c.find-n.ensures c.if-n-rest.false end (record { tuner = view call.new.cells; begun = [] })
+    c.in-Written.is refl
     in
     omega (arith, along.buffer.within, along.buffer.size, c.well_formed)
 
@@ -136,8 +134,8 @@ overflow_add-at c =
     let call = c.answer-reply in
     let end = ends l.cells l.held l.len more c.hold-len.new.held c.hold-len.result kept call.new.cells call.result call.ensures in
     let along =
-        turn (con l.cells l.held l.len) l.invariant.0 c.find-n.ensures c.if-n-rest.false end (record { tuner = view call.new.cells; begun = [] })
-        c.in-Written.is refl
+    turn (con l.cells l.held l.len) l.invariant.0 c.find-n.ensures c.if-n-rest.false end (record { tuner = view call.new.cells; begun = [] })
+    c.in-Written.is refl
     in
     omega (arith, along.within, c.well_formed)
 
@@ -150,8 +148,8 @@ overflow_add-at-in-loop-at c =
     let call = c.answer-reply in
     let end = ends l.cells l.held l.len more c.hold-len.new.held c.hold-len.result kept call.new.cells call.result call.ensures in
     let along =
-        turn (con l.cells l.held l.len) l.invariant.0 c.find-n.ensures c.if-n-rest.false end (record { tuner = view call.new.cells; begun = [] })
-        c.in-Written.is refl
+    turn (con l.cells l.held l.len) l.invariant.0 c.find-n.ensures c.if-n-rest.false end (record { tuner = view call.new.cells; begun = [] })
+    c.in-Written.is refl
     in
     omega (arith, along.within, c.well_formed)
 
@@ -164,8 +162,8 @@ loop-at-smaller c =
     let call = c.answer-reply in
     let end = ends l.cells l.held l.len more c.hold-len.new.held c.hold-len.result kept call.new.cells call.result call.ensures in
     let along =
-        turn (con l.cells l.held l.len) l.invariant.0 c.find-n.ensures c.if-n-rest.false end (record { tuner = view call.new.cells; begun = [] })
-        c.in-Written.is refl
+    turn (con l.cells l.held l.len) l.invariant.0 c.find-n.ensures c.if-n-rest.false end (record { tuner = view call.new.cells; begun = [] })
+    c.in-Written.is refl
     in
     omega (arith, along.within)
 
@@ -178,8 +176,8 @@ loop-at-preserved c =
     let call = c.answer-reply in
     let end = ends l.cells l.held l.len more c.hold-len.new.held c.hold-len.result kept call.new.cells call.result call.ensures in
     let along =
-        turn (con l.cells l.held l.len) l.invariant.0 c.find-n.ensures c.if-n-rest.false end (record { tuner = view call.new.cells; begun = [] })
-        c.in-Written.is refl
+    turn (con l.cells l.held l.len) l.invariant.0 c.find-n.ensures c.if-n-rest.false end (record { tuner = view call.new.cells; begun = [] })
+    c.in-Written.is refl
     in
     (along, c.hold-len.ensures.size ∙ l.invariant.1)
 

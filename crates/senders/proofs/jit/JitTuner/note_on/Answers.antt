@@ -1,6 +1,5 @@
 -- `jit::JitTuner::note_on` meets its contract: that of the call in place. Assumes nothing.
 use Rattle.senders.proofs.Calls.{by_value}
-use borrow.Author.Rules.{rules}
 use Rattle.senders.proofs.jit.JitTuner.note_on.Goals as goal
 
 pub returns : goal.returns

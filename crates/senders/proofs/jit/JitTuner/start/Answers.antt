@@ -1,7 +1,5 @@
 -- `jit::JitTuner::start` meets its contract: the channel list's answer, and a tuner in which no key is found. Assumes nothing.
-use mathlib.Core.Path.{◌≡◌, sym, ap, ◌∙◌}
 use Rattle.pools.specs.Pool.{open_rule}
-use borrow.Author.Rules.{rules}
 use Rattle.senders.proofs.jit.JitTuner.start.Goals as goal
 
 pub returns : goal.returns
