@@ -8,6 +8,7 @@ ghost use Rattle.plans.specs.Plan.{plan_answer, detuning_answer, next_answer};
 ghost use Rattle.channels.specs.ChannelList.{channels_answer};
 ghost use Rattle.channels.specs.Places.{place};
 ghost use Rattle.pools.specs.PoolAnswers.{press, repitched, stopped_note};
+ghost use Rattle.pools.specs.PoolAnswers as PoolAnswers;
 ghost use Rattle.senders.specs.Answers.{sent_answer, press_answer};
 ghost use Rattle.plan_tuner.specs.Aot.{plan_sent};
 ghost use Rattle.capi.specs.Answers.{answer_of, of_sent, of_press, of_list, of_plan, of_plan_sent, registered_of, of_registered, is_stopped, note_or0};
@@ -285,7 +286,7 @@ fn registered_of(
     note: i32,
     detuning: f64,
 ) -> RegisteredKey
-    ensures { result ≡ registered_of outcome refusal channel (stopped_note stopped_note) note detuning }
+    ensures { result ≡ registered_of outcome refusal channel (PoolAnswers.stopped_note stopped_note) note detuning }
 {
     let stopped = is_stopped(stopped_note);
     let stopped_note = note_or_0(stopped_note);

@@ -38,7 +38,7 @@ use Rattle.plans.proofs.PlanBlocks.{zero_below}
 use Rattle.plans.proofs.PlanEntries.{planned_positive}
 use Rattle.senders.specs.Midi.{bytes_of}
 use Rattle.senders.specs.Lent.{Effect, fitted, told, Steps, Put, settled}
-use Rattle.plan_tuner.specs.Aot.{Tuner, view, tuner, with_plan, Planned, tunes, cannot, plan_messages, plan_effect}
+use Rattle.plan_tuner.specs.Aot.{Tuner, view, tuner, with_plan, Planned, tunes, plan_messages, plan_effect}
 use Rattle.plan_tuner.specs.Aot.{SomeFits, Smallest, Measurable, Ready, entry_of, placed}
 use Rattle.plan_tuner.specs.declared.aot.AotTuner.{AotTuner}
 use Rattle.senders.proofs.Lent.{ends_sent, handed_back, steps_held}

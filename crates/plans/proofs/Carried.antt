@@ -151,11 +151,13 @@ module _ (kind : GroupBy) (g : ℤ) where
       (Each-keep (λ (y : Line). f y ≡ true) (of_group kind g) t (on_first t ts (suc c) t (own_image (λ (l : Line). l.key) t))) in
       let rest : keep f (keep (of_group kind g) u) ≡ keep (up_to ts c) (keep (of_group kind g) u) = keep_same f (up_to ts c) (keep (of_group kind g) u)
       (Each-keep (λ (y : Line). f y ≡ up_to ts c y) (of_group kind g) u (on_others t ts c u (left_absent kind [] (x ∷ w) a))) in
-      entry_from_lem n u c (replaced kind g e t) (fewer kind n x w h) (Pairwise-later kind UpTo [] (x ∷ w) s) (Pairwise-later kind Other [] (x ∷ w) a) (omega arith)
+      entry_from_lem n u c (replaced kind g e t) (fewer kind n x w h) (Pairwise-later kind UpTo [] (x ∷ w) s)
+      (Pairwise-later kind Other [] (x ∷ w) a) (omega arith)
       ∙ ap (λ (o : Option Float). last_of o (keep (up_to ts c) (keep (of_group kind g) u))) (replaced_is kind g e t)
       ∙ sym
       (ap (λ (l : List Line). last_of e (keep f l)) (sym (split [] (x ∷ w) (unfold latest in refl) s))
-      ∙ ap (last_of e) (keep_append f (keep (of_group kind g) t) (keep (of_group kind g) u) ∙ ap (λ (l : List Line). l ++ keep f (keep (of_group kind g) u)) first
+      ∙ ap (last_of e) (keep_append f (keep (of_group kind g) t) (keep (of_group kind g) u)
+      ∙ ap (λ (l : List Line). l ++ keep f (keep (of_group kind g) u)) first
       ∙ ap (λ (l : List Line). keep (of_group kind g) t ++ l) rest)
       ∙ last_append e (keep (of_group kind g) t) (keep (up_to ts c) (keep (of_group kind g) u)))
 

@@ -91,7 +91,8 @@ module _ (by : GroupBy) (c : ℕ) (g : ℤ) where
         subst (λ (o : Option Float). Each (λ (x : KeyRecord). counts by c g x ≡ true → Under x.detuning o) (r ∷ rs)) (sym k) (λ u. q.0 e, q.1)
     | failed e ↦
         let k : highest by c g (r ∷ rs) ≡ highest by c g rs = rw e in
-        subst (λ (o : Option Float). Each (λ (x : KeyRecord). counts by c g x ≡ true → Under x.detuning o) (r ∷ rs)) (sym k) (λ u. absurd (true→T (sym e ∙ u)), highest_over rs h.1)
+        subst (λ (o : Option Float). Each (λ (x : KeyRecord). counts by c g x ≡ true → Under x.detuning o) (r ∷ rs)) (sym k)
+        (λ u. absurd (true→T (sym e ∙ u)), highest_over rs h.1)
   ]
     where
       go : (o : Option Float) → T (positive r.detuning) → Has (λ (d : Float). T (positive d)) o → (l : List KeyRecord)

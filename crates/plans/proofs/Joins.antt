@@ -42,7 +42,8 @@ joins_mono a b c p q r h k t =
     let x = div binary64 b a in
     let y = div binary64 c a in
     let under : T (lt y negligible_below) = and_r (le negligible_from y) (lt y negligible_below) t in
-    let y_positive : T (positive y) = positive_below negligible_from y negligible_below limits.0 limits.1 (and_l (le negligible_from y) (lt y negligible_below) t) under in
+    let y_positive : T (positive y) = positive_below negligible_from y negligible_below limits.0 limits.1
+    (and_l (le negligible_from y) (lt y negligible_below) t) under in
     let low : T (le one x) = div_at_least binary64 a b p q h in
     let high : T (le x y) = div_mono binary64 b c a a q r p p k (le_refl_positive a p) in
     let x_positive : T (positive x) = between one x y tt y_positive low high in
@@ -65,8 +66,10 @@ lt_not_le (fin true m e) y p q = absurd p
 lt_not_le (fin false m e) nan p q = absurd q
 lt_not_le (fin false m e) (inf t) p q = absurd q
 lt_not_le (fin false m e) (fin true n d) p q = absurd q
-lt_not_le (fin false m e) (fin false n d) p q = go (le (fin false n d) (fin false m e)) (le→cross (fin false n d) (fin false m e) q p) (cross→le (fin false n d) (fin false m e) q p)
+lt_not_le (fin false m e) (fin false n d) p q =
+    go (le (fin false n d) (fin false m e)) (le→cross (fin false n d) (fin false m e) q p) (cross→le (fin false n d) (fin false m e) q p)
   where
-    go : (b : Bool) → (T b → n * up d * down e ≤ m * up e * down d) → (n * up d * down e ≤ m * up e * down d → T b) → ltb (m * up e * down d) (n * up d * down e) ≡ not b
+    go : (b : Bool) → (T b → n * up d * down e ≤ m * up e * down d) → (n * up d * down e ≤ m * up e * down d → T b)
+        → ltb (m * up e * down d) (n * up d * down e) ≡ not b
     go true h k = le-ltb (m * up e * down d) (n * up d * down e) (h tt)
     go false h k = lt-ltb (m * up e * down d) (n * up d * down e) (lt_of_not-le λ u. k u)

@@ -41,7 +41,8 @@ pub record Sound (l : Line) : Type 0 where
   pub above : T (positive l.detuning)
   pub fitting : T (fits binary64 l.detuning)
 
-pub begins : (order cells : List ℕ) (ds : List Float) (rest : List (Outcome Line)) → Holds order cells ds 0 [] → Turn (line_by_line [] rest) order cells ds 0 rest
+pub begins : (order cells : List ℕ) (ds : List Float) (rest : List (Outcome Line)) → Holds order cells ds 0 []
+    → Turn (line_by_line [] rest) order cells ds 0 rest
 begins order cells ds rest h = record { lines = []; holds = h; ok = accepted_nil; left = refl }
 
 -- the line at hand was refused, and so is the list; or there is one line more
@@ -154,7 +155,8 @@ planned_positive d e =
     detuning_is d (planned_is d (and_l a b (true→T e)) (and_r a b (true→T e)))
 
 -- the nearest note's line
-pub nearest_sound : (k : ℕ) (hz : Float) (n : ℤ) (d : Float) → k < key_count → value (n, d) ≡ nearest_rule hz → Sound (record { key = k; note = n; detuning = d })
+pub nearest_sound : (k : ℕ) (hz : Float) (n : ℤ) (d : Float) → k < key_count → value (n, d) ≡ nearest_rule hz
+    → Sound (record { key = k; note = n; detuning = d })
 unfolding nearest_rule
 nearest_sound k hz n d b e = elim (outcome (is_pitch hz)) [
   | passed p ↦

@@ -19,12 +19,12 @@ use Rattle.channels.specs.Lists.{Each, upward}
 use Rattle.arithmetic.specs.Outcome.{value}
 use Rattle.channels.specs.ChannelList.{digits}
 use Rattle.plans.specs.declared.block.GroupBy.{GroupBy}
-use Rattle.channels.specs.declared.tuning_value.TuningKind.{TuningKind}
 use Rattle.plans.specs.Line.{Line}
 use Rattle.channels.specs.Places.{note_of}
 use Rattle.channels.specs.TuningValue.{kind_of}
 use Rattle.plans.specs.PlanBlock.{plan_settings, plan_cell_count, detuning_of, stored, list_at, group_by_of, group_by_at, plan_kind_at}
-use Rattle.plans.specs.Plan.{KeyRecord, Model, nobody, is_in, record_of, records_of, record_at, records_at, Answer, tuned, detuning_in, model_with, plan_at, empty, holding, planned}
+use Rattle.plans.specs.Plan.{KeyRecord, nobody, is_in, record_of, records_of, record_at, records_at}
+use Rattle.plans.specs.Plan.{tuned, detuning_in, model_with, plan_at, empty, holding, planned}
 use Rattle.plans.specs.Walk.{count}
 use Rattle.plans.specs.PlanInternal.{Accepted, Seats, SettingsSame}
 use Rattle.channels.proofs.ListLaws.{outcome, passed, failed, true→T}
@@ -85,7 +85,8 @@ not_nan (fin s m x) e = refl
 pub bits_back : (d : Float) → T (fits binary64 d) → lt (of_bits binary64 0) d ≡ true → detuning_of (to_bits binary64 d) ≡ stored d
 unfolding detuning_of stored
 bits_back d f e =
-    let n : nan_bits binary64 (to_bits binary64 d) ≡ false = nan_bits_is binary64 (to_bits binary64 d) ∙ ap is_nan (of_bits-to_bits binary64 d f) ∙ not_nan d e in
+    let n : nan_bits binary64 (to_bits binary64 d) ≡ false = nan_bits_is binary64 (to_bits binary64 d)
+    ∙ ap is_nan (of_bits-to_bits binary64 d f) ∙ not_nan d e in
     rw (n, e) (of_bits-to_bits binary64 d f)
 
 -- zero is below what is above zero

@@ -15,7 +15,7 @@ use Rattle.plans.specs.declared.block.GroupBy.{GroupBy}
 use Rattle.channels.specs.Lists.{Each, Distinct, member}
 use Rattle.plans.specs.Line.{Line, rising}
 use Rattle.plans.specs.PlanLists.{key_count, keys}
-use Rattle.plans.specs.Walk.{walk, count, seat, seat_from, entry, channels}
+use Rattle.plans.specs.Walk.{walk, count, seat, seat_from, entry}
 use Rattle.plans.specs.PlanInternal.{Accepted, Checked, Holds, Plans, Ready, Seats, lines_of}
 use Rattle.plans.specs.declared.placing.Planning.{Planning}
 use Rattle.plans.specs.Plan.{Model, Answer, tuned, untuned, empty, holding, planned, Smallest, records_of}

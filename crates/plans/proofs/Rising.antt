@@ -139,7 +139,8 @@ unfolding insert
 insert_first x [] h = refl
 insert_first x (y ∷ l) h = rw (T→true (le x.detuning y.detuning) h.0.ordered)
 
-keep_insert : (f : Line → Bool) (x : Line) (l : List Line) → Positive x → Each Positive l → Sorted l → keep f (insert x l) ≡ cond (f x) (insert x (keep f l)) (keep f l)
+keep_insert : (f : Line → Bool) (x : Line) (l : List Line) → Positive x → Each Positive l → Sorted l
+    → keep f (insert x l) ≡ cond (f x) (insert x (keep f l)) (keep f l)
 unfolding insert
 keep_insert f x [] p q s = refl
 keep_insert f x (y ∷ l) p q s = elim (outcome (le x.detuning y.detuning)) [
@@ -180,7 +181,11 @@ insert_append y x (z ∷ l) p q r = elim (outcome (le z.detuning x.detuning)) [
     | failed u ↦ simp (e, u, insert_append y x l p q r.1)
   ]
   | failed e ↦ elim (outcome (le y.detuning x.detuning)) [
-    | passed u ↦ simp (e, u, T→true (le y.detuning z.detuning) (le_trans_positive y.detuning x.detuning z.detuning p q r.0 (true→T u) (le_total z.detuning x.detuning r.0 q e)))
+    | passed u ↦ simp (
+      e,
+      u,
+      T→true (le y.detuning z.detuning) (le_trans_positive y.detuning x.detuning z.detuning p q r.0 (true→T u) (le_total z.detuning x.detuning r.0 q e)),
+    )
     | failed u ↦ elim (outcome (le y.detuning z.detuning)) [ passed v ↦ simp (e, u, v) | failed v ↦ simp (e, u, v) ]
   ]
 ]

@@ -92,11 +92,13 @@ module _ (t : List Line) (ts : List (List Line)) (w : List Line) where
       keep_same (λ (l : Line). eqb (number_of l.key (t ∷ ts)) 0) (λ (l : Line). member l.key (keys t)) w
       (Each-all (λ (l : Line). eqb (number_of l.key (t ∷ ts)) 0 ≡ member l.key (keys t)) (λ l. is_zero (member l.key (keys t)) (number_of l.key ts)) w)
 
-  number_suc : (c : ℕ) → keep (λ (l : Line). eqb (number_of l.key (t ∷ ts)) (suc c)) w ≡ keep (λ (l : Line). eqb (number_of l.key ts) c) (keep (λ (l : Line). not (member l.key (keys t))) w)
+  number_suc : (c : ℕ) → keep (λ (l : Line). eqb (number_of l.key (t ∷ ts)) (suc c)) w
+      ≡ keep (λ (l : Line). eqb (number_of l.key ts) c) (keep (λ (l : Line). not (member l.key (keys t))) w)
   unfolding number_of
   number_suc c =
       keep_same (λ (l : Line). eqb (number_of l.key (t ∷ ts)) (suc c)) (λ (l : Line). not (member l.key (keys t)) && eqb (number_of l.key ts) c) w
-      (Each-all (λ (l : Line). eqb (number_of l.key (t ∷ ts)) (suc c) ≡ (not (member l.key (keys t)) && eqb (number_of l.key ts) c)) (λ l. is_suc (member l.key (keys t)) (number_of l.key ts) c) w)
+      (Each-all (λ (l : Line). eqb (number_of l.key (t ∷ ts)) (suc c) ≡ (not (member l.key (keys t)) && eqb (number_of l.key ts) c))
+      (λ l. is_suc (member l.key (keys t)) (number_of l.key ts) c) w)
       ∙ sym (keep_keep (λ (l : Line). not (member l.key (keys t))) (λ (l : Line). eqb (number_of l.key ts) c) w)
 
 number_has : (t : List Line) (ts : List (List Line)) (k : ℕ) → T (member k (keys t)) → number_of k (t ∷ ts) < suc (length ts)
@@ -207,7 +209,10 @@ module _ (kind : GroupBy) where
     steps_here o taken [] l = tt
     steps_here o taken (x ∷ w) l = elim (outcome (of_group kind g x)) [
       | passed e ↦ elim (outcome (takes kind taken x)) [
-        | passed u ↦ rw (u, e) (subst (λ (p : Option Float). T (accepts p x.detuning)) l (subst (λ (b : Bool). T b) (takes_is g taken x e) (true→T u)), steps_here (some x.detuning) (next kind taken x) w (latest_taken g taken x e u))
+        | passed u ↦ rw (u, e) (
+          subst (λ (p : Option Float). T (accepts p x.detuning)) l (subst (λ (b : Bool). T b) (takes_is g taken x e) (true→T u)),
+          steps_here (some x.detuning) (next kind taken x) w (latest_taken g taken x e u),
+        )
         | failed u ↦ rw u (steps_here o (next kind taken x) w (latest_left g taken x u ∙ l))
       ]
       | failed e ↦ elim (outcome (takes kind taken x)) [
@@ -269,7 +274,12 @@ module _ (kind : GroupBy) where
       let P : List Line → Type 0 = λ m. keep (λ (l : Line). member l.key (keys m)) (x ∷ w) ≡ m in
       elim (outcome (takes kind taken x)) [
         | passed u ↦
-            subst P (sym (here_yes taken x w u)) (rw (T→true (eqb x.key x.key) (eqb_refl x.key), keep_same (λ (l : Line). member l.key (keys (x ∷ t))) (λ (l : Line). member l.key (keys t)) w (Each-map (λ y d. rw d) w a.0), r))
+            subst P (sym (here_yes taken x w u))
+            (rw (
+              T→true (eqb x.key x.key) (eqb_refl x.key),
+              keep_same (λ (l : Line). member l.key (keys (x ∷ t))) (λ (l : Line). member l.key (keys t)) w (Each-map (λ y d. rw d) w a.0),
+              r,
+            ))
         | failed u ↦ subst P (sym (here_no taken x w u)) (rw (absent x t (Each-here (Other x) (next kind taken x) w a.0), r))
       ]
 
@@ -281,7 +291,13 @@ module _ (kind : GroupBy) where
       let P : List Line → Type 0 = λ m. keep (λ (l : Line). not (member l.key (keys m))) (x ∷ w) ≡ later kind taken (x ∷ w) in
       elim (outcome (takes kind taken x)) [
         | passed u ↦
-            subst P (sym (here_yes taken x w u)) (rw (later_yes taken x w u, T→true (eqb x.key x.key) (eqb_refl x.key), keep_same (λ (l : Line). not (member l.key (keys (x ∷ t)))) (λ (l : Line). not (member l.key (keys t))) w (Each-map (λ y d. rw d) w a.0), r))
+            subst P (sym (here_yes taken x w u))
+            (rw (
+              later_yes taken x w u,
+              T→true (eqb x.key x.key) (eqb_refl x.key),
+              keep_same (λ (l : Line). not (member l.key (keys (x ∷ t)))) (λ (l : Line). not (member l.key (keys t))) w (Each-map (λ y d. rw d) w a.0),
+              r,
+            ))
         | failed u ↦
             subst P (sym (here_no taken x w u)) (rw (later_no taken x w u, absent x t (Each-here (Other x) (next kind taken x) w a.0), r))
       ]
@@ -293,7 +309,8 @@ module _ (kind : GroupBy) where
   -- ---- the walk over the channels
 
   -- some group has as many runs as the walk has channels
-  pub fullest : (n : ℕ) (w : List Line) → Sorted w → 0 < length (channels kind n w) → (g : ℤ) × (length (channels kind n w) ≤ runs none (keep (of_group kind g) w))
+  pub fullest : (n : ℕ) (w : List Line) → Sorted w → 0 < length (channels kind n w)
+      → (g : ℤ) × (length (channels kind n w) ≤ runs none (keep (of_group kind g) w))
   unfolding channels
   fullest zero w s h = absurd (let z : ⊥ = omega arith in z)
   fullest (suc n) [] s h = absurd (let z : ⊥ = omega arith in z)
@@ -302,7 +319,8 @@ module _ (kind : GroupBy) where
       go (length rest) refl (fullest n (later kind [] (x ∷ w)) (Pairwise-later UpTo [] (x ∷ w) s))
     where
       go : (m : ℕ) → length (channels kind n (later kind [] (x ∷ w))) ≡ m
-          → (0 < length (channels kind n (later kind [] (x ∷ w))) → (g : ℤ) × (length (channels kind n (later kind [] (x ∷ w))) ≤ runs none (keep (of_group kind g) (later kind [] (x ∷ w)))))
+          → (0 < length (channels kind n (later kind [] (x ∷ w)))
+          → (g : ℤ) × (length (channels kind n (later kind [] (x ∷ w))) ≤ runs none (keep (of_group kind g) (later kind [] (x ∷ w)))))
           → (g : ℤ) × (suc (length (channels kind n (later kind [] (x ∷ w)))) ≤ runs none (keep (of_group kind g) (x ∷ w)))
       go zero e f = (group kind x.note, rw (e, own_group kind x) (suc-le-suc zero-le))
       go (suc m) e f =
@@ -318,7 +336,8 @@ module _ (kind : GroupBy) where
   channels_steps (suc n) (x ∷ w) (suc c) g = channels_steps n (later kind [] (x ∷ w)) c g
 
   -- each channel has a key
-  pub channels_full : (n : ℕ) (w : List Line) (c : ℕ) → c < length (channels kind n w) → (x : Line) × (l : List Line) × (get_or (channels kind n w) c [] ≡ x ∷ l)
+  pub channels_full : (n : ℕ) (w : List Line) (c : ℕ) → c < length (channels kind n w)
+      → (x : Line) × (l : List Line) × (get_or (channels kind n w) c [] ≡ x ∷ l)
   unfolding channels
   channels_full zero w c h = absurd (let z : ⊥ = omega arith in z)
   channels_full (suc n) [] c h = absurd (let z : ⊥ = omega arith in z)

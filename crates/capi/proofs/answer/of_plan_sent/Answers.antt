@@ -1,16 +1,15 @@
 -- `answer::of_plan_sent` meets its contract, by the cases of what it is given.
 use Rattle.capi.specs.Answers.{of_plan_sent}
-use borrow.Author.Rules.{rules}
 use Rattle.capi.proofs.answer.of_plan_sent.Goals as goal
 
 pub returns-in-Tuned : goal.returns-in-Tuned
 unfolding of_plan_sent
-returns-in-Tuned c = rw c.plan-1.given.1 c.answer_of.ensures
+returns-in-Tuned c = rw c.in-Tuned.is c.answer_of.ensures
 
 pub returns-in-Untuned : goal.returns-in-Untuned
 unfolding of_plan_sent
-returns-in-Untuned c = rw c.plan-in-Untuned-1.given.1 c.answer_of-in-Untuned.ensures
+returns-in-Untuned c = rw c.in-Untuned.is c.answer_of-in-Untuned.ensures
 
 pub returns-in-Refused : goal.returns-in-Refused
 unfolding of_plan_sent
-returns-in-Refused c = rw c.plan-in-Refused-1.given.1 c.answer_of-in-Refused.ensures
+returns-in-Refused c = rw c.in-Refused.is c.answer_of-in-Refused.ensures

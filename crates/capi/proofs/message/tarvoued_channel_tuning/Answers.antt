@@ -1,6 +1,5 @@
 -- `message::tarvoued_channel_tuning` meets its contract, by those that it calls.
 use Rattle.capi.proofs.Entries.{entry_meets}
-use borrow.Author.Rules.{rules}
 use Rattle.capi.proofs.message.tarvoued_channel_tuning.Goals as goal
 
 pub returns : goal.returns

@@ -1,6 +1,5 @@
 -- `message::tarvoued_message_control_change` meets its contract, by computing.
 use Rattle.capi.specs.Message.{message_of}
-use borrow.Author.Rules.{rules}
 use Rattle.capi.proofs.message.tarvoued_message_control_change.Goals as goal
 
 pub returns : goal.returns

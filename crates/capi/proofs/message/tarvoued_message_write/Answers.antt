@@ -1,6 +1,5 @@
 -- `message::tarvoued_message_write` meets its contract, by those that it calls.
 use Rattle.capi.proofs.Entries.{entry_meets}
-use borrow.Author.Rules.{rules}
 use Rattle.capi.proofs.message.tarvoued_message_write.Goals as goal
 
 pub returns : goal.returns

@@ -2,7 +2,6 @@
 use mathlib.Core.Path.{ap, ◌∙◌}
 use Rattle.plan_tuner.proofs.PlanCalls.{key_found}
 use Rattle.capi.specs.Answers.{of_place}
-use borrow.Author.Rules.{rules}
 use Rattle.capi.proofs.plan.tarvoued_plan_lookup.Goals as goal
 
 pub returns : goal.returns

@@ -3,11 +3,13 @@ use mathlib.Core.Path.{ap, ◌∙◌}
 use Rattle.plans.specs.Plan.{Model, Answer}
 use Rattle.capi.specs.Answers.{of_plan}
 use Rattle.capi.proofs.Entries.{plan_read}
-use borrow.Author.Rules.{rules}
 use Rattle.capi.proofs.plan.tarvoued_plan_model_set_tuning_of_pitches.Goals as goal
 
 pub returns : goal.returns
 returns c =
     let e = c.set_tuning_of_pitches.ensures in
-    let answered = ap (λ (x : Model × Answer). x.1) e.0.0 in
-    ((c.of_plan.ensures ∙ ap of_plan answered, rw answered at e.0), rw (c.of_plan.ensures, plan_read _) e.1)
+    let answered = ap (λ (x : Model × Answer). x.1) e.tunes.0 in
+    record {
+      fact = (c.of_plan.ensures ∙ ap of_plan answered, rw answered at e.tunes);
+      smallest = rw (c.of_plan.ensures, plan_read _) e.smallest;
+    }

@@ -2,7 +2,6 @@
 use mir.Facts.{to_z-of_z}
 use mathlib.Core.Path.{ap, ◌∙◌}
 use Rattle.capi.specs.Answers.{of_entry}
-use borrow.Author.Rules.{rules}
 use Rattle.capi.proofs.plan.tarvoued_plan_next_detuning.Goals as goal
 
 pub returns : goal.returns

@@ -1,6 +1,5 @@
 -- `pool::tarvoued_pool_global_attr` meets its contract, by the tuner's call in place.
 use Rattle.capi.proofs.Entries.{entry_meets}
-use borrow.Author.Rules.{rules}
 use Rattle.capi.proofs.pool.tarvoued_pool_global_attr.Goals as goal
 
 pub returns : goal.returns

@@ -4,18 +4,17 @@ use Rattle.channels.specs.ChannelList.{channels_answer}
 use Rattle.pools.specs.Pool.{open_rule}
 use Rattle.capi.specs.Answers.{of_list}
 use Rattle.capi.proofs.Entries.{view_of}
-use borrow.Author.Rules.{rules}
 use Rattle.capi.proofs.pool.tarvoued_pool_model_open.Goals as goal
 
 pub returns-in-Listed : goal.returns-in-Listed
 unfolding channels_answer open_rule
 returns-in-Listed c =
-    let listed = sym (ap channels_answer c.answer-1.given.1) ∙ c.of-answer.ensures in
+    let listed = sym (ap channels_answer c.in-Listed.is) ∙ c.of-answer.ensures in
     let e = rw (c.pooling_mode_of.ensures, c.pool_group_of.ensures) at c.open.ensures in
-    rw (sym listed) (c.of_list.ensures, view_of c.open.new.0 _ _ e.0 e.1)
+    rw (sym listed) (c.of_list.ensures, view_of c.open.new.cells _ _ e.0 e.1)
 
 pub returns-in-Refused : goal.returns-in-Refused
 unfolding channels_answer open_rule
 returns-in-Refused c =
-    let e = sym (ap channels_answer c.enum_told-1.given.1) ∙ c.of-answer.ensures in
+    let e = sym (ap channels_answer c.in-Refused.is) ∙ c.of-answer.ensures in
     rw (sym e) (c.of_list-in-Refused.ensures ∙ ap of_list (c.of-answer.ensures ∙ sym e), refl)

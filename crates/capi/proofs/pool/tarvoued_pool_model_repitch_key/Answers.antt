@@ -1,7 +1,6 @@
 -- `pool::tarvoued_pool_model_repitch_key` meets its contract, by the model's call in place.
 use mathlib.Core.Path.{ap, ◌∙◌}
 use Rattle.capi.specs.Answers.{of_repitched}
-use borrow.Author.Rules.{rules}
 use Rattle.capi.proofs.pool.tarvoued_pool_model_repitch_key.Goals as goal
 
 pub returns : goal.returns

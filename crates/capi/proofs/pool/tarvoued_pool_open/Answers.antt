@@ -1,7 +1,6 @@
 -- `pool::tarvoued_pool_open` meets its contract, by the tuner's call in place.
 use mathlib.Core.Path.{ap, ◌∙◌}
 use Rattle.capi.specs.Answers.{of_list}
-use borrow.Author.Rules.{rules}
 use Rattle.capi.proofs.pool.tarvoued_pool_open.Goals as goal
 
 pub returns : goal.returns

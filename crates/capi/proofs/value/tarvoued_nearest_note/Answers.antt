@@ -1,7 +1,6 @@
 -- `value::tarvoued_nearest_note` meets its contract, by those that it calls.
 use mathlib.Core.Path.{ap, ◌∙◌}
 use Rattle.capi.specs.Answers.{of_nearest}
-use borrow.Author.Rules.{rules}
 use Rattle.capi.proofs.value.tarvoued_nearest_note.Goals as goal
 
 pub returns : goal.returns

@@ -2,7 +2,6 @@
 use mir.Facts.{to_z-of_z}
 use mathlib.Core.Path.{ap, ◌∙◌}
 use Rattle.capi.specs.Answers.{of_pitch}
-use borrow.Author.Rules.{rules}
 use Rattle.capi.proofs.value.tarvoued_note_pitch.Goals as goal
 
 pub returns : goal.returns

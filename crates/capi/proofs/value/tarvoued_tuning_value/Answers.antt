@@ -1,7 +1,6 @@
 -- `value::tarvoued_tuning_value` meets its contract, by those that it calls.
 use mathlib.Core.Path.{ap, ◌∙◌}
 use Rattle.capi.specs.Answers.{of_tuning}
-use borrow.Author.Rules.{rules}
 use Rattle.capi.proofs.value.tarvoued_tuning_value.Goals as goal
 
 pub returns : goal.returns

@@ -15,7 +15,7 @@ use Rattle.senders.specs.Message.{Message}
 use Rattle.senders.specs.Midi.{bytes_of}
 use Rattle.plan_tuner.specs.Aot.{channel_messages, Measurable}
 use Rattle.senders.proofs.Lent.{put_none, put_then}
-use Rattle.plan_tuner.proofs.Tunings.{tunings, up_to, first_more, behind}
+use Rattle.plan_tuner.proofs.Tunings.{tunings, first_more, behind}
 use Rattle.plan_tuner.proofs.block.put_tunings.Goals as goal
 use Rattle.plan_tuner.proofs.block.put_tunings.Goals.{After-entry_of-entry}
 

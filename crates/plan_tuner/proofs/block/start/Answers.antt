@@ -1,5 +1,5 @@
 -- `plan_tuner::block::start` meets its contract, by the channel list's answer. Assumes nothing.
-use mathlib.Core.Path.{◌≡◌, refl, sym, ap, ◌∙◌}
+use mathlib.Core.Path.{refl, sym, ap, ◌∙◌}
 use Rattle.channels.specs.ChannelList.{entries, channels_answer}
 use Rattle.plans.specs.Plan.{Model, open_rule, empty}
 use Rattle.plans.specs.PlanBlock.{plan_kind_at}

@@ -5,7 +5,6 @@ use mir.Facts.{to_z-of_z}
 use borrow.Author.Tests.{lt-ltb, le-ltb}
 use Rattle.plans.specs.declared.block.GroupBy.{GroupBy}
 use Rattle.plans.specs.Plan.{detuning_in, highest, records_at}
-use borrow.Author.Rules.{rules}
 use Rattle.plans.proofs.block.detuning.Goals as goal
 
 pub returns-then-num_channels-channel : goal.returns-then-num_channels-channel

@@ -1,7 +1,6 @@
 -- `block::group_by` meets its contract. Assumes nothing.
 use borrow.Author.Tests.{eq-eqb, ne_eqb}
 use Rattle.plans.specs.PlanBlock.{group_by_of, group_by_at}
-use borrow.Author.Rules.{rules}
 use Rattle.plans.proofs.block.group_by.Goals as goal
 
 pub returns-then-number-eq1 : goal.returns-then-number-eq1

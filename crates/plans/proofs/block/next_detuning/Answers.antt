@@ -41,14 +41,14 @@ pub returns-in-Detuning : goal.returns-in-Detuning
 unfolding next_rule detuning_in
 returns-in-Detuning c =
     let m = plan_at c.args.cells.now in
-    let d = c.detuning-1.given.0.0 in
+    let d = c.in-Detuning.detuning in
     ap (λ (z : ℤ). some (z, d)) (least-is (goal.at.returns-in-Detuning c).After-least_group-group)
     ∙ entry_found m.group_by c.args.channel c.args.from (records_at c.args.cells.now) (ltb c.args.channel m.num_channels) d
-    (answered (goal.at.returns-in-Detuning c).After-detuning ∙ ap detuning_answer c.detuning-1.given.1)
+    (answered (goal.at.returns-in-Detuning c).After-detuning ∙ ap detuning_answer c.in-Detuning.is)
 
 pub returns-in-NoEntry : goal.returns-in-NoEntry
 unfolding next_rule detuning_in
 returns-in-NoEntry c =
     let m = plan_at c.args.cells.now in
     entry_lost m.group_by c.args.channel c.args.from (records_at c.args.cells.now) (ltb c.args.channel m.num_channels)
-    (answered (goal.at.returns-in-NoEntry c).After-detuning ∙ ap detuning_answer c.enum_told-1.given.1)
+    (answered (goal.at.returns-in-NoEntry c).After-detuning ∙ ap detuning_answer c.in-NoEntry.is)

@@ -2,7 +2,6 @@
 use borrow.Author.Tests.{eq-eqb, ne_eqb}
 use Rattle.channels.specs.TuningValue.{kind_of}
 use Rattle.plans.specs.PlanBlock.{plan_kind_at}
-use borrow.Author.Rules.{rules}
 use Rattle.plans.proofs.block.tuning_kind.Goals as goal
 
 pub returns-then-cells-eq1 : goal.returns-then-cells-eq1

@@ -2,7 +2,7 @@
 use mathlib.Core.Path.{◌≡◌, sym, ap, ◌∙◌}
 use mathlib.Core.Bool.{true, false, ◌&&◌}
 use mathlib.Core.List.{List}
-use Prim.Native.Nat.{ℕ, ◌+◌, ◌≤◌, ◌-◌}
+use Prim.Native.Nat.{ℕ, ◌+◌, ◌-◌}
 use native.Mathlib.Omega.{arith}
 use lib.Dec.{leb}
 use lib.IntN.{ℤ}
@@ -23,7 +23,6 @@ use Rattle.plans.proofs.Slots.{group_note}
 use Rattle.channels.proofs.RecordNumbers.{note_read}
 use Rattle.plans.proofs.Records.{highest_none, highest_yes, highest_no, counts_not, counts_own, counts_other, in_note}
 use Rattle.plans.proofs.PlanBlocks.{record_here, records_count}
-use borrow.Author.Rules.{rules}
 use Rattle.plans.proofs.entries.highest.Goals as goal
 use Rattle.plans.proofs.entries.highest.Goals.{After-group_of, After-note_of, After-record_at-cell, Start, Then-is_up_to}
 
@@ -35,7 +34,9 @@ long : (s : Start) → length (rs s) ≡ key_count
 long s = records_count s.args.cells.now
 
 pub loop-i-init : goal.loop-i-init
-loop-i-init c = (omega arith, highest_none c.args.by c.args.channel (to_z w32 (of_z w32 c.args.group)) (rs (goal.at.loop-i-init c).Start) (omega (arith, long (goal.at.loop-i-init c).Start)))
+loop-i-init c =
+    let t = (goal.at.loop-i-init c).Start in
+    (omega arith, highest_none c.args.by c.args.channel (to_z w32 (of_z w32 c.args.group)) (rs t) (omega (arith, long t)))
 
 pub overflow_sub-i : goal.overflow_sub-i
 overflow_sub-i c = omega arith
@@ -109,10 +110,13 @@ loop-i-smaller-then-group_of-group c = omega arith
 
 pub loop-i-preserved-then-group_of-group : goal.loop-i-preserved-then-group_of-group
 loop-i-preserved-then-group_of-group c =
-    let same : group (by (goal.at.loop-i-preserved-then-group_of-group c).After-record_at-cell) (note_of (cell (goal.at.loop-i-preserved-then-group_of-group c).After-record_at-cell)) ≡ g (goal.at.loop-i-preserved-then-group_of-group c).After-record_at-cell = sym (grouped (goal.at.loop-i-preserved-then-group_of-group c).After-group_of) ∙ sym (to_z-of_z (group-fits (goal.at.loop-i-preserved-then-group_of-group c).After-group_of)) ∙ ap (to_z w32) c.if-group_of-group.true in (
+    let t = (goal.at.loop-i-preserved-then-group_of-group c).After-record_at-cell in
+    let u = (goal.at.loop-i-preserved-then-group_of-group c).After-group_of in
+    let v = (goal.at.loop-i-preserved-then-group_of-group c).Then-is_up_to in
+    let same : group (by t) (note_of (cell t)) ≡ g t = sym (grouped u) ∙ sym (to_z-of_z (group-fits u)) ∙ ap (to_z w32) c.if-group_of-group.true in (
       omega arith,
       c.larger-best.ensures ∙ ap (λ (x : Float). larger x (detuning_answer c.loop-i.best)) c.detuning_at.ensures
-          ∙ counted (goal.at.loop-i-preserved-then-group_of-group c).After-record_at-cell (counts_own (by (goal.at.loop-i-preserved-then-group_of-group c).After-record_at-cell) (ch (goal.at.loop-i-preserved-then-group_of-group c).After-record_at-cell) (g (goal.at.loop-i-preserved-then-group_of-group c).After-record_at-cell) (record_of (cell (goal.at.loop-i-preserved-then-group_of-group c).After-record_at-cell) (d (goal.at.loop-i-preserved-then-group_of-group c).After-record_at-cell)) (up_to (goal.at.loop-i-preserved-then-group_of-group c).Then-is_up_to) same),
+          ∙ counted t (counts_own (by t) (ch t) (g t) (record_of (cell t) (d t)) (up_to v) same),
     )
 
 pub loop-i-smaller-else-group_of-group : goal.loop-i-smaller-else-group_of-group
@@ -120,17 +124,20 @@ loop-i-smaller-else-group_of-group c = omega arith
 
 pub loop-i-preserved-else-group_of-group : goal.loop-i-preserved-else-group_of-group
 loop-i-preserved-else-group_of-group c =
-    (
+    let t = (goal.at.loop-i-preserved-else-group_of-group c).After-record_at-cell in
+    let u = (goal.at.loop-i-preserved-else-group_of-group c).After-group_of in (
       omega arith,
-      passed-by (goal.at.loop-i-preserved-else-group_of-group c).After-record_at-cell (counts_other (by (goal.at.loop-i-preserved-else-group_of-group c).After-record_at-cell) (ch (goal.at.loop-i-preserved-else-group_of-group c).After-record_at-cell) (g (goal.at.loop-i-preserved-else-group_of-group c).After-record_at-cell) (record_of (cell (goal.at.loop-i-preserved-else-group_of-group c).After-record_at-cell) (d (goal.at.loop-i-preserved-else-group_of-group c).After-record_at-cell))
-          (λ e. c.if-group_of-group.false (ap (of_z w32) (grouped (goal.at.loop-i-preserved-else-group_of-group c).After-group_of ∙ e ∙ to_z-of_z (s (goal.at.loop-i-preserved-else-group_of-group c).After-record_at-cell).ranges.group)))),
+      passed-by t (counts_other (by t) (ch t) (g t) (record_of (cell t) (d t))
+          (λ e. c.if-group_of-group.false (ap (of_z w32) (grouped u ∙ e ∙ to_z-of_z (s t).ranges.group)))),
     )
 
 pub loop-i-smaller : goal.loop-i-smaller
 loop-i-smaller c = omega arith
 
 pub loop-i-preserved : goal.loop-i-preserved
-loop-i-preserved c = (omega arith, passed-by (goal.at.loop-i-preserved c).After-record_at-cell (counts_not (by (goal.at.loop-i-preserved c).After-record_at-cell) (ch (goal.at.loop-i-preserved c).After-record_at-cell) (g (goal.at.loop-i-preserved c).After-record_at-cell) (record_of (cell (goal.at.loop-i-preserved c).After-record_at-cell) (d (goal.at.loop-i-preserved c).After-record_at-cell)) (sym (c.is_up_to.ensures (d (goal.at.loop-i-preserved c).After-record_at-cell)) ∙ c.if-is_up_to.false)))
+loop-i-preserved c =
+    let t = (goal.at.loop-i-preserved c).After-record_at-cell in
+    (omega arith, passed-by t (counts_not (by t) (ch t) (g t) (record_of (cell t) (d t)) (sym (c.is_up_to.ensures (d t)) ∙ c.if-is_up_to.false)))
 
 pub returns : goal.returns
 returns c =

@@ -1,23 +1,18 @@
 -- `entries::larger` meets its contract, by its cases. Assumes nothing.
-use mathlib.Core.Path.{◌≡◌, sym, ap, ◌∙◌}
+use mathlib.Core.Path.{◌≡◌}
+use mathlib.Core.Bool.{Bool}
 use lib.Ieee.{Float, le}
-use borrow.Author.Rules.{rules}
 use Rattle.plans.proofs.entries.larger.Goals as goal
-use Rattle.plans.proofs.entries.larger.Goals.{After-le}
 
 pub returns-in-NoEntry : goal.returns-in-NoEntry
-returns-in-NoEntry c = rw c.enum_told-1.given.1
+returns-in-NoEntry c = rw c.in-NoEntry.is
 
 -- the two detunings, compared
-compared : (c : After-le) → le c.before.before.before.before.before.before.args.detuning
-    c.before.before.before.before.other-1.given.0.0 ≡ c.le.result
-compared c =
-    sym
-    (c.le.ensures ∙ ap (λ (x : Float). le x c.before.from_float-in-Detuning.result.float_value) c.before.before.from_float.ensures
-    ∙ ap (λ (x : Float). le c.before.before.before.before.before.before.args.detuning x) c.before.from_float-in-Detuning.ensures)
+compared : (a b x y : Float) (r q : Bool) → r ≡ le x y → x ≡ a → y ≡ b → r ≡ q → le a b ≡ q
+compared a b x y r q e f g h = cc
 
 pub returns-then-le : goal.returns-then-le
-returns-then-le c = rw (c.other-1.given.1, compared (goal.at.returns-then-le c).After-le ∙ c.if-le.true)
+returns-then-le c = rw (c.in-Detuning.is, compared _ _ _ _ _ _ c.le.ensures c.from_float.ensures c.from_float-in-Detuning.ensures c.if-le.true)
 
 pub returns-else-le : goal.returns-else-le
-returns-else-le c = rw (c.other-1.given.1, compared (goal.at.returns-else-le c).After-le ∙ c.if-le.false)
+returns-else-le c = rw (c.in-Detuning.is, compared _ _ _ _ _ _ c.le.ensures c.from_float.ensures c.from_float-in-Detuning.ensures c.if-le.false)

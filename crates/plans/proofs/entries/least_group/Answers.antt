@@ -1,7 +1,7 @@
 -- `entries::least_group` meets its contract. The loop's invariant: the records from `i` on go on from the least so far. Assumes nothing.
 use mathlib.Core.Path.{◌≡◌, refl, sym, ap, ◌∙◌}
 use mathlib.Core.List.{List}
-use Prim.Native.Nat.{ℕ, ◌≤◌, ◌-◌, ◌+◌}
+use Prim.Native.Nat.{ℕ, ◌+◌}
 use native.Mathlib.Omega.{arith}
 use lib.IntN.{ℤ, pos}
 use lib.ListN.{get_or, drop}
@@ -43,9 +43,9 @@ loop-i-preserved c =
     ∙ ap (λ (n : ℕ). record_of n d) (sym c.record_at-cell.ensures) in (
       omega arith,
       l.invariant.1
-          ∙ least_next a.by a.channel from (to_z w32 l.least) (rs (goal.at.loop-i-preserved c).Start) i nobody (omega (arith, records_count a.cells.now))
+          ∙ least_next a.by a.channel from (to_z w32 l.least-bits) (rs (goal.at.loop-i-preserved c).Start) i nobody (omega (arith, records_count a.cells.now))
           ∙ ap (λ (z : ℤ). least_from a.by a.channel from z (drop (i + 1) (rs (goal.at.loop-i-preserved c).Start)))
-          (ap (lower a.by a.channel from (to_z w32 l.least)) here ∙ sym (to_z-of_z f ∙ c.lower-least.ensures d)),
+          (ap (lower a.by a.channel from (to_z w32 l.least-bits)) here ∙ sym (to_z-of_z f ∙ c.lower-least.ensures d)),
     )
 
 pub returns : goal.returns
@@ -54,5 +54,5 @@ returns c =
     let l = c.loop-i in
     sym
     (ap (λ (z : ℤ). least_from a.by a.channel z (pos 501) (rs (goal.at.returns c).Start)) (sym (to_z-of_z c.ranges.from))
-    ∙ l.invariant.1 ∙ least_end a.by a.channel (to_z w32 (of_z w32 a.from)) (to_z w32 l.least) (rs (goal.at.returns c).Start) l.i
+    ∙ l.invariant.1 ∙ least_end a.by a.channel (to_z w32 (of_z w32 a.from)) (to_z w32 l.least-bits) (rs (goal.at.returns c).Start) l.i
     (omega (arith, records_count a.cells.now)))

@@ -8,7 +8,6 @@ use lib.Ieee.{Float, nan}
 use mir.Syntax.{w32}
 use mir.Val.{SFits, to_z, of_z}
 use mir.Facts.{to_z-of_z}
-use borrow.Author.Tests.{not-true, not-false}
 use Rattle.arithmetic.specs.Note.{is_note}
 use Rattle.arithmetic.proofs.Notes.{note_fits}
 use Rattle.plans.specs.Line.{group}
@@ -18,17 +17,16 @@ use Rattle.plans.specs.PlanInternal.{lower}
 use Rattle.plans.proofs.Slots.{group_note}
 use Rattle.plans.proofs.Records.{in_note}
 use Rattle.channels.proofs.RecordNumbers.{note_read}
-use borrow.Author.Rules.{rules}
 use Rattle.plans.proofs.entries.lower.Goals as goal
 use Rattle.plans.proofs.entries.lower.Goals.{After-group_of-group, After-note_of, Else-not-is_up_to, Start}
 
 pub returns-then-not-is_up_to : goal.returns-then-not-is_up_to
 unfolding lower
-returns-then-not-is_up_to c = rw (sym (c.is_up_to.ensures d) ∙ not-true _ c.if-not-is_up_to.true-raw) (to_z-of_z c.ranges.least)
+returns-then-not-is_up_to c d = rw (sym (c.is_up_to.ensures d) ∙ c.if-not-is_up_to.true) (to_z-of_z c.ranges.least)
 
 up_to : (c : Else-not-is_up_to) (d : Float)
     → let a = c.before.before.args in (leb (record_of a.cell d).channel a.channel && is_in (record_of a.cell d)) ≡ true
-up_to c d = sym (c.before.is_up_to.ensures d) ∙ not-false _ c.if-not-is_up_to.false-raw
+up_to c d = sym (c.before.is_up_to.ensures d) ∙ c.if-not-is_up_to.false
 
 a_note : (c : Else-not-is_up_to) → is_note (note_of c.before.before.args.cell) ≡ true
 a_note c = let a = c.before.before.args in in_note (leb (record_of a.cell nan).channel a.channel) (record_of a.cell nan) (up_to c nan)
@@ -51,40 +49,49 @@ group-fits c = let a = c.before.before.before.before.args in
 
 pub returns-then-group-from : goal.returns-then-group-from
 unfolding lower
-returns-then-group-from c =
-    let b : lt_z (g (goal.at.returns-then-group-from c).Start) c.args.from ≡ true = rw (to_z-of_z (group-fits (goal.at.returns-then-group-from c).After-group_of-group), to_z-of_z c.ranges.from, grouped (goal.at.returns-then-group-from c).After-group_of-group) at c.if-group-from.true in
-    rw (up_to (goal.at.returns-then-group-from c).Else-not-is_up_to d, b) (to_z-of_z c.ranges.least)
+returns-then-group-from c d =
+    let t = (goal.at.returns-then-group-from c).Start in
+    let u = (goal.at.returns-then-group-from c).After-group_of-group in
+    let v = (goal.at.returns-then-group-from c).Else-not-is_up_to in
+    let b : lt_z (g t) c.args.from ≡ true = rw (to_z-of_z (group-fits u), to_z-of_z c.ranges.from, grouped u) at c.if-group-from.true in
+    rw (up_to v d, b) (to_z-of_z c.ranges.least)
 
 pub returns-then-least-group : goal.returns-then-least-group
 unfolding lower
-returns-then-least-group c =
-    let b : lt_z (g (goal.at.returns-then-least-group c).Start) c.args.from ≡ false = rw (
-      to_z-of_z (group-fits (goal.at.returns-then-least-group c).After-group_of-group),
+returns-then-least-group c d =
+    let t = (goal.at.returns-then-least-group c).Start in
+    let u = (goal.at.returns-then-least-group c).After-group_of-group in
+    let v = (goal.at.returns-then-least-group c).Else-not-is_up_to in
+    let b : lt_z (g t) c.args.from ≡ false = rw (
+      to_z-of_z (group-fits u),
       to_z-of_z c.ranges.from,
       grouped
-          (goal.at.returns-then-least-group c).After-group_of-group,
+          u,
     ) at c.if-group-from.false in
-    let e : le_z c.args.least (g (goal.at.returns-then-least-group c).Start) ≡ true = rw (
-      to_z-of_z (group-fits (goal.at.returns-then-least-group c).After-group_of-group),
+    let e : le_z c.args.least (g t) ≡ true = rw (
+      to_z-of_z (group-fits u),
       to_z-of_z c.ranges.least,
       grouped
-          (goal.at.returns-then-least-group c).After-group_of-group,
+          u,
     ) at c.if-least-group.true in
-    rw (up_to (goal.at.returns-then-least-group c).Else-not-is_up_to d, b, e) (to_z-of_z c.ranges.least)
+    rw (up_to v d, b, e) (to_z-of_z c.ranges.least)
 
 pub returns : goal.returns
 unfolding lower
-returns c =
-    let b : lt_z (g (goal.at.returns c).Start) c.args.from ≡ false = rw (
-      to_z-of_z (group-fits (goal.at.returns c).After-group_of-group),
+returns c d =
+    let t = (goal.at.returns c).Start in
+    let u = (goal.at.returns c).After-group_of-group in
+    let v = (goal.at.returns c).Else-not-is_up_to in
+    let b : lt_z (g t) c.args.from ≡ false = rw (
+      to_z-of_z (group-fits u),
       to_z-of_z c.ranges.from,
       grouped
-          (goal.at.returns c).After-group_of-group,
+          u,
     ) at c.if-group-from.false in
-    let e : le_z c.args.least (g (goal.at.returns c).Start) ≡ false = rw (
-      to_z-of_z (group-fits (goal.at.returns c).After-group_of-group),
+    let e : le_z c.args.least (g t) ≡ false = rw (
+      to_z-of_z (group-fits u),
       to_z-of_z c.ranges.least,
       grouped
-          (goal.at.returns c).After-group_of-group,
+          u,
     ) at c.if-least-group.false in
-    rw (up_to (goal.at.returns c).Else-not-is_up_to d, b, e) (to_z-of_z (group-fits (goal.at.returns c).After-group_of-group) ∙ grouped (goal.at.returns c).After-group_of-group)
+    rw (up_to v d, b, e) (to_z-of_z (group-fits u) ∙ grouped u)

@@ -1,6 +1,5 @@
 -- `placing::assign` meets its contract: refused lists leave the records as they were, and the others are passed over once. Assumes nothing.
 use mathlib.Core.Path.{refl}
-use borrow.Author.Rules.{rules}
 use Rattle.plans.proofs.placing.assign.Goals as goal
 
 pub returns-then-refusal-ne-ACCEPTED : goal.returns-then-refusal-ne-ACCEPTED

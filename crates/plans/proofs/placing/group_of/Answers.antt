@@ -11,12 +11,11 @@ use Rattle.arithmetic.proofs.Notes.{letter_below}
 use mathlib.Core.Path.{◌≡◌, sym, ap, ◌∙◌}
 use mir.Syntax.{w32}
 use Rattle.plans.specs.Line.{group}
-use borrow.Author.Rules.{rules}
 use Rattle.plans.proofs.placing.group_of.Goals as goal
 
 pub returns-in-Note : goal.returns-in-Note
 unfolding group
-returns-in-Note c = rw (c.enum_told-1.given.1, to_z-of_z c.ranges.note)
+returns-in-Note c = rw (c.in-Note.is, to_z-of_z c.ranges.note)
 
 named : (z : ℤ) (n : ℕ) → is_note z ≡ true → value n ≡ letter_rule z → n ≡ letter_of z
 unfolding letter_rule
@@ -29,15 +28,15 @@ unnamed z n h e = let f : refused n ≡ value (letter_of z) = rw h at e in let w
 pub returns-in-Letter : goal.returns-in-Letter
 unfolding group
 returns-in-Letter c =
-    let e : c.number-1.given.0.0 ≡ letter_of c.args.note = named _ _ c.requires
-    (sym (ap letter_answer c.number-1.given.1) ∙ c.letter.ensures ∙ ap letter_rule (to_z-of_z c.ranges.note)) in
-    rw c.enum_told-in-NoteLetter-1.given.1 (to_z_pos w32 (omega (arith, e, letter_below c.args.note)) ∙ ap pos e)
+    let e : c.in-Letter.number ≡ letter_of c.args.note = named _ _ c.requires
+    (sym (ap letter_answer c.in-Letter.is) ∙ c.letter.ensures ∙ ap letter_rule (to_z-of_z c.ranges.note)) in
+    rw c.in-NoteLetter.is (to_z_pos w32 (omega (arith, e, letter_below c.args.note)) ∙ ap pos e)
 
 pub returns-in-Refused : goal.returns-in-Refused
 returns-in-Refused c =
-    absurd (unnamed _ _ c.requires (sym (ap letter_answer c.enum_told-in-Refused-1.given.1) ∙ c.letter.ensures
+    absurd (unnamed _ _ c.requires (sym (ap letter_answer c.in-Refused.is) ∙ c.letter.ensures
     ∙ ap letter_rule (to_z-of_z c.ranges.note)))
 
 pub returns-in-Channel : goal.returns-in-Channel
 unfolding group
-returns-in-Channel c = rw c.enum_told-in-Channel-1.given.1
+returns-in-Channel c = rw c.in-Channel.is

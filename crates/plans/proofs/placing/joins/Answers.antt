@@ -3,7 +3,6 @@ use mathlib.Core.Path.{ap, ◌∙◌}
 use lib.Ieee.{Float, binary64, div}
 use Rattle.arithmetic.specs.Pitch.{negligible}
 use Rattle.plans.specs.Line.{joins}
-use borrow.Author.Rules.{rules}
 use Rattle.plans.proofs.placing.joins.Goals as goal
 
 pub returns : goal.returns

@@ -1,12 +1,10 @@
 -- `placing::place_keys` meets its contract. The loop's invariant is the pass at a key. Assumes nothing.
 use mathlib.Core.Path.{◌≡◌, refl, sym, ◌∙◌, subst}
-use mathlib.Core.Logic.{⊎_elim}
 use mathlib.Core.Bool.{true}
 use mathlib.Core.List.{List, ◌∷◌, map}
-use Prim.Native.Nat.{ℕ, ◌+◌, ◌-◌, ◌<◌, ◌≤◌, max}
+use Prim.Native.Nat.{ℕ, ◌+◌, ◌<◌, max}
 use native.Mathlib.Omega.{arith}
 use lib.ListN.{get_or, take, drop}
-use borrow.Author.Rules.{rules}
 use Rattle.arithmetic.specs.Note.{is_note}
 use Rattle.plans.specs.declared.block.GroupBy.{GroupBy}
 use Rattle.channels.specs.Lists.{Each}
@@ -17,7 +15,7 @@ use Rattle.channels.proofs.Arrays.{rest_cons, rest_nil}
 use Rattle.plans.proofs.SortedKeys.{zeros, zeros_at}
 use Rattle.plans.proofs.Pass.{Pass, pass_begins, pass_next, pass_ends, used_few, own_lines, each_drop}
 use Rattle.plans.proofs.placing.place_keys.Goals as goal
-use Rattle.plans.proofs.placing.place_keys.Goals.{In-loop-i, Start}
+use Rattle.plans.proofs.placing.place_keys.Goals.{In-loop-i, else-count-channels, then-count-channels}
 
 pub loop-i-init : goal.loop-i-init
 unfolding zeros lines_of
@@ -30,23 +28,20 @@ loop-i-init c =
 
 -- ---- in a turn
 module _ (c : In-loop-i) where
-  abbrev s : Start
-  s = c.before.before.before.before.before
-
   abbrev ord : List ℕ
-  ord = s.args.order.now
+  ord = c.args.order.now
 
   abbrev by : GroupBy
-  by = s.args.by
+  by = c.args.by
 
   abbrev i : ℕ
-  i = c.before.loop-i.i
+  i = c.loop-i.i
 
   abbrev n : ℕ
-  n = s.args.n
+  n = c.args.n
 
   abbrev line : ℕ → Line
-  line = line_at s.args.records.now s.args.detunings.now
+  line = line_at c.args.records.now c.args.detunings.now
 
   abbrev x : Line
   x = line (get_or ord i 0)
@@ -58,30 +53,30 @@ module _ (c : In-loop-i) where
   rest = map line (drop (i + 1) (take n ord))
 
   here : drop i (take n ord) ≡ get_or ord i 0 ∷ drop (i + 1) (take n ord)
-  here = rest_cons n ord i 0 c.loop-i-test.true (omega (arith, s.requires.order_long, s.requires.few))
+  here = rest_cons n ord i 0 c.loop-i-test.true (omega (arith, c.requires.order_long, c.requires.few))
 
-  pass : Pass by all c.before.loop-i.records c.before.loop-i.latest c.before.loop-i.used c.before.loop-i.count i (x ∷ rest)
+  pass : Pass by all c.loop-i.records c.loop-i.latest c.loop-i.used c.loop-i.count i (x ∷ rest)
   pass =
-      subst (λ (l : List ℕ). Pass by all c.before.loop-i.records c.before.loop-i.latest c.before.loop-i.used c.before.loop-i.count i (map line l))
+      subst (λ (l : List ℕ). Pass by all c.loop-i.records c.loop-i.latest c.loop-i.used c.loop-i.count i (map line l))
       here
-      c.before.loop-i.invariant.1
+      c.loop-i.invariant.1
 
   next : (P : Line → Type 0) → Each P all → P x
   next P h = (subst (λ (l : List ℕ). Each P (map line l)) here (each_drop P line (take n ord) i h)).0
 
   a_note : is_note x.note ≡ true
   unfolding lines_of
-  a_note = next (λ (y : Line). is_note y.note ≡ true) s.requires.ok.notes
+  a_note = next (λ (y : Line). is_note y.note ≡ true) c.requires.ok.notes
 
   small : get_or ord i 0 < key_count
   unfolding lines_of
-  small = next (λ (y : Line). y.key < key_count) s.requires.ok.bytes
+  small = next (λ (y : Line). y.key < key_count) c.requires.ok.bytes
 
 pub offset_bounds-order-i : goal.offset_bounds-order-i
-offset_bounds-order-i c = omega (arith, (s (goal.at.offset_bounds-order-i c).In-loop-i).requires.few)
+offset_bounds-order-i c = omega (arith, c.requires.few)
 
 pub bounds-order-i : goal.bounds-order-i
-bounds-order-i c = omega (arith, (s (goal.at.bounds-order-i c).In-loop-i).requires.few, (s (goal.at.bounds-order-i c).In-loop-i).requires.order_long, c.loop-i-test.true)
+bounds-order-i c = omega (arith, c.requires.few, c.requires.order_long, c.loop-i-test.true)
 
 pub overflow_cast-key : goal.overflow_cast-key
 overflow_cast-key c = record { fits = omega (arith, small (goal.at.overflow_cast-key c).In-loop-i) }
@@ -90,34 +85,39 @@ pub offset_bounds-detunings-key : goal.offset_bounds-detunings-key
 offset_bounds-detunings-key c = record { fits = omega (arith, small (goal.at.offset_bounds-detunings-key c).In-loop-i) }
 
 pub bounds-detunings-key : goal.bounds-detunings-key
-bounds-detunings-key c = omega (arith, small (goal.at.bounds-detunings-key c).In-loop-i, (s (goal.at.bounds-detunings-key c).In-loop-i).requires.detunings_long)
+bounds-detunings-key c = omega (arith, small (goal.at.bounds-detunings-key c).In-loop-i, c.requires.detunings_long)
 
 pub place_key-channels-requires : goal.place_key-channels-requires
 place_key-channels-requires c =
-    let p = pass (goal.at.place_key-channels-requires c).In-loop-i in
+    let t = (goal.at.place_key-channels-requires c).In-loop-i in
+    let p = pass t in
     let l = c.loop-i in
-    let u = used_few (by (goal.at.place_key-channels-requires c).In-loop-i) (all (goal.at.place_key-channels-requires c).In-loop-i) l.records l.latest l.used l.count (i (goal.at.place_key-channels-requires c).In-loop-i) (x (goal.at.place_key-channels-requires c).In-loop-i) (rest (goal.at.place_key-channels-requires c).In-loop-i) p (a_note (goal.at.place_key-channels-requires c).In-loop-i) in (
+    let u = used_few (by t) (all t) l.records l.latest l.used l.count (i t) (x t) (rest t) p (a_note t) in (
       p.cells_long,
       p.latest_long,
       p.used_long,
-      small (goal.at.place_key-channels-requires c).In-loop-i,
-      rw p.noted.0 (a_note (goal.at.place_key-channels-requires c).In-loop-i),
-      rw p.noted.0 (omega (arith, u, c.loop-i-test.true, (s (goal.at.place_key-channels-requires c).In-loop-i).requires.few)),
+      small t,
+      rw p.noted.0 (a_note t),
+      rw p.noted.0 (omega (arith, u, c.loop-i-test.true, c.requires.few)),
     )
 
 pub overflow_add-i : goal.overflow_add-i
-overflow_add-i c = omega (arith, c.loop-i-test.true, (s (goal.at.overflow_add-i c).In-loop-i).requires.few)
+overflow_add-i c = omega (arith, c.loop-i-test.true, c.requires.few)
 
 pub loop-i-smaller : goal.loop-i-smaller
 loop-i-smaller c = omega arith
 
 pub loop-i-preserved : goal.loop-i-preserved
 loop-i-preserved c =
+    let t = (goal.at.loop-i-preserved c).In-loop-i in
     let l = c.loop-i in
     let q = c.place_key-channels in
-    let grown : c.if-count-channels.count ≡ max l.count q.result = ⊎_elim (λ w. omega arith) (λ w. omega arith) c.if-count-channels.branch in (
+    let grown : c.if-count-channels.count ≡ max l.count q.result = elim c.if-count-channels.branch [
+      | then-count-channels w ↦ omega arith
+      | else-count-channels w ↦ omega arith
+    ] in (
       omega arith,
-      pass_next (by (goal.at.loop-i-preserved c).In-loop-i) (all (goal.at.loop-i-preserved c).In-loop-i) l.records l.latest l.used l.count (i (goal.at.loop-i-preserved c).In-loop-i) (x (goal.at.loop-i-preserved c).In-loop-i) (rest (goal.at.loop-i-preserved c).In-loop-i) (pass (goal.at.loop-i-preserved c).In-loop-i) (a_note (goal.at.loop-i-preserved c).In-loop-i) (small (goal.at.loop-i-preserved c).In-loop-i) q.result _ _ _
+      pass_next (by t) (all t) l.records l.latest l.used l.count (i t) (x t) (rest t) (pass t) (a_note t) (small t) q.result _ _ _
           q.ensures c.if-count-channels.count grown,
     )
 

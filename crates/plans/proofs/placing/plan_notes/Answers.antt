@@ -8,37 +8,36 @@ use Rattle.arithmetic.specs.Outcome.{Outcome}
 use Rattle.plans.specs.Line.{Line}
 use Rattle.plans.specs.PlanLists.{note_lists}
 use Rattle.plans.proofs.Planned.{ready_if, plans}
-use borrow.Author.Rules.{rules}
 use Rattle.plans.proofs.placing.plan_notes.Goals as goal
-use Rattle.plans.proofs.placing.plan_notes.Goals.{After-note_lists-refusal, Start}
+use Rattle.plans.proofs.placing.plan_notes.Goals.{After-note_lists-refusal}
 
 pub note_lists-refusal-requires : goal.note_lists-refusal-requires
 note_lists-refusal-requires c = c.requires _ refl
 
 -- what the check of the lists left
 module _ (c : After-note_lists-refusal) where
-  abbrev s : Start
-  s = c.before.before.before.before.before.before.before.before
-
   abbrev o : Outcome (List Line)
-  o = let a = s.args in note_lists a.keys.now a.notes.now a.detunings.now
+  o = let a = c.args in note_lists a.keys.now a.notes.now a.detunings.now
 
   abbrev order : List ℕ
-  order = c.note_lists-refusal.new.1.1.1.0
+  order = c.note_lists-refusal.new.order
 
   abbrev cells : List ℕ
-  cells = c.note_lists-refusal.new.1.1.1.1.0
+  cells = c.note_lists-refusal.new.records
 
   abbrev ds : List Float
-  ds = c.note_lists-refusal.new.1.1.1.1.1.0
+  ds = c.note_lists-refusal.new.by_key
 
   abbrev n : ℕ
-  n = length s.args.keys.now
+  n = length c.args.keys.now
 
 pub assign-requires : goal.assign-requires
-assign-requires c = ready_if (s (goal.at.assign-requires c).After-note_lists-refusal).args.by (o (goal.at.assign-requires c).After-note_lists-refusal) c.note_lists-refusal.result (order (goal.at.assign-requires c).After-note_lists-refusal) (cells (goal.at.assign-requires c).After-note_lists-refusal) (ds (goal.at.assign-requires c).After-note_lists-refusal) (n (goal.at.assign-requires c).After-note_lists-refusal) c.note_lists-refusal.ensures
+assign-requires c =
+    let t = (goal.at.assign-requires c).After-note_lists-refusal in
+    ready_if c.args.by (o t) c.note_lists-refusal.result (order t) (cells t) (ds t) (n t) c.note_lists-refusal.ensures
 
 pub returns : goal.returns
 returns c =
+    let t = (goal.at.returns c).After-note_lists-refusal in
     let p = c.assign in
-    plans (s (goal.at.returns c).After-note_lists-refusal).args.by (o (goal.at.returns c).After-note_lists-refusal) c.note_lists-refusal.result (order (goal.at.returns c).After-note_lists-refusal) (cells (goal.at.returns c).After-note_lists-refusal) (ds (goal.at.returns c).After-note_lists-refusal) (n (goal.at.returns c).After-note_lists-refusal) p.result _ c.note_lists-refusal.ensures p.ensures.0 p.ensures.1
+    plans c.args.by (o t) c.note_lists-refusal.result (order t) (cells t) (ds t) (n t) p.result _ c.note_lists-refusal.ensures p.ensures.0 p.ensures.1

@@ -8,38 +8,37 @@ use Rattle.arithmetic.specs.Outcome.{Outcome}
 use Rattle.plans.specs.Line.{Line}
 use Rattle.plans.specs.PlanLists.{pitch_lists}
 use Rattle.plans.proofs.Planned.{ready_if, plans}
-use borrow.Author.Rules.{rules}
 use Rattle.plans.proofs.placing.plan_pitches.Goals as goal
-use Rattle.plans.proofs.placing.plan_pitches.Goals.{After-pitch_lists-refusal, Start}
+use Rattle.plans.proofs.placing.plan_pitches.Goals.{After-pitch_lists-refusal}
 
 pub pitch_lists-refusal-requires : goal.pitch_lists-refusal-requires
 pitch_lists-refusal-requires c = c.requires _ refl
 
 -- what the check of the lists left
 module _ (c : After-pitch_lists-refusal) where
-  abbrev s : Start
-  s = c.before.before.before.before.before.before.before.before
-
   abbrev o : Outcome (List Line)
-  o = let a = s.args in pitch_lists a.keys.now a.pitches.now
+  o = let a = c.args in pitch_lists a.keys.now a.pitches.now
 
   abbrev order : List ℕ
-  order = c.pitch_lists-refusal.new.1.1.0
+  order = c.pitch_lists-refusal.new.order
 
   abbrev cells : List ℕ
-  cells = c.pitch_lists-refusal.new.1.1.1.0
+  cells = c.pitch_lists-refusal.new.records
 
   abbrev ds : List Float
-  ds = c.pitch_lists-refusal.new.1.1.1.1.0
+  ds = c.pitch_lists-refusal.new.by_key
 
   abbrev n : ℕ
-  n = length s.args.keys.now
+  n = length c.args.keys.now
 
 pub assign-requires : goal.assign-requires
-assign-requires c = ready_if (s (goal.at.assign-requires c).After-pitch_lists-refusal).args.by (o (goal.at.assign-requires c).After-pitch_lists-refusal) c.pitch_lists-refusal.result (order (goal.at.assign-requires c).After-pitch_lists-refusal) (cells (goal.at.assign-requires c).After-pitch_lists-refusal) (ds (goal.at.assign-requires c).After-pitch_lists-refusal) (n (goal.at.assign-requires c).After-pitch_lists-refusal) c.pitch_lists-refusal.ensures
+assign-requires c =
+    let t = (goal.at.assign-requires c).After-pitch_lists-refusal in
+    ready_if c.args.by (o t) c.pitch_lists-refusal.result (order t) (cells t) (ds t) (n t) c.pitch_lists-refusal.ensures
 
 pub returns : goal.returns
 returns c =
+    let t = (goal.at.returns c).After-pitch_lists-refusal in
     let p = c.assign in
-    plans (s (goal.at.returns c).After-pitch_lists-refusal).args.by (o (goal.at.returns c).After-pitch_lists-refusal) c.pitch_lists-refusal.result (order (goal.at.returns c).After-pitch_lists-refusal) (cells (goal.at.returns c).After-pitch_lists-refusal) (ds (goal.at.returns c).After-pitch_lists-refusal) (n (goal.at.returns c).After-pitch_lists-refusal) p.result _ c.pitch_lists-refusal.ensures p.ensures.0
+    plans c.args.by (o t) c.pitch_lists-refusal.result (order t) (cells t) (ds t) (n t) p.result _ c.pitch_lists-refusal.ensures p.ensures.0
     p.ensures.1

@@ -6,7 +6,6 @@ use native.Mathlib.Numerals.{add-one}
 use lib.Ieee.{Float}
 use Rattle.plans.specs.Line.{joins}
 use Rattle.plans.specs.PlanInternal.{channels_with}
-use borrow.Author.Rules.{rules}
 use Rattle.plans.proofs.placing.with_key.Goals as goal
 
 joined : (n : ℕ) (b d : Float) → (n ≡ 0 → ⊥) → joins b d ≡ true → n ≡ channels_with n b d

@@ -1,23 +1,21 @@
 -- `sorted_keys::add_note` meets its contract, by its two tests. Assumes nothing.
 use mathlib.Core.Path.{◌≡◌, sym, ap, ◌∙◌}
-use mathlib.Core.Bool.{true}
+use mathlib.Core.Bool.{true, not}
 use native.Mathlib.Omega.{arith}
 use mir.Facts.{to_z-of_z}
-use borrow.Author.Tests.{not-true, not-false}
 use Rattle.arithmetic.specs.Note.{is_note}
 use Rattle.arithmetic.proofs.Notes.{no_note, a_note}
 use Rattle.plans.specs.Line.{Line}
 use Rattle.plans.specs.PlanLists.{is_planned, note_line}
 use Rattle.plans.proofs.Lines.{line_refused, no_note_line, no_detuning_line, a_note_line, planned_positive}
-use borrow.Author.Rules.{rules}
 use Rattle.plans.proofs.sorted_keys.add_note.Goals as goal
-use Rattle.plans.proofs.sorted_keys.add_note.Goals.{Else-not-is_planned, Start}
+use Rattle.plans.proofs.sorted_keys.add_note.Goals.{Else-not-is_planned}
 
 pub returns-then-not-is_note : goal.returns-then-not-is_note
 returns-then-not-is_note c =
     let a = c.args in
     line_refused (note_line a.key a.note a.detuning) 4
-    (no_note_line a.key a.note a.detuning (no_note a.note c.ranges.note c.is_note.ensures c.if-not-is_note.true-raw))
+    (no_note_line a.key a.note a.detuning (no_note a.note c.ranges.note c.is_note.ensures (ap not c.if-not-is_note.true)))
     (omega arith) _ _ _ _ _ _ _
 
 pub returns-then-not-is_planned : goal.returns-then-not-is_planned
@@ -25,24 +23,20 @@ returns-then-not-is_planned c =
     let a = c.args in
     line_refused (note_line a.key a.note a.detuning) 3
     (no_detuning_line a.key a.note a.detuning
-    (a_note a.note c.ranges.note c.is_note.ensures c.if-not-is_note.false-raw)
-    (sym c.is_planned.ensures ∙ not-true _ c.if-not-is_planned.true-raw)) (omega arith) _ _ _ _ _ _ _
+    (a_note a.note c.ranges.note c.is_note.ensures (ap not c.if-not-is_note.false))
+    (sym c.is_planned.ensures ∙ c.if-not-is_planned.true)) (omega arith) _ _ _ _ _ _ _
 
 -- the line passed by itself
 module _ (c : Else-not-is_planned) where
-  abbrev s : Start
-  s = c.before.before.before.before.before.before.before
+  noted : is_note c.args.note ≡ true
+  noted = a_note c.args.note c.ranges.note c.is_note.ensures (ap not c.if-not-is_note.false)
 
-  noted : is_note s.args.note ≡ true
-  noted = a_note s.args.note s.ranges.note c.before.before.before.is_note.ensures c.before.before.if-not-is_note.false-raw
-
-  planned : is_planned s.args.detuning ≡ true
-  planned = sym c.before.is_planned.ensures ∙ not-false _ c.if-not-is_planned.false-raw
+  planned : is_planned c.args.detuning ≡ true
+  planned = sym c.is_planned.ensures ∙ c.if-not-is_planned.false
 
 pub add-requires : goal.add-requires
 add-requires c =
-    let a = c.args in
-    (
+    let a = c.args in (
       c.requires.0,
       c.requires.1,
       ap is_note (to_z-of_z c.ranges.note) ∙ noted (goal.at.add-requires c).Else-not-is_planned,
@@ -50,8 +44,9 @@ add-requires c =
     )
 
 pub returns : goal.returns
-returns c =
-    let a = (s (goal.at.returns c).Else-not-is_planned).args in
+returns c lines ok h =
+    let t = (goal.at.returns c).Else-not-is_planned in
+    let a = c.args in
     let l : Line = record { key = a.key; note = a.note; detuning = a.detuning } in
     let add = c.add in
-    rw (a_note_line a.key a.note a.detuning (noted (goal.at.returns c).Else-not-is_planned) (planned (goal.at.returns c).Else-not-is_planned)) (rw (to_z-of_z (s (goal.at.returns c).Else-not-is_planned).ranges.note) at (add.ensures lines ok h))
+    rw (a_note_line a.key a.note a.detuning (noted t) (planned t)) (rw (to_z-of_z c.ranges.note) at (add.ensures lines ok h))

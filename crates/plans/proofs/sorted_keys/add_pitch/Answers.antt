@@ -15,41 +15,37 @@ use Rattle.plans.specs.PlanLists.{pitch_line}
 use Rattle.plans.proofs.Lines.{Sound, line_refused, nearest_sound, nearest_refused, a_pitch_line, no_pitch_line}
 use borrow.Author.Rules.{rules}
 use Rattle.plans.proofs.sorted_keys.add_pitch.Goals as goal
-use Rattle.plans.proofs.sorted_keys.add_pitch.Goals.{After-find_by_pitch, In-Nearest, Start}
-
--- what the call answers, of the line's pitch
-answered : (c : After-find_by_pitch) → approximation c.find_by_pitch.result ≡ nearest_rule c.before.before.before.before.before.args.hz
-answered c = c.find_by_pitch.ensures ∙ ap nearest_rule c.before.from_hz.ensures
+use Rattle.plans.proofs.sorted_keys.add_pitch.Goals.{In-Nearest}
 
 -- the line of the nearest note
 module _ (c : In-Nearest) where
-  abbrev s : Start
-  s = c.before.before.before.before.before.before.before.before
-
   abbrev line : Line
-  line = record { key = s.args.key; note = c.before.note-1.given.0.0; detuning = c.before.note-1.given.0.1.0 }
+  line = record { key = c.args.key; note = c.in-Nearest.note; detuning = c.in-Nearest.detuning }
 
-  nearest : ◌≡◌ {A = Outcome (ℤ × Float)} (value (line.note, line.detuning)) (nearest_rule s.args.hz)
-  nearest = sym (ap approximation c.before.note-1.given.1) ∙ answered c.before.before.before
+  nearest : ◌≡◌ {A = Outcome (ℤ × Float)} (value (line.note, line.detuning)) (nearest_rule c.args.hz)
+  nearest = sym (ap approximation c.in-Nearest.is) ∙ (c.find_by_pitch.ensures ∙ ap nearest_rule c.from_hz.ensures)
 
   sound : Sound line
-  sound = nearest_sound line.key s.args.hz line.note line.detuning s.requires.1 nearest
+  sound = nearest_sound line.key c.args.hz line.note line.detuning c.requires.1 nearest
 
   plain : to_z w32 (of_z w32 line.note) ≡ line.note
   plain = let f : SFits w32 line.note = search rules in to_z-of_z f
 
 pub add-requires : goal.add-requires
-add-requires c = ((s (goal.at.add-requires c).In-Nearest).requires.0, (s (goal.at.add-requires c).In-Nearest).requires.1, ap is_note (plain (goal.at.add-requires c).In-Nearest) ∙ (sound (goal.at.add-requires c).In-Nearest).note, (sound (goal.at.add-requires c).In-Nearest).above)
+add-requires c =
+    let t = (goal.at.add-requires c).In-Nearest in
+    (c.requires.0, c.requires.1, ap is_note (plain t) ∙ (sound t).note, (sound t).above)
 
 pub returns-in-Refused : goal.returns-in-Refused
 returns-in-Refused c =
     let a = c.args in
-    let n = c.number-1.given.0.0 in
-    let e : refused n ≡ nearest_rule a.hz = sym (ap approximation c.number-1.given.1) ∙ answered (goal.at.returns-in-Refused c).After-find_by_pitch in
+    let n = c.in-Refused.number in
+    let e : refused n ≡ nearest_rule a.hz = sym (ap approximation c.in-Refused.is) ∙ (c.find_by_pitch.ensures ∙ ap nearest_rule c.from_hz.ensures) in
     line_refused (pitch_line a.key a.hz) n (no_pitch_line a.key a.hz n e) (omega (arith, nearest_refused a.hz n e)) _ _ _ _ _ _ _
 
 pub returns-in-Nearest : goal.returns-in-Nearest
-returns-in-Nearest c =
-    let a = (s (goal.at.returns-in-Nearest c).In-Nearest).args in
-    rw (a_pitch_line a.key a.hz (line (goal.at.returns-in-Nearest c).In-Nearest).note (line (goal.at.returns-in-Nearest c).In-Nearest).detuning (nearest (goal.at.returns-in-Nearest c).In-Nearest))
-    (rw (plain (goal.at.returns-in-Nearest c).In-Nearest) at (c.add.ensures lines ok h))
+returns-in-Nearest c lines ok h =
+    let t = (goal.at.returns-in-Nearest c).In-Nearest in
+    let a = c.args in
+    rw (a_pitch_line a.key a.hz (line t).note (line t).detuning (nearest t))
+    (rw (plain t) at (c.add.ensures lines ok h))

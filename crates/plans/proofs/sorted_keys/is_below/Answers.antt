@@ -1,7 +1,6 @@
 -- `sorted_keys::is_below` meets its contract: what the ratios' methods ensure, one after the other. Assumes nothing.
 use mathlib.Core.Path.{ap, ◌∙◌}
 use lib.Ieee.{Float, lt}
-use borrow.Author.Rules.{rules}
 use Rattle.plans.proofs.sorted_keys.is_below.Goals as goal
 
 pub returns : goal.returns

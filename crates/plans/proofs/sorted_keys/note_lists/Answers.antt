@@ -1,7 +1,7 @@
 -- `sorted_keys::note_lists` meets its contract. The loop's invariant: the lines so far are held, and the lines that are left decide. Assumes nothing.
 use mathlib.Core.Path.{◌≡◌, sym, ◌∙◌, subst}
 use mathlib.Core.List.{List, [], ◌∷◌}
-use Prim.Native.Nat.{ℕ, ◌≤◌, ◌<◌, ◌+◌, ◌-◌}
+use Prim.Native.Nat.{ℕ, ◌<◌, ◌+◌}
 use native.Mathlib.Omega.{arith}
 use lib.IntN.{ℤ, pos}
 use lib.Ieee.{Float, nan}
@@ -17,7 +17,7 @@ use Rattle.plans.specs.PlanLists.{key_count, line_by_line, note_line, note_lines
 use Rattle.plans.proofs.Lines.{Turn, begins, turn_refused, turn_next, ended, ended_early, note_line_at, note_lines_end, note_lists_equal}
 use Rattle.plans.proofs.Lines.{note_lists_unequal}
 use Rattle.plans.proofs.sorted_keys.note_lists.Goals as goal
-use Rattle.plans.proofs.sorted_keys.note_lists.Goals.{After-add_note-refusal, In-loop-i, Start}
+use Rattle.plans.proofs.sorted_keys.note_lists.Goals.{After-add_note-refusal, In-loop-i}
 
 pub returns-then-notes-n : goal.returns-then-notes-n
 returns-then-notes-n c = ended_early _ _ _ _ _ 12 (note_lists_unequal _ _ _ (λ p q. c.if-notes-n.true p)) (omega arith)
@@ -30,20 +30,17 @@ loop-i-init c = (omega arith, begins _ _ _ _ c.requires)
 
 -- in a turn
 module _ (c : In-loop-i) where
-  abbrev s : Start
-  s = c.before.before.before.before.before.before.before.before.before
-
   abbrev ks : List ℕ
-  ks = s.args.keys.now
+  ks = c.args.keys.now
 
   abbrev ns : List ℤ
-  ns = s.args.notes.now
+  ns = c.args.notes.now
 
   abbrev ds : List Float
-  ds = s.args.detunings.now
+  ds = c.args.detunings.now
 
   abbrev i : ℕ
-  i = c.before.loop-i.i
+  i = c.loop-i.i
 
   abbrev o : Outcome (List Line)
   o = line_by_line [] (note_lines ks ns ds)
@@ -55,15 +52,15 @@ module _ (c : In-loop-i) where
   rest = note_lines (drop (i + 1) ks) (drop (i + 1) ns) (drop (i + 1) ds)
 
   whole : note_lists ks ns ds ≡ o
-  whole = note_lists_equal ks ns ds c.before.before.before.if-notes-n.false c.before.before.if-detunings-n.false
+  whole = note_lists_equal ks ns ds c.if-notes-n.false c.if-detunings-n.false
 
-  turn : Turn o c.before.loop-i.order c.before.loop-i.records c.before.loop-i.by_key i (line ∷ rest)
-  turn = subst (Turn o c.before.loop-i.order c.before.loop-i.records c.before.loop-i.by_key i)
-      (note_line_at ks ns ds i c.loop-i-test.true (omega (arith, c.before.before.before.if-notes-n.false)) (omega (arith, c.before.before.if-detunings-n.false)))
-      c.before.loop-i.invariant.1
+  turn : Turn o c.loop-i.order c.loop-i.records c.loop-i.by_key i (line ∷ rest)
+  turn = subst (Turn o c.loop-i.order c.loop-i.records c.loop-i.by_key i)
+      (note_line_at ks ns ds i c.loop-i-test.true (omega (arith, c.if-notes-n.false)) (omega (arith, c.if-detunings-n.false)))
+      c.loop-i.invariant.1
 
   byte : get_or ks i 0 < key_count
-  byte = let f : get_or ks i 0 < 256 = (c.before.before.before.before.before.before.before.before.shared_slice_known-1.given i).fits in omega arith
+  byte = let f : get_or ks i 0 < 256 = (c.type_inv.keys i).fits in omega arith
 
 pub bounds-keys-i : goal.bounds-keys-i
 bounds-keys-i c = omega arith
@@ -89,17 +86,18 @@ add_note-refusal-requires c =
     ((t.lines, t.ok, t.holds), byte (goal.at.add_note-refusal-requires c).In-loop-i)
 
 -- what the call did, of the line
-added : (c : After-add_note-refusal) → let t = c.before.before.before.before.before.before.before in
-    Adds (line t) c.add_note-refusal.result (i t) t.before.loop-i.order t.before.loop-i.records t.before.loop-i.by_key c.add_note-refusal.new.0
-    c.add_note-refusal.new.1.0 c.add_note-refusal.new.1.1.0
-added c = let t = c.before.before.before.before.before.before.before in let f : SFits w32 (get_or (ns t) (i t) (pos 0)) = search rules in
-    rw (to_z-of_z f) at c.add_note-refusal.ensures
+added : (c : After-add_note-refusal) → let a = c.args in let i = c.loop-i.i in
+    Adds (note_line (get_or a.keys.now i 0) (get_or a.notes.now i (pos 0)) (get_or a.detunings.now i nan)) c.add_note-refusal.result i c.loop-i.order
+    c.loop-i.records c.loop-i.by_key c.add_note-refusal.new.order c.add_note-refusal.new.records c.add_note-refusal.new.by_key
+added c = let f : SFits w32 (get_or c.args.notes.now c.loop-i.i (pos 0)) = search rules in rw (to_z-of_z f) at c.add_note-refusal.ensures
 
 pub returns-then-refusal-ne-ACCEPTED : goal.returns-then-refusal-ne-ACCEPTED
 returns-then-refusal-ne-ACCEPTED c =
+    let t = (goal.at.returns-then-refusal-ne-ACCEPTED c).In-loop-i in
+    let u = (goal.at.returns-then-refusal-ne-ACCEPTED c).After-add_note-refusal in
     let add = c.add_note-refusal in
-    rw (whole (goal.at.returns-then-refusal-ne-ACCEPTED c).In-loop-i) (turn_refused (o (goal.at.returns-then-refusal-ne-ACCEPTED c).In-loop-i) _ _ _ (i (goal.at.returns-then-refusal-ne-ACCEPTED c).In-loop-i) (rest (goal.at.returns-then-refusal-ne-ACCEPTED c).In-loop-i) add.result _ _ _ (line (goal.at.returns-then-refusal-ne-ACCEPTED c).In-loop-i) (turn (goal.at.returns-then-refusal-ne-ACCEPTED c).In-loop-i)
-    (added (goal.at.returns-then-refusal-ne-ACCEPTED c).After-add_note-refusal) c.if-refusal-ne-ACCEPTED.true (length (ks (goal.at.returns-then-refusal-ne-ACCEPTED c).In-loop-i)))
+    rw (whole t) (turn_refused (o t) _ _ _ (i t) (rest t) add.result _ _ _ (line t) (turn t)
+    (added u) c.if-refusal-ne-ACCEPTED.true (length (ks t)))
 
 pub overflow_add-i : goal.overflow_add-i
 overflow_add-i c = omega arith
@@ -109,10 +107,12 @@ loop-i-smaller c = omega arith
 
 pub loop-i-preserved : goal.loop-i-preserved
 loop-i-preserved c =
+    let t = (goal.at.loop-i-preserved c).In-loop-i in
+    let u = (goal.at.loop-i-preserved c).After-add_note-refusal in
     let add = c.add_note-refusal in (
       omega arith,
-      turn_next (o (goal.at.loop-i-preserved c).In-loop-i) _ _ _ (i (goal.at.loop-i-preserved c).In-loop-i) (rest (goal.at.loop-i-preserved c).In-loop-i) add.result _ _ _ (line (goal.at.loop-i-preserved c).In-loop-i) (turn (goal.at.loop-i-preserved c).In-loop-i)
-          (added (goal.at.loop-i-preserved c).After-add_note-refusal) c.if-refusal-ne-ACCEPTED.false,
+      turn_next (o t) _ _ _ (i t) (rest t) add.result _ _ _ (line t) (turn t)
+          (added u) c.if-refusal-ne-ACCEPTED.false,
     )
 
 pub shape_of-order : goal.shape_of-order

@@ -1,18 +1,17 @@
 -- `sorted_keys::pitch_lists` meets its contract. The loop's invariant: the lines so far are held, and the lines that are left decide. Assumes nothing.
 use mathlib.Core.Path.{◌≡◌, sym, ◌∙◌, subst}
 use mathlib.Core.List.{List, [], ◌∷◌}
-use Prim.Native.Nat.{ℕ, ◌≤◌, ◌<◌, ◌+◌, ◌-◌}
+use Prim.Native.Nat.{ℕ, ◌<◌, ◌+◌}
 use native.Mathlib.Omega.{arith}
 use lib.Ieee.{Float, nan}
 use lib.ListN.{length, get_or, drop}
-use borrow.Author.Rules.{rules}
 use Rattle.arithmetic.specs.Outcome.{Outcome}
 use Rattle.plans.specs.Line.{Line}
 use Rattle.plans.specs.PlanLists.{key_count, line_by_line, pitch_line, pitch_lines, pitch_lists}
 use Rattle.plans.proofs.Lines.{Turn, begins, turn_refused, turn_next, ended, ended_early, pitch_line_at, pitch_lines_end, pitch_lists_equal}
 use Rattle.plans.proofs.Lines.{pitch_lists_unequal}
 use Rattle.plans.proofs.sorted_keys.pitch_lists.Goals as goal
-use Rattle.plans.proofs.sorted_keys.pitch_lists.Goals.{In-loop-i, Start}
+use Rattle.plans.proofs.sorted_keys.pitch_lists.Goals.{In-loop-i}
 
 pub returns-then-pitches-n : goal.returns-then-pitches-n
 returns-then-pitches-n c = ended_early _ _ _ _ _ 12 (pitch_lists_unequal _ _ c.if-pitches-n.true) (omega arith)
@@ -22,17 +21,14 @@ loop-i-init c = (omega arith, begins _ _ _ _ c.requires)
 
 -- in a turn
 module _ (c : In-loop-i) where
-  abbrev s : Start
-  s = c.before.before.before.before.before.before.before.before
-
   abbrev ks : List ℕ
-  ks = s.args.keys.now
+  ks = c.args.keys.now
 
   abbrev hzs : List Float
-  hzs = s.args.pitches.now
+  hzs = c.args.pitches.now
 
   abbrev i : ℕ
-  i = c.before.loop-i.i
+  i = c.loop-i.i
 
   abbrev o : Outcome (List Line)
   o = line_by_line [] (pitch_lines ks hzs)
@@ -44,14 +40,14 @@ module _ (c : In-loop-i) where
   rest = pitch_lines (drop (i + 1) ks) (drop (i + 1) hzs)
 
   whole : pitch_lists ks hzs ≡ o
-  whole = pitch_lists_equal ks hzs c.before.before.if-pitches-n.false
+  whole = pitch_lists_equal ks hzs c.if-pitches-n.false
 
-  turn : Turn o c.before.loop-i.order c.before.loop-i.records c.before.loop-i.by_key i (line ∷ rest)
-  turn = subst (Turn o c.before.loop-i.order c.before.loop-i.records c.before.loop-i.by_key i)
-      (pitch_line_at ks hzs i c.loop-i-test.true (omega (arith, c.before.before.if-pitches-n.false))) c.before.loop-i.invariant.1
+  turn : Turn o c.loop-i.order c.loop-i.records c.loop-i.by_key i (line ∷ rest)
+  turn = subst (Turn o c.loop-i.order c.loop-i.records c.loop-i.by_key i)
+      (pitch_line_at ks hzs i c.loop-i-test.true (omega (arith, c.if-pitches-n.false))) c.loop-i.invariant.1
 
   byte : get_or ks i 0 < key_count
-  byte = let f : get_or ks i 0 < 256 = (c.before.before.before.before.before.before.before.shared_slice_known-1.given i).fits in omega arith
+  byte = let f : get_or ks i 0 < 256 = (c.type_inv.keys i).fits in omega arith
 
 pub bounds-keys-i : goal.bounds-keys-i
 bounds-keys-i c = omega arith
@@ -72,9 +68,10 @@ add_pitch-refusal-requires c =
 
 pub returns-then-refusal-ne-ACCEPTED : goal.returns-then-refusal-ne-ACCEPTED
 returns-then-refusal-ne-ACCEPTED c =
+    let t = (goal.at.returns-then-refusal-ne-ACCEPTED c).In-loop-i in
     let add = c.add_pitch-refusal in
-    rw (whole (goal.at.returns-then-refusal-ne-ACCEPTED c).In-loop-i) (turn_refused (o (goal.at.returns-then-refusal-ne-ACCEPTED c).In-loop-i) _ _ _ (i (goal.at.returns-then-refusal-ne-ACCEPTED c).In-loop-i) (rest (goal.at.returns-then-refusal-ne-ACCEPTED c).In-loop-i) add.result _ _ _ (line (goal.at.returns-then-refusal-ne-ACCEPTED c).In-loop-i) (turn (goal.at.returns-then-refusal-ne-ACCEPTED c).In-loop-i)
-    c.add_pitch-refusal.ensures c.if-refusal-ne-ACCEPTED.true (length (ks (goal.at.returns-then-refusal-ne-ACCEPTED c).In-loop-i)))
+    rw (whole t) (turn_refused (o t) _ _ _ (i t) (rest t) add.result _ _ _ (line t) (turn t)
+    c.add_pitch-refusal.ensures c.if-refusal-ne-ACCEPTED.true (length (ks t)))
 
 pub overflow_add-i : goal.overflow_add-i
 overflow_add-i c = omega arith
@@ -84,9 +81,10 @@ loop-i-smaller c = omega arith
 
 pub loop-i-preserved : goal.loop-i-preserved
 loop-i-preserved c =
+    let t = (goal.at.loop-i-preserved c).In-loop-i in
     let add = c.add_pitch-refusal in (
       omega arith,
-      turn_next (o (goal.at.loop-i-preserved c).In-loop-i) _ _ _ (i (goal.at.loop-i-preserved c).In-loop-i) (rest (goal.at.loop-i-preserved c).In-loop-i) add.result _ _ _ (line (goal.at.loop-i-preserved c).In-loop-i) (turn (goal.at.loop-i-preserved c).In-loop-i)
+      turn_next (o t) _ _ _ (i t) (rest t) add.result _ _ _ (line t) (turn t)
           c.add_pitch-refusal.ensures c.if-refusal-ne-ACCEPTED.false,
     )
 

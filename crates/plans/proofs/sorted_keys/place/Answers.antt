@@ -1,16 +1,14 @@
 -- `sorted_keys::place` meets its contract. The loop's invariant: the place is between `low` and `high`. Assumes nothing.
 use mathlib.Core.Path.{sym, ◌∙◌}
-use Prim.Native.Nat.{ℕ, ◌<◌, ◌≤◌, ◌+◌, ◌-◌, ◌/◌}
+use Prim.Native.Nat.{ℕ, ◌<◌, ◌+◌, ◌/◌}
 use native.Mathlib.Omega.{arith}
-use borrow.Author.Rules.{rules}
 use lib.ListN.{get_or, take, length-take}
 use lib.Seq.{get_or-take}
 use Rattle.plans.specs.PlanLists.{key_count}
-use Rattle.plans.specs.PlanInternal.{before}
 use Rattle.plans.proofs.Records.{at_each}
 use Rattle.plans.proofs.Insertion.{before_fits, place_most, place_least}
 use Rattle.plans.proofs.sorted_keys.place.Goals as goal
-use Rattle.plans.proofs.sorted_keys.place.Goals.{In-loop-low, Start}
+use Rattle.plans.proofs.sorted_keys.place.Goals.{In-loop-low}
 
 pub loop-low-init : goal.loop-low-init
 loop-low-init c =
@@ -19,18 +17,15 @@ loop-low-init c =
 
 -- the key in the middle is one of the first n
 module _ (c : In-loop-low) where
-  abbrev s : Start
-  s = c.before.before.before.before
-
   abbrev middle : ℕ
-  middle = (c.before.loop-low.low + c.before.loop-low.high) / 2
+  middle = (c.loop-low.low + c.loop-low.high) / 2
 
-  byte : get_or s.args.order.now middle 0 < key_count
+  byte : get_or c.args.order.now middle 0 < key_count
   byte =
-      let a = s.args in
+      let a = c.args in
       rw (← get_or-take a.n a.order.now middle 0 (omega arith))
-      (at_each (λ (k : ℕ). k < key_count) (take a.n a.order.now) 0 s.requires.3 middle
-      (omega (arith, length-take a.n a.order.now, s.requires.0, s.requires.2)))
+      (at_each (λ (k : ℕ). k < key_count) (take a.n a.order.now) 0 c.requires.3 middle
+      (omega (arith, length-take a.n a.order.now, c.requires.0, c.requires.2)))
 
 pub overflow_add-middle : goal.overflow_add-middle
 overflow_add-middle c = omega arith
@@ -48,16 +43,17 @@ pub offset_bounds-detunings-key : goal.offset_bounds-detunings-key
 offset_bounds-detunings-key c = record { fits = omega (arith, byte (goal.at.offset_bounds-detunings-key c).In-loop-low) }
 
 pub bounds-detunings-key : goal.bounds-detunings-key
-bounds-detunings-key c = omega (arith, byte (goal.at.bounds-detunings-key c).In-loop-low, (s (goal.at.bounds-detunings-key c).In-loop-low).requires.1)
+bounds-detunings-key c = omega (arith, byte (goal.at.bounds-detunings-key c).In-loop-low, c.requires.1)
 
 pub loop-low-smaller-then-is_below : goal.loop-low-smaller-then-is_below
 loop-low-smaller-then-is_below c = omega arith
 
 pub loop-low-preserved-then-is_below : goal.loop-low-preserved-then-is_below
 loop-low-preserved-then-is_below c =
-    let a = (s (goal.at.loop-low-preserved-then-is_below c).In-loop-low).args in
+    let t = (goal.at.loop-low-preserved-then-is_below c).In-loop-low in
+    let a = c.args in
     let l = c.loop-low in
-    let most = place_most a.detunings.now a.detuning a.n a.order.now (middle (goal.at.loop-low-preserved-then-is_below c).In-loop-low) (omega arith) (omega (arith, (s (goal.at.loop-low-preserved-then-is_below c).In-loop-low).requires.0, (s (goal.at.loop-low-preserved-then-is_below c).In-loop-low).requires.2))
+    let most = place_most a.detunings.now a.detuning a.n a.order.now (middle t) (omega arith) (omega (arith, c.requires.0, c.requires.2))
     (sym c.is_below.ensures ∙ c.if-is_below.true) in
     (omega arith, l.invariant.1, most)
 
@@ -69,10 +65,11 @@ loop-low-smaller c = omega arith
 
 pub loop-low-preserved : goal.loop-low-preserved
 loop-low-preserved c =
-    let a = (s (goal.at.loop-low-preserved c).In-loop-low).args in
+    let t = (goal.at.loop-low-preserved c).In-loop-low in
+    let a = c.args in
     let l = c.loop-low in
-    let least = place_least a.detunings.now a.detuning a.n a.order.now (middle (goal.at.loop-low-preserved c).In-loop-low) (omega arith) (omega (arith, (s (goal.at.loop-low-preserved c).In-loop-low).requires.0, (s (goal.at.loop-low-preserved c).In-loop-low).requires.2))
-    (s (goal.at.loop-low-preserved c).In-loop-low).requires.4 (s (goal.at.loop-low-preserved c).In-loop-low).requires.5 (sym c.is_below.ensures ∙ c.if-is_below.false) in
+    let least = place_least a.detunings.now a.detuning a.n a.order.now (middle t) (omega arith) (omega (arith, c.requires.0, c.requires.2))
+    c.requires.4 c.requires.5 (sym c.is_below.ensures ∙ c.if-is_below.false) in
     (l.invariant.0, omega (arith, least), l.invariant.2)
 
 pub returns : goal.returns

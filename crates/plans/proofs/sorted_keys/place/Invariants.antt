@@ -1,14 +1,7 @@
 -- `sorted_keys::place` meets its contract. The loop's invariant: the place is between `low` and `high`. Assumes nothing.
-use mathlib.Core.Path.{sym, ◌∙◌}
-use Prim.Native.Nat.{ℕ, ◌<◌, ◌≤◌, ◌+◌, ◌-◌, ◌/◌}
-use native.Mathlib.Omega.{arith}
-use borrow.Author.Rules.{rules}
-use lib.ListN.{get_or, take, length-take}
-use lib.Seq.{get_or-take}
-use Rattle.plans.specs.PlanLists.{key_count}
+use Prim.Native.Nat.{◌≤◌, ◌-◌}
+use lib.ListN.{take}
 use Rattle.plans.specs.PlanInternal.{before}
-use Rattle.plans.proofs.Records.{at_each}
-use Rattle.plans.proofs.Insertion.{before_fits, place_most, place_least}
 use Rattle.plans.proofs.sorted_keys.place.Given as goal
 
 abbrev pub invariant-loop-low : goal.invariant-loop-low

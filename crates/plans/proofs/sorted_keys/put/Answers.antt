@@ -25,9 +25,10 @@ insert-requires c =
     )
 
 pub returns : goal.returns
-returns c =
+returns c lines h ok new =
     let a = c.args in
     let cell = c.record_of in
     let note : to_z w32 (of_z w32 a.note) ≡ a.note = to_z-of_z c.ranges.note in
-    holds_more a.order.now c.insert.new.0 a.records.now a.by_key.now a.n cell.result (record { key = a.key; note = a.note; detuning = a.detuning }) lines h ok new
-    c.requires.3.byte c.requires.5 (ap place_of (cell.ensures ∙ ap (λ z. cell_of z 0) note) ∙ place_cell a.note c.requires.4 0 (search rules)) (search rules) c.insert.ensures
+    holds_more a.order.now c.insert.new.order a.records.now a.by_key.now a.n cell.result
+    (record { key = a.key; note = a.note; detuning = a.detuning }) lines h ok new c.requires.3.byte c.requires.5
+    (ap place_of (cell.ensures ∙ ap (λ z. cell_of z 0) note) ∙ place_cell a.note c.requires.4 0 (search rules)) (search rules) c.insert.ensures

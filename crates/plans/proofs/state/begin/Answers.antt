@@ -8,7 +8,6 @@ use Rattle.plans.specs.PlanBlock.{list_at}
 use Rattle.plans.specs.Plan.{empty}
 use Rattle.channels.proofs.ChannelLists.{length_digits}
 use Rattle.plans.proofs.PlanBlocks.{settings_long, settings_list, settings_group, settings_kind}
-use borrow.Author.Rules.{rules}
 use Rattle.plans.proofs.state.begin.Goals as goal
 
 -- the entries are as many digits as were put
@@ -17,8 +16,7 @@ same_entries n count number e = let k : min n 16 ≡ min count 16 = omega (arith
 
 pub shape_of-cells : goal.shape_of-cells
 shape_of-cells c =
-    c.cells-1.given
-    ∙ settings_long c.args.cells.now c.requires c.len.result c.digits.result
+    c.clear.auto.cells ∙ settings_long c.args.cells.now c.requires c.len.result c.digits.result
     c.group_number.result c.kind_number.result
     ∙ sym c.requires
 

@@ -7,13 +7,12 @@ use Rattle.plans.specs.PlanBlock.{list_at, group_by_at}
 use Rattle.plans.specs.Plan.{records_at, empty}
 use Rattle.channels.proofs.ChannelLists.{entries_few}
 use Rattle.plans.proofs.PlanBlocks.{put_plan, put_kind, list_same, group_same, kind_same, no_records, cleared}
-use borrow.Author.Rules.{rules}
 use Rattle.plans.proofs.state.clear.Goals as goal
 
 pub returns : goal.returns
 returns c =
     let l = c.args.cells.now in
-    let m = c.clear_records.new.0 in
+    let m = c.clear_records.new.cells in
     let same = c.clear_records.ensures.0 in
     let n = c.len-present.result in
     let list = c.listed in

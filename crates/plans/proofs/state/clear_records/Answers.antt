@@ -1,10 +1,5 @@
 -- `state::clear_records` meets its contract. The loop's invariant: the records before `i` are 0, and the settings as they were. Assumes nothing.
-use mathlib.Core.Path.{◌≡◌}
-use Prim.Native.Nat.{ℕ, ◌≤◌, ◌<◌, ◌-◌}
 use native.Mathlib.Omega.{arith}
-use lib.ListN.{get_or}
-use Rattle.channels.specs.Keys.{key_count}
-use Rattle.plans.specs.PlanInternal.{SettingsSame}
 use Rattle.plans.proofs.PlanBlocks.{settings_kept, settings_then, clear_same, clear_more}
 use Rattle.plans.proofs.state.clear_records.Goals as goal
 

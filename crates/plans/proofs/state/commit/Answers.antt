@@ -5,22 +5,21 @@ use native.Mathlib.Omega.{arith}
 use lib.ListN.{length, length-set}
 use Rattle.plans.specs.PlanBlock.{plan_settings}
 use Rattle.plans.specs.Walk.{count}
-use Rattle.plans.specs.Plan.{Model, plan_at, untuned}
+use Rattle.plans.specs.Plan.{plan_at, untuned}
 use Rattle.channels.proofs.ChannelLists.{entries_few}
 use Rattle.plans.proofs.Models.{planned_untuned}
 use Rattle.plans.proofs.Planned.{plan_refused, plan_accepted}
 use Rattle.plans.proofs.PlanBlocks.{put_kind, kind_same, seats_stored, tuned_block}
-use borrow.Author.Rules.{rules}
 use Rattle.plans.proofs.state.commit.Goals as goal
 
 pub returns-then-refusal-ne-ACCEPTED : goal.returns-then-refusal-ne-ACCEPTED
-returns-then-refusal-ne-ACCEPTED c =
+returns-then-refusal-ne-ACCEPTED c lines h =
     let a = c.args in
     let m = plan_at a.cells.now in
     (plan_refused m m.group_by a.planning a.records.now a.detunings.now lines h c.if-refusal-ne-ACCEPTED.true, refl, refl)
 
 pub returns-then-present-count : goal.returns-then-present-count
-returns-then-present-count c =
+returns-then-present-count c lines h =
     let a = c.args in
     let m = plan_at a.cells.now in
     let p = plan_accepted m m.group_by a.planning a.records.now a.detunings.now lines h c.if-refusal-ne-ACCEPTED.false in
@@ -33,10 +32,10 @@ returns-then-present-count c =
 pub bounds-cells-516 : goal.bounds-cells-516
 bounds-cells-516 c =
     let put = c.put_records in
-    omega (arith, c.requires.0, put.ensures.0.long, length-set put.new.0 (plan_settings + 3) c.args.planning.count)
+    omega (arith, c.requires.0, put.ensures.0.long, length-set put.new.cells (plan_settings + 3) c.args.planning.count)
 
 pub returns : goal.returns
-returns c =
+returns c lines h =
     let a = c.args in
     let l = a.cells.now in
     let m = plan_at l in
@@ -48,7 +47,7 @@ returns c =
     let few : a.planning.count ≤ 16 = omega (arith, c.if-present-count.false, len.ensures, entries_few list.result) in
     let put = c.put_records in
     let same = put.ensures.0 in
-    let new = put.new.0 in
+    let new = put.new.cells in
     let new-long = same.long ∙ c.requires.0 in
     let seats = seats_stored m.group_by p.0 p.1 a.records.now a.detunings.now a.planning.count new c.requires.1 c.requires.2
     put.ensures.1 p.2 in (

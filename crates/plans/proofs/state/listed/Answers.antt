@@ -1,6 +1,5 @@
 -- `state::listed` meets its contract. Assumes nothing.
 use Rattle.plans.specs.PlanBlock.{list_at}
-use borrow.Author.Rules.{rules}
 use Rattle.plans.proofs.state.listed.Goals as goal
 
 pub returns : goal.returns

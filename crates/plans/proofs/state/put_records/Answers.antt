@@ -1,17 +1,14 @@
 -- `state::put_records` meets its contract. The loop's invariant: the keys before `i` have their records, and the settings are as they were.
 -- Assumes nothing.
-use mathlib.Core.Path.{◌≡◌, ap, ◌∙◌}
+use mathlib.Core.Path.{ap, ◌∙◌}
 use mathlib.Core.List.{List}
-use Prim.Native.Nat.{ℕ, ◌≤◌, ◌<◌, ◌-◌}
+use Prim.Native.Nat.{ℕ}
 use native.Mathlib.Omega.{arith}
 use lib.Ieee.{Float, nan}
 use lib.ListN.{get_or, length-set}
-use Rattle.channels.specs.Keys.{key_count}
 use Rattle.plans.specs.PlanBlock.{stored}
-use Rattle.plans.specs.Plan.{KeyRecord, record_of, record_at}
-use Rattle.plans.specs.PlanInternal.{SettingsSame}
+use Rattle.plans.specs.Plan.{KeyRecord, record_of}
 use Rattle.plans.proofs.PlanBlocks.{settings_kept, settings_then, key_same, key_more}
-use borrow.Author.Rules.{rules}
 use Rattle.plans.proofs.state.put_records.Goals as goal
 
 abbrev planned : List ℕ → List Float → ℕ → KeyRecord
@@ -27,7 +24,7 @@ pub bounds-records-i : goal.bounds-records-i
 bounds-records-i c = omega (arith, c.requires.1)
 
 pub overflow_cast-cells : goal.overflow_cast-cells
-overflow_cast-cells c = record { fits = omega (arith, (c.shared_slice_known-in-loop-i-1.given c.loop-i.i).fits) }
+overflow_cast-cells c = record { fits = omega (arith, (c.type_inv.records c.loop-i.i).fits) }
 
 pub offset_bounds-cells-i : goal.offset_bounds-cells-i
 offset_bounds-cells-i c = omega arith
@@ -35,11 +32,11 @@ offset_bounds-cells-i c = omega arith
 pub bounds-cells-i : goal.bounds-cells-i
 bounds-cells-i c =
     omega (
-  arith,
-  c.loop-i.invariant.1.long,
-  c.requires.0,
-  c.loop-i-test.true,
-)
+      arith,
+      c.loop-i.invariant.1.long,
+      c.requires.0,
+      c.loop-i-test.true,
+    )
 
 pub offset_bounds-detunings-i : goal.offset_bounds-detunings-i
 offset_bounds-detunings-i c = omega arith
@@ -79,7 +76,7 @@ loop-i-preserved c =
       omega arith,
       settings_then l.invariant.1 (key_same l.cells m l.i cell c.bits_of.result h),
       key_more l.cells m l.i cell c.bits_of.result h (planned c.args.records.now c.args.detunings.now)
-          (c.shared_slice_known-in-loop-i-1.given l.i).fits (ap (record_of cell) c.bits_of.ensures) l.invariant.2,
+          (c.type_inv.records l.i).fits (ap (record_of cell) c.bits_of.ensures) l.invariant.2,
     )
 
 pub shape_of-cells : goal.shape_of-cells

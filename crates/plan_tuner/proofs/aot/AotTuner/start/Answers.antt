@@ -1,5 +1,4 @@
 -- `plan_tuner::aot::AotTuner::start` meets its contract: the channel list's answer, and a tuner without a plan. Assumes nothing.
-use mathlib.Core.Path.{◌≡◌, sym, ap, ◌∙◌}
 use Rattle.plans.specs.Plan.{open_rule}
 use Rattle.plan_tuner.proofs.aot.AotTuner.start.Goals as goal
 

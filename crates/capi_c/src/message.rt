@@ -1,0 +1,82 @@
+// Channel messages: an entry that makes each of the seven kinds, and one that writes them; and the messages that tune a channel.
+
+ghost use Rattle.std.specs.Prelude.{◌≡◌};
+ghost use Rattle.channels.specs.TuningValue.{kind_of};
+ghost use Rattle.senders.specs.Midi.{message_rule};
+ghost use Rattle.senders.specs.Mts.{channel_tuning_rule};
+ghost use Rattle.capi.specs.Message.{message_of};
+ghost use Rattle.capi.specs.Entry.{EntryWrites};
+ghost use Rattle.senders.specs.declared.midi.ChannelMessageType.{ChannelMessageType};
+
+use capi::answer::Answer;
+use capi::message::Message;
+
+#[unsafe(no_mangle)]
+pub extern "C" fn tarvoued_message_note_off(key: u8, velocity: u8) -> Message
+    ensures { message_of result ≡ ChannelMessageType.NoteOff key velocity }
+{
+    capi::message::tarvoued_message_note_off(key, velocity)
+}
+
+#[unsafe(no_mangle)]
+pub extern "C" fn tarvoued_message_note_on(key: u8, velocity: u8) -> Message
+    ensures { message_of result ≡ ChannelMessageType.NoteOn key velocity }
+{
+    capi::message::tarvoued_message_note_on(key, velocity)
+}
+
+#[unsafe(no_mangle)]
+pub extern "C" fn tarvoued_message_polyphonic_key_pressure(key: u8, pressure: u8) -> Message
+    ensures { message_of result ≡ ChannelMessageType.PolyphonicKeyPressure key pressure }
+{
+    capi::message::tarvoued_message_polyphonic_key_pressure(key, pressure)
+}
+
+#[unsafe(no_mangle)]
+pub extern "C" fn tarvoued_message_control_change(controller: u8, value: u8) -> Message
+    ensures { message_of result ≡ ChannelMessageType.ControlChange controller value }
+{
+    capi::message::tarvoued_message_control_change(controller, value)
+}
+
+#[unsafe(no_mangle)]
+pub extern "C" fn tarvoued_message_program_change(program: u8) -> Message
+    ensures { message_of result ≡ ChannelMessageType.ProgramChange program }
+{
+    capi::message::tarvoued_message_program_change(program)
+}
+
+#[unsafe(no_mangle)]
+pub extern "C" fn tarvoued_message_channel_pressure(pressure: u8) -> Message
+    ensures { message_of result ≡ ChannelMessageType.ChannelPressure pressure }
+{
+    capi::message::tarvoued_message_channel_pressure(pressure)
+}
+
+#[unsafe(no_mangle)]
+pub extern "C" fn tarvoued_message_pitch_bend_change(value: i16) -> Message
+    ensures { message_of result ≡ ChannelMessageType.PitchBendChange value }
+{
+    capi::message::tarvoued_message_pitch_bend_change(value)
+}
+
+// Writes a message on a MIDI channel. Refuses 6, 8 from left, 9, 10.
+#[unsafe(no_mangle)]
+pub extern "C" fn tarvoued_message_write(channel: u8, message: Message, out: &mut [u8]) -> Answer
+    ensures { EntryWrites (message_rule channel (message_of message)) out.old result out.new }
+{
+    capi::message::tarvoued_message_write(channel, message, out)
+}
+
+// Writes the tuning of a MIDI channel by a detuning. Refuses 6, 2, 10.
+#[unsafe(no_mangle)]
+pub extern "C" fn tarvoued_channel_tuning(
+    tuning_kind: u8,
+    channel: u8,
+    detuning: f64,
+    out: &mut [u8],
+) -> Answer
+    ensures { EntryWrites (channel_tuning_rule (kind_of tuning_kind) channel detuning) out.old result out.new }
+{
+    capi::message::tarvoued_channel_tuning(tuning_kind, channel, detuning, out)
+}

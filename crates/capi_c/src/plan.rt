@@ -1,0 +1,179 @@
+// The plan tuner and the plan model in a block of the caller's memory. Every content of a block is some tuner, and some model.
+
+ghost use Rattle.std.specs.Prelude.{◌≡◌};
+ghost use Rattle.plans.specs.PlanLists.{note_lists, pitch_lists};
+ghost use Rattle.plans.specs.PlanBlock.{group_by_of};
+ghost use Rattle.plans.specs.Plan.{open_rule, set_tuning, set_tuning_of_pitches, next_rule, plan_at, Tunes};
+ghost use Rattle.plans.specs.Plan as Model;
+ghost use Rattle.channels.specs.TuningValue.{kind_of};
+ghost use Rattle.channels.specs.declared.tuning_value.TuningKind.TheVariants.{FineTuning};
+ghost use Rattle.plan_tuner.specs.Aot.{view, start_rule, Starts, set_tuning_rule, set_tuning_of_pitches_rule, Smallest, found};
+ghost use Rattle.plan_tuner.specs.Aot.{note_on_rule, note_off_rule, note_attr_rule, global_attr_rule, stop_rule};
+ghost use Rattle.capi.specs.Answers.{of_list, of_plan, of_plan_sent, plan_in, plan_sent_in, of_place, of_detuning, of_entry};
+ghost use Rattle.capi.specs.Message.{message_of};
+ghost use Rattle.capi.specs.Entry.{EntryMeets, EntryWrites};
+
+use capi::answer::{Answer, Note};
+use capi::message::Message;
+use capi::plan::Plan;
+
+// A tuner of the channels listed, without a plan. Refuses 6, 7.
+#[unsafe(no_mangle)]
+pub extern "C" fn tarvoued_plan_open(plan: &mut Plan, channels: &[u8], tuning_kind: u8) -> Answer
+    ensures { let rule = start_rule channels.now (kind_of tuning_kind) in
+        (result ≡ of_list rule.0) × Starts rule.0 rule.1 plan.old plan.new }
+{
+    capi::plan::tarvoued_plan_open(plan, channels, tuning_kind)
+}
+
+// Plans keys with their notes and detunings, and tunes each channel used, in order. Refuses 12, then line by line 4, 3, 5; then 10.
+#[unsafe(no_mangle)]
+pub extern "C" fn tarvoued_plan_set_tuning(
+    plan: &mut Plan,
+    keys: &[u8],
+    notes: &[i32],
+    detunings: &[f64],
+    out: &mut [u8],
+) -> Answer
+    ensures entry_meets { EntryMeets view of_plan_sent (set_tuning_rule (view plan.old) keys.now notes.now detunings.now)
+        plan.old out.old result plan.new out.new }
+    ensures smallest { Smallest (view plan.old) (note_lists keys.now notes.now detunings.now)
+        (plan_sent_in result) (view plan.new) }
+{
+    capi::plan::tarvoued_plan_set_tuning(plan, keys, notes, detunings, out)
+}
+
+// Plans keys with their pitches in Hz, and tunes each channel used, in order. Refuses 12, then line by line 1, 5; then 10.
+#[unsafe(no_mangle)]
+pub extern "C" fn tarvoued_plan_set_tuning_of_pitches(
+    plan: &mut Plan,
+    keys: &[u8],
+    pitches: &[f64],
+    out: &mut [u8],
+) -> Answer
+    ensures entry_meets { EntryMeets view of_plan_sent (set_tuning_of_pitches_rule (view plan.old) keys.now pitches.now)
+        plan.old out.old result plan.new out.new }
+    ensures smallest { Smallest (view plan.old) (pitch_lists keys.now pitches.now) (plan_sent_in result) (view plan.new) }
+{
+    capi::plan::tarvoued_plan_set_tuning_of_pitches(plan, keys, pitches, out)
+}
+
+// A press: the note-on of a key of the plan. Refuses 8, 10.
+#[unsafe(no_mangle)]
+pub extern "C" fn tarvoued_plan_note_on(
+    plan: &Plan,
+    key: u8,
+    velocity: u8,
+    out: &mut [u8],
+) -> Answer
+    ensures { EntryWrites (note_on_rule (view plan.now) key velocity) out.old result out.new }
+{
+    capi::plan::tarvoued_plan_note_on(plan, key, velocity, out)
+}
+
+// A release: the note-off of a key of the plan. Refuses 8, 10.
+#[unsafe(no_mangle)]
+pub extern "C" fn tarvoued_plan_note_off(
+    plan: &Plan,
+    key: u8,
+    velocity: u8,
+    out: &mut [u8],
+) -> Answer
+    ensures { EntryWrites (note_off_rule (view plan.now) key velocity) out.old result out.new }
+{
+    capi::plan::tarvoued_plan_note_off(plan, key, velocity, out)
+}
+
+// The pressure of a key of the plan. Refuses 8, 10.
+#[unsafe(no_mangle)]
+pub extern "C" fn tarvoued_plan_note_attr(
+    plan: &Plan,
+    key: u8,
+    pressure: u8,
+    out: &mut [u8],
+) -> Answer
+    ensures { EntryWrites (note_attr_rule (view plan.now) key pressure) out.old result out.new }
+{
+    capi::plan::tarvoued_plan_note_attr(plan, key, pressure, out)
+}
+
+// A message to every channel, except bends of a tuner that tunes by bends. Refuses 8 from left, 9, 10.
+#[unsafe(no_mangle)]
+pub extern "C" fn tarvoued_plan_global_attr(plan: &Plan, message: Message, out: &mut [u8]) -> Answer
+    ensures { EntryWrites (global_attr_rule (view plan.now) (message_of message)) out.old result out.new }
+{
+    capi::plan::tarvoued_plan_global_attr(plan, message, out)
+}
+
+// Sends nothing: a plan tuner does not know which keys are pressed.
+#[unsafe(no_mangle)]
+pub extern "C" fn tarvoued_plan_stop(plan: &Plan, out: &mut [u8]) -> Answer
+    ensures { EntryWrites (stop_rule (view plan.now)) out.old result out.new }
+{
+    capi::plan::tarvoued_plan_stop(plan, out)
+}
+
+// The channel and the note of a key of the plan.
+#[unsafe(no_mangle)]
+pub extern "C" fn tarvoued_plan_lookup(plan: &Plan, key: u8) -> Note
+    ensures { result ≡ of_place (found (view plan.now) key) }
+{
+    capi::plan::tarvoued_plan_lookup(plan, key)
+}
+
+// The detuning of a group on a channel of the plan.
+#[unsafe(no_mangle)]
+pub extern "C" fn tarvoued_plan_detuning(plan: &Plan, channel: u16, group: i32) -> Note
+    ensures { result ≡ of_detuning channel group ((plan_at plan.now).detunings channel group) }
+{
+    capi::plan::tarvoued_plan_detuning(plan, channel, group)
+}
+
+// The first of a channel's detunings whose group is `from` or higher.
+#[unsafe(no_mangle)]
+pub extern "C" fn tarvoued_plan_next_detuning(plan: &Plan, channel: u16, from: i32) -> Note
+    ensures { result ≡ of_entry channel (next_rule (plan_at plan.now) channel from) }
+{
+    capi::plan::tarvoued_plan_next_detuning(plan, channel, from)
+}
+
+// A plan model, which sends nothing, of the channels listed, without a plan. Refuses 6, 7.
+#[unsafe(no_mangle)]
+pub extern "C" fn tarvoued_plan_model_open(plan: &mut Plan, channels: &[u8], group_by: u8) -> Answer
+    ensures { let rule = open_rule channels.now (group_by_of group_by) in
+        (result ≡ of_list rule.1)
+        × Starts rule.1 (record { plan = rule.0; kind = FineTuning }) plan.entry.now plan.exit.now }
+{
+    capi::plan::tarvoued_plan_model_open(plan, channels, group_by)
+}
+
+// Plans keys with their notes and detunings. Refuses 12, then line by line 4, 3, 5.
+#[unsafe(no_mangle)]
+pub extern "C" fn tarvoued_plan_model_set_tuning(
+    plan: &mut Plan,
+    keys: &[u8],
+    notes: &[i32],
+    detunings: &[f64],
+) -> Answer
+    ensures fact { let rule = set_tuning (plan_at plan.old) keys.now notes.now detunings.now in
+        (result ≡ of_plan rule.1) × Tunes rule plan.old plan.new rule.1 }
+    ensures smallest { Model.Smallest (plan_at plan.old) (note_lists keys.now notes.now detunings.now)
+        (plan_at plan.new, plan_in result) }
+{
+    capi::plan::tarvoued_plan_model_set_tuning(plan, keys, notes, detunings)
+}
+
+// Plans keys with their pitches in Hz. Refuses 12, then line by line 1, 5.
+#[unsafe(no_mangle)]
+pub extern "C" fn tarvoued_plan_model_set_tuning_of_pitches(
+    plan: &mut Plan,
+    keys: &[u8],
+    pitches: &[f64],
+) -> Answer
+    ensures fact { let rule = set_tuning_of_pitches (plan_at plan.old) keys.now pitches.now in
+        (result ≡ of_plan rule.1) × Tunes rule plan.old plan.new rule.1 }
+    ensures smallest { Model.Smallest (plan_at plan.old) (pitch_lists keys.now pitches.now)
+        (plan_at plan.new, plan_in result) }
+{
+    capi::plan::tarvoued_plan_model_set_tuning_of_pitches(plan, keys, pitches)
+}
