@@ -130,7 +130,7 @@ module _ (t : Tuner) (room : ℕ) where
   sent_smallest :
       (lines : List Line) (m : Model) (n : ℕ) (bs : List ℕ) → Demand3 t.plan.group_by lines (length t.plan.channels) m.keys true n → (b : Bool)
       → let f : Outcome (Effect Planned Tuner) =
-          cond b (value (record { says = tunes n (length bs); bytes = bs; next = with_plan t m })) (refused buffer_too_short) in
+      cond b (value (record { says = tunes n (length bs); bytes = bs; next = with_plan t m })) (refused buffer_too_short) in
       Smallest t (value lines) (told f) (settled t f)
   sent_smallest lines m n bs d true = d
   sent_smallest lines m n bs d false = (refl, some_fits t.plan.group_by lines (length t.plan.channels) d)

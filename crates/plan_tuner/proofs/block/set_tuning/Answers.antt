@@ -9,9 +9,11 @@ pub send-requires : goal.send-requires
 send-requires c =
     let a = c.args in
     let t = c.set_tuning-answer in
-    let fine = notes_fine a.keys.now a.notes.now a.detunings.now (λ i. omega (arith, (c.type_inv.keys i).fits)) c.type_inv.detunings in
-    (ready a.cells.now (note_lists a.keys.now a.notes.now a.detunings.now) (plan_at t.new.cells, plan_answer t.result) fine
-    t.ensures.tunes.0, t.ensures.tunes.1)
+    let fine = notes_fine a.keys.now a.notes.now a.detunings.now (λ i. omega (arith, (c.type_inv.keys i).fits)) c.type_inv.detunings in (
+      ready a.cells.now (note_lists a.keys.now a.notes.now a.detunings.now) (plan_at t.new.cells, plan_answer t.result) fine
+          t.ensures.tunes.0,
+      t.ensures.tunes.1,
+    )
 
 pub returns-clause-smallest : goal.returns-clause-smallest
 returns-clause-smallest c =

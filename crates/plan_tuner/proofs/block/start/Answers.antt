@@ -13,11 +13,10 @@ returns-in-Listed c =
     let list = c.in-Listed.list in
     let listed = sym (ap channels_answer c.in-Listed.is) ∙ c.of-answer.ensures in
     let opened = c.open in
-    rw (sym listed)
-    (
+    rw (sym listed) (
       refl,
       ap (λ (m : Model). record { plan = m; kind = plan_kind_at opened.new.cells }) opened.ensures.0
-      ∙ ap (λ (k : TuningKind). record { plan = empty (entries list) Channel; kind = k }) opened.ensures.1,
+          ∙ ap (λ (k : TuningKind). record { plan = empty (entries list) Channel; kind = k }) opened.ensures.1,
     )
 
 pub returns-in-Refused : goal.returns-in-Refused

@@ -2,7 +2,6 @@
 use mathlib.Core.Path.{ap, ◌∙◌}
 use mir.Facts.{to_z-of_z}
 use Rattle.models.specs.AotModel.{model_of}
-use borrow.Author.Rules.{rules}
 use Rattle.models.proofs.aot.AotTuningModel.detuning.Goals as goal
 
 pub returns : goal.returns

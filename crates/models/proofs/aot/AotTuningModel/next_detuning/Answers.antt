@@ -3,7 +3,6 @@ use mathlib.Core.Path.{ap, ◌∙◌}
 use mir.Facts.{to_z-of_z}
 use Rattle.plans.specs.Plan.{next_rule}
 use Rattle.models.specs.AotModel.{model_of}
-use borrow.Author.Rules.{rules}
 use Rattle.models.proofs.aot.AotTuningModel.next_detuning.Goals as goal
 
 pub returns : goal.returns

@@ -4,7 +4,6 @@ use mathlib.Core.List.{List}
 use Prim.Native.Nat.{ℕ}
 use Rattle.plans.specs.Plan.{open_rule, empty}
 use Rattle.channels.specs.ChannelList.{present}
-use borrow.Author.Rules.{rules}
 use Rattle.models.proofs.aot.AotTuningModel.open.Goals as goal
 
 pub returns : goal.returns

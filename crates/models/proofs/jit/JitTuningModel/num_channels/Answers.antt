@@ -1,7 +1,6 @@
 -- `jit::JitTuningModel::num_channels` meets its contract. Assumes nothing.
-use mathlib.Core.Path.{◌≡◌, ap, ◌∙◌}
+use mathlib.Core.Path.{ap, ◌∙◌}
 use lib.ListN.{length}
-use borrow.Author.Rules.{rules}
 use Rattle.models.proofs.jit.JitTuningModel.num_channels.Goals as goal
 
 pub returns : goal.returns

@@ -1,5 +1,4 @@
 -- `jit::JitTuningModel::open` meets its contract: the channel list's answer, and a fresh model with the channels present. Assumes nothing.
-use borrow.Author.Rules.{rules}
 use Rattle.pools.specs.Pool.{open_rule}
 use Rattle.models.specs.JitModel.{view, opened}
 use Rattle.models.proofs.jit.JitTuningModel.open.Goals as goal

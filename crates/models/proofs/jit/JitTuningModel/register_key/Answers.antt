@@ -1,11 +1,10 @@
 -- `jit::JitTuningModel::register_key` meets its contract: that of the call in place. Assumes nothing.
-use mathlib.Core.Path.{◌≡◌, ap, ◌∙◌}
+use mathlib.Core.Path.{ap, ◌∙◌}
 use Rattle.arithmetic.specs.Outcome.{Outcome}
 use Rattle.pools.specs.Pool.{Press, State, register_rule, replied}
 use Rattle.pools.specs.Block.{state_of}
 use Rattle.models.specs.JitModel.{view, told}
 use Rattle.pools.proofs.Blocks.{moves_state}
-use borrow.Author.Rules.{rules}
 use Rattle.models.proofs.jit.JitTuningModel.register_key.Goals as goal
 
 pub returns : goal.returns

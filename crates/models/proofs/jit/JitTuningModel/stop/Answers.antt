@@ -1,6 +1,5 @@
 -- `jit::JitTuningModel::stop` meets its contract: that of the call in place. Assumes nothing.
 use Rattle.models.specs.JitModel.{view}
-use borrow.Author.Rules.{rules}
 use Rattle.models.proofs.jit.JitTuningModel.stop.Goals as goal
 
 pub returns : goal.returns
