@@ -1,4 +1,4 @@
-//! Links the port's static library, which `rt staticlib capi` writes.
+//! Links the port's static library, which `tools/library` writes.
 fn main() {
     let folder = std::env::var("PORT_LIBRARY").unwrap_or_else(|_| format!("{}/../target/staticlib", std::env::var("CARGO_MANIFEST_DIR").unwrap()));
     println!("cargo::rerun-if-env-changed=PORT_LIBRARY");
