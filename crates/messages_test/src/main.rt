@@ -4,20 +4,23 @@
 
 ghost use Rattle.std.specs.Prelude.{◌≤◌};
 
-use libc::STDOUT_FILENO;
 use senders::midi::{ChannelMessageType, Sent};
+use std::io;
+use std::io::{BufWriter, Write};
 
 // One byte more than a message takes.
 const ROOM: usize = 4;
 
-fn main() {
-    notes();
-    controls();
-    bends();
-    wrong_channels();
-    wrong_data();
-    wrong_bends();
-    short_buffers();
+fn main(rt: HostRuntime) -> io::Result<()> {
+    let mut out = BufWriter::new(rt.alloc(), rt.stdout())?;
+    notes(&mut out)?;
+    controls(&mut out)?;
+    bends(&mut out)?;
+    wrong_channels(&mut out)?;
+    wrong_data(&mut out)?;
+    wrong_bends(&mut out)?;
+    short_buffers(&mut out)?;
+    out.flush()
 }
 
 fn note_off(key: u8, velocity: u8) -> ChannelMessageType {
@@ -48,104 +51,106 @@ fn bend(value: i16) -> ChannelMessageType {
     ChannelMessageType::PitchBendChange { value }
 }
 
-fn notes() {
-    show(note_off(0, 0), 0, ROOM);
-    show(note_off(127, 127), 15, ROOM);
-    show(note_on(0, 0), 0, ROOM);
-    show(note_on(127, 127), 15, ROOM);
-    show(note_on(69, 100), 7, ROOM);
-    show(key_pressure(0, 0), 0, ROOM);
-    show(key_pressure(127, 127), 15, ROOM);
+fn notes(out: &mut impl Write) -> io::Result<()> {
+    show(out, note_off(0, 0), 0, ROOM)?;
+    show(out, note_off(127, 127), 15, ROOM)?;
+    show(out, note_on(0, 0), 0, ROOM)?;
+    show(out, note_on(127, 127), 15, ROOM)?;
+    show(out, note_on(69, 100), 7, ROOM)?;
+    show(out, key_pressure(0, 0), 0, ROOM)?;
+    show(out, key_pressure(127, 127), 15, ROOM)
 }
 
-fn controls() {
-    show(control(0, 0), 0, ROOM);
-    show(control(127, 127), 15, ROOM);
-    show(program(0), 0, ROOM);
-    show(program(127), 15, ROOM);
-    show(pressure(0), 0, ROOM);
-    show(pressure(127), 15, ROOM);
+fn controls(out: &mut impl Write) -> io::Result<()> {
+    show(out, control(0, 0), 0, ROOM)?;
+    show(out, control(127, 127), 15, ROOM)?;
+    show(out, program(0), 0, ROOM)?;
+    show(out, program(127), 15, ROOM)?;
+    show(out, pressure(0), 0, ROOM)?;
+    show(out, pressure(127), 15, ROOM)
 }
 
-fn bends() {
-    show(bend(-8192), 0, ROOM);
-    show(bend(-2251), 0, ROOM);
-    show(bend(-129), 1, ROOM);
-    show(bend(-128), 1, ROOM);
-    show(bend(-1), 15, ROOM);
-    show(bend(0), 15, ROOM);
-    show(bend(1), 15, ROOM);
-    show(bend(127), 1, ROOM);
-    show(bend(128), 1, ROOM);
-    show(bend(2182), 0, ROOM);
-    show(bend(8191), 0, ROOM);
+fn bends(out: &mut impl Write) -> io::Result<()> {
+    show(out, bend(-8192), 0, ROOM)?;
+    show(out, bend(-2251), 0, ROOM)?;
+    show(out, bend(-129), 1, ROOM)?;
+    show(out, bend(-128), 1, ROOM)?;
+    show(out, bend(-1), 15, ROOM)?;
+    show(out, bend(0), 15, ROOM)?;
+    show(out, bend(1), 15, ROOM)?;
+    show(out, bend(127), 1, ROOM)?;
+    show(out, bend(128), 1, ROOM)?;
+    show(out, bend(2182), 0, ROOM)?;
+    show(out, bend(8191), 0, ROOM)
 }
 
 // 6, before all else.
-fn wrong_channels() {
-    show(note_on(69, 100), 16, ROOM);
-    show(note_on(128, 128), 255, ROOM);
-    show(bend(8192), 16, 0);
+fn wrong_channels(out: &mut impl Write) -> io::Result<()> {
+    show(out, note_on(69, 100), 16, ROOM)?;
+    show(out, note_on(128, 128), 255, ROOM)?;
+    show(out, bend(8192), 16, 0)
 }
 
 // 8, in either data byte, before 10.
-fn wrong_data() {
-    show(note_off(128, 0), 0, ROOM);
-    show(note_off(0, 128), 0, ROOM);
-    show(note_on(255, 255), 15, 0);
-    show(key_pressure(128, 0), 0, ROOM);
-    show(key_pressure(0, 128), 0, ROOM);
-    show(control(128, 0), 0, ROOM);
-    show(control(0, 128), 0, ROOM);
-    show(program(128), 0, ROOM);
-    show(pressure(255), 0, ROOM);
+fn wrong_data(out: &mut impl Write) -> io::Result<()> {
+    show(out, note_off(128, 0), 0, ROOM)?;
+    show(out, note_off(0, 128), 0, ROOM)?;
+    show(out, note_on(255, 255), 15, 0)?;
+    show(out, key_pressure(128, 0), 0, ROOM)?;
+    show(out, key_pressure(0, 128), 0, ROOM)?;
+    show(out, control(128, 0), 0, ROOM)?;
+    show(out, control(0, 128), 0, ROOM)?;
+    show(out, program(128), 0, ROOM)?;
+    show(out, pressure(255), 0, ROOM)
 }
 
 // 9, before 10.
-fn wrong_bends() {
-    show(bend(-8193), 0, ROOM);
-    show(bend(8192), 0, ROOM);
-    show(bend(-32768), 0, ROOM);
-    show(bend(32767), 15, 0);
+fn wrong_bends(out: &mut impl Write) -> io::Result<()> {
+    show(out, bend(-8193), 0, ROOM)?;
+    show(out, bend(8192), 0, ROOM)?;
+    show(out, bend(-32768), 0, ROOM)?;
+    show(out, bend(32767), 15, 0)
 }
 
 // 10, up to the byte that is missing.
-fn short_buffers() {
-    show(note_on(69, 100), 0, 0);
-    show(note_on(69, 100), 0, 2);
-    show(note_on(69, 100), 0, 3);
-    show(program(5), 0, 2);
-    show(program(5), 0, 3);
-    show(bend(0), 0, 2);
-    show(bend(0), 0, 3);
+fn short_buffers(out: &mut impl Write) -> io::Result<()> {
+    show(out, note_on(69, 100), 0, 0)?;
+    show(out, note_on(69, 100), 0, 2)?;
+    show(out, note_on(69, 100), 0, 3)?;
+    show(out, program(5), 0, 2)?;
+    show(out, program(5), 0, 3)?;
+    show(out, bend(0), 0, 2)?;
+    show(out, bend(0), 0, 3)
 }
 
 // Lends the first bytes of a buffer to a call, and prints what it answered and the whole buffer.
-fn show(message: ChannelMessageType, channel: u8, room: usize)
+fn show(
+    out: &mut impl Write,
+    message: ChannelMessageType,
+    channel: u8,
+    room: usize,
+) -> io::Result<()>
     requires { room ≤ 4 }
 {
     let mut buffer = [0xaau8; ROOM];
     match message.to_raw_message(channel, &mut buffer[..room]) {
-        Sent::Written(count) => print_count(count),
-        Sent::Refused(number) => print_refusal(number),
+        Sent::Written(count) => print_count(out, count)?,
+        Sent::Refused(number) => print_refusal(out, number)?,
     }
-    print_byte(buffer[0]);
-    print_byte(buffer[1]);
-    print_byte(buffer[2]);
-    print_byte(buffer[3]);
-    io::write_all(STDOUT_FILENO, b"\n");
+    for byte in buffer {
+        print_byte(out, byte)?;
+    }
+    writeln!(out)
 }
 
-fn print_count(count: usize) {
-    io::print_decimal(STDOUT_FILENO, count as u64);
+fn print_count(out: &mut impl Write, count: usize) -> io::Result<()> {
+    write!(out, "{count}")
 }
 
-fn print_refusal(number: u8) {
-    io::write_all(STDOUT_FILENO, b"R");
-    io::print_decimal(STDOUT_FILENO, number as u64);
+fn print_refusal(out: &mut impl Write, number: u8) -> io::Result<()> {
+    write!(out, "R{number}")
 }
 
-fn print_byte(byte: u8) {
-    io::write_all(STDOUT_FILENO, b" ");
-    io::print_hex(STDOUT_FILENO, byte as u64, 2);
+fn print_byte(out: &mut impl Write, byte: u8) -> io::Result<()> {
+    write!(out, " {byte:02x}")
 }

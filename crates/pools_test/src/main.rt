@@ -11,59 +11,66 @@ use pools::block::{
     allocate_key, deregister_all, deregister_key, register_key, register_note,
 };
 use pools::cells::CELLS;
+use std::io;
+use std::io::{BufWriter, Write};
 
-fn place(channel: u8, note: i32) {
-    show::word(b": channel");
-    show::number(channel as u64);
-    show::word(b", note");
-    show::signed(note);
+fn place(out: &mut impl Write, channel: u8, note: i32) -> io::Result<()> {
+    show::word(out, b": channel")?;
+    show::number(out, channel as u64)?;
+    show::word(out, b", note")?;
+    show::signed(out, note)
 }
 
-fn stopped(note: StoppedNote) {
+fn stopped(out: &mut impl Write, note: StoppedNote) -> io::Result<()> {
     match note {
         StoppedNote::Note(note) => {
-            show::word(b", stops note");
-            show::signed(note);
+            show::word(out, b", stops note")?;
+            show::signed(out, note)
         }
-        StoppedNote::Nothing => {}
+        StoppedNote::Nothing => Ok(()),
     }
 }
 
-fn ratio(detuning: f64) {
-    show::word(b", detuning");
-    show::float(detuning);
+fn ratio(out: &mut impl Write, detuning: f64) -> io::Result<()> {
+    show::word(out, b", detuning")?;
+    show::float(out, detuning)
 }
 
-fn refused(n: u8) {
-    show::word(b":");
-    show::refusal(n);
+fn refused(out: &mut impl Write, n: u8) -> io::Result<()> {
+    show::word(out, b":")?;
+    show::refusal(out, n)
 }
 
-fn access(res: AccessKeyResult) {
+fn access(out: &mut impl Write, res: AccessKeyResult) -> io::Result<()> {
     match res {
         AccessKeyResult::Found {
             channel,
             found_note,
-        } => place(channel, found_note),
-        AccessKeyResult::NotFound => show::word(b": not found"),
+        } => place(out, channel, found_note),
+        AccessKeyResult::NotFound => show::word(out, b": not found"),
     }
 }
 
 // What is done with a key.
-fn action(what: &[u8], key: u8) {
-    show::word(what);
-    show::number(key as u64);
+fn action(out: &mut impl Write, what: &[u8], key: u8) -> io::Result<()> {
+    show::word(out, what)?;
+    show::number(out, key as u64)
 }
 
-fn press(model: JitTuningModel, key: u8, hz: f64) -> JitTuningModel {
-    action(b"  press", key);
+fn press(
+    out: &mut impl Write,
+    model: JitTuningModel,
+    key: u8,
+    hz: f64,
+) -> io::Result<JitTuningModel> {
+    action(out, b"  press", key)?;
     let registered = model.register_key(key, Pitch::from_hz(hz));
     let result = registered.result;
-    pressed(result);
-    registered.model
+    pressed(out, result)?;
+    Ok(registered.model)
 }
 
-fn pressed(res: RegisterKeyResult) {
+fn pressed(out: &mut impl Write, res: RegisterKeyResult) -> io::Result<()> {
     match res {
         RegisterKeyResult::Accepted {
             channel,
@@ -71,207 +78,263 @@ fn pressed(res: RegisterKeyResult) {
             started_note,
             detuning,
         } => {
-            place(channel, started_note);
-            stopped(stopped_note);
-            ratio(detuning);
+            place(out, channel, started_note)?;
+            stopped(out, stopped_note)?;
+            ratio(out, detuning)?;
         }
-        RegisterKeyResult::Rejected => show::word(b": rejected"),
-        RegisterKeyResult::Refused(n) => refused(n),
+        RegisterKeyResult::Rejected => show::word(out, b": rejected")?,
+        RegisterKeyResult::Refused(n) => refused(out, n)?,
     }
-    show::word(b"\n");
+    show::word(out, b"\n")
 }
 
-fn release(model: JitTuningModel, key: u8) -> JitTuningModel {
-    action(b"  release", key);
+fn release(out: &mut impl Write, model: JitTuningModel, key: u8) -> io::Result<JitTuningModel> {
+    action(out, b"  release", key)?;
     let deregistered = model.deregister_key(key);
     let result = deregistered.result;
-    access(result);
-    show::word(b"\n");
-    deregistered.model
+    access(out, result)?;
+    show::word(out, b"\n")?;
+    Ok(deregistered.model)
 }
 
-fn look(model: JitTuningModel, key: u8) {
-    action(b"  lookup", key);
+fn look(out: &mut impl Write, model: JitTuningModel, key: u8) -> io::Result<()> {
+    action(out, b"  lookup", key)?;
     let result = model.access_key(key);
-    access(result);
-    show::word(b"\n");
+    access(out, result)?;
+    show::word(out, b"\n")
 }
 
-fn repitch(model: JitTuningModel, key: u8, hz: f64) {
-    action(b"  repitch", key);
+fn repitch(out: &mut impl Write, model: JitTuningModel, key: u8, hz: f64) -> io::Result<()> {
+    action(out, b"  repitch", key)?;
     match model.repitch_key(key, Pitch::from_hz(hz)) {
         RepitchKeyResult::Found {
             channel,
             found_note,
             detuning,
         } => {
-            place(channel, found_note);
-            ratio(detuning);
+            place(out, channel, found_note)?;
+            ratio(out, detuning)?;
         }
-        RepitchKeyResult::NotFound => show::word(b": not found"),
-        RepitchKeyResult::Refused(n) => refused(n),
+        RepitchKeyResult::NotFound => show::word(out, b": not found")?,
+        RepitchKeyResult::Refused(n) => refused(out, n)?,
     }
-    show::word(b"\n");
+    show::word(out, b"\n")
 }
 
-fn found(what: &[u8], key: u16) {
-    show::word(what);
-    show::number(key as u64);
+fn found(out: &mut impl Write, what: &[u8], key: u16) -> io::Result<()> {
+    show::word(out, what)?;
+    show::number(out, key as u64)
 }
 
 // The first two found keys, and the model after all are released.
-fn stop(model: JitTuningModel) -> JitTuningModel {
-    show::word(b"  found");
+fn stop(out: &mut impl Write, model: JitTuningModel) -> io::Result<JitTuningModel> {
+    show::word(out, b"  found")?;
     match model.next_key(0) {
         NextKey::Held { key, channel, note } => {
-            found(b"", key);
-            place(channel, note);
+            found(out, b"", key)?;
+            place(out, channel, note)?;
             match model.next_key(key as usize + 1) {
                 NextKey::Held { key, channel, note } => {
-                    found(b";", key);
-                    place(channel, note);
+                    found(out, b";", key)?;
+                    place(out, channel, note)?;
                 }
-                NextKey::NoMore => show::word(b"; no more"),
+                NextKey::NoMore => show::word(out, b"; no more")?,
             }
         }
-        NextKey::NoMore => show::word(b" none"),
+        NextKey::NoMore => show::word(out, b" none")?,
     }
-    show::word(b"; all stopped\n");
-    model.stop()
+    show::word(out, b"; all stopped\n")?;
+    Ok(model.stop())
 }
 
 fn open(
+    out: &mut impl Write,
     name: &[u8],
     channels: &[u8],
     group_by: PoolGroupBy,
     pooling_mode: PoolingMode,
-) -> JitTuningModel {
-    show::word(name);
+) -> io::Result<JitTuningModel> {
+    show::word(out, name)?;
     let opened = JitTuningModel::open(channels, group_by, pooling_mode);
     let answer = opened.answer;
     match answer {
         ChannelsAnswer::Listed(list) => {
-            action(b": channels", list.len());
+            action(out, b": channels", list.len())?;
             match list.entry(1) {
-                EntryAnswer::Channel(c) => action(b", channel 1 is MIDI channel", c),
-                EntryAnswer::NoEntry => show::word(b", no channel 1"),
+                EntryAnswer::Channel(c) => action(out, b", channel 1 is MIDI channel", c)?,
+                EntryAnswer::NoEntry => show::word(out, b", no channel 1")?,
             }
         }
-        ChannelsAnswer::Refused(n) => refused(n),
+        ChannelsAnswer::Refused(n) => refused(out, n)?,
     }
-    show::word(b"\n");
-    opened.model
+    show::word(out, b"\n")?;
+    Ok(opened.model)
 }
 
-fn examples() {
+fn examples(out: &mut impl Write) -> io::Result<()> {
     let model = open(
+        out,
         b"example 11",
         &[4, 9],
         PoolGroupBy::Channel,
         PoolingMode::Block,
-    );
-    let model = press(model, 1, 440.0);
-    let model = release(model, 1);
-    press(model, 2, 440.0);
+    )?;
+    let model = press(out, model, 1, 440.0)?;
+    let model = release(out, model, 1)?;
+    press(out, model, 2, 440.0)?;
     let model = open(
+        out,
         b"example 12",
         &[0, 1],
         PoolGroupBy::Channel,
         PoolingMode::Stop,
-    );
-    let model = press(model, 1, 440.0);
-    let model = press(model, 2, 455.0);
-    let model = press(model, 3, 880.0);
-    look(model, 1);
-    release(model, 1);
+    )?;
+    let model = press(out, model, 1, 440.0)?;
+    let model = press(out, model, 2, 455.0)?;
+    let model = press(out, model, 3, 880.0)?;
+    look(out, model, 1)?;
+    release(out, model, 1)?;
+    Ok(())
 }
 
-fn block() {
-    let model = open(b"block", &[0, 1], PoolGroupBy::Channel, PoolingMode::Block);
-    let model = press(model, 1, 440.0);
-    let model = press(model, 2, 450.0);
-    let model = press(model, 3, 460.0);
-    let model = release(model, 1);
-    let model = press(model, 3, 460.0);
-    let model = stop(model);
-    let model = press(model, 4, 440.0);
-    look(model, 4);
-}
-
-fn ignore() {
+fn block(out: &mut impl Write) -> io::Result<()> {
     let model = open(
+        out,
+        b"block",
+        &[0, 1],
+        PoolGroupBy::Channel,
+        PoolingMode::Block,
+    )?;
+    let model = press(out, model, 1, 440.0)?;
+    let model = press(out, model, 2, 450.0)?;
+    let model = press(out, model, 3, 460.0)?;
+    let model = release(out, model, 1)?;
+    let model = press(out, model, 3, 460.0)?;
+    let model = stop(out, model)?;
+    let model = press(out, model, 4, 440.0)?;
+    look(out, model, 4)
+}
+
+fn ignore(out: &mut impl Write) -> io::Result<()> {
+    let model = open(
+        out,
         b"ignore",
         &[0, 1],
         PoolGroupBy::Channel,
         PoolingMode::Ignore,
-    );
-    let model = press(model, 1, 440.0);
-    let model = press(model, 2, 450.0);
-    let model = press(model, 3, 460.0);
-    let model = release(model, 1);
-    let model = press(model, 4, 470.0);
-    look(model, 2);
-    let model = release(model, 3);
-    press(model, 5, 480.0);
+    )?;
+    let model = press(out, model, 1, 440.0)?;
+    let model = press(out, model, 2, 450.0)?;
+    let model = press(out, model, 3, 460.0)?;
+    let model = release(out, model, 1)?;
+    let model = press(out, model, 4, 470.0)?;
+    look(out, model, 2)?;
+    let model = release(out, model, 3)?;
+    press(out, model, 5, 480.0)?;
+    Ok(())
 }
 
-fn letters() {
-    let model = open(b"letters", &[3], PoolGroupBy::NoteLetter, PoolingMode::Stop);
-    let model = press(model, 200, 440.0);
-    let model = press(model, 201, 450.0);
-    let model = press(model, 202, 880.0);
-    look(model, 200);
-    let model = press(model, 203, 466.0);
-    let model = stop(model);
-    press(model, 203, 466.0);
-}
-
-fn no_channels() {
-    let model = open(b"no channels", &[], PoolGroupBy::Channel, PoolingMode::Stop);
-    press(model, 1, 440.0);
+fn letters(out: &mut impl Write) -> io::Result<()> {
     let model = open(
+        out,
+        b"letters",
+        &[3],
+        PoolGroupBy::NoteLetter,
+        PoolingMode::Stop,
+    )?;
+    let model = press(out, model, 200, 440.0)?;
+    let model = press(out, model, 201, 450.0)?;
+    let model = press(out, model, 202, 880.0)?;
+    look(out, model, 200)?;
+    let model = press(out, model, 203, 466.0)?;
+    let model = stop(out, model)?;
+    press(out, model, 203, 466.0)?;
+    Ok(())
+}
+
+fn no_channels(out: &mut impl Write) -> io::Result<()> {
+    let model = open(
+        out,
+        b"no channels",
+        &[],
+        PoolGroupBy::Channel,
+        PoolingMode::Stop,
+    )?;
+    press(out, model, 1, 440.0)?;
+    let model = open(
+        out,
         b"refused channels",
         &[2, 16, 2],
         PoolGroupBy::NoteLetter,
         PoolingMode::Ignore,
-    );
-    press(model, 1, 440.0);
+    )?;
+    press(out, model, 1, 440.0)?;
     let model = open(
+        out,
         b"repeated channels",
         &[2, 3, 2, 16],
         PoolGroupBy::Channel,
         PoolingMode::Block,
-    );
-    press(model, 1, 440.0);
+    )?;
+    press(out, model, 1, 440.0)?;
+    Ok(())
 }
 
-fn refusals() {
+fn refusals(out: &mut impl Write) -> io::Result<()> {
     let model = open(
+        out,
         b"refusals",
         &[0, 1],
         PoolGroupBy::Channel,
         PoolingMode::Stop,
-    );
-    let model = press(model, 1, 440.0);
-    let model = press(model, 1, 440.0);
-    let model = press(model, 1, 0.0);
-    let model = press(model, 2, -440.0);
-    repitch(model, 1, 220.0);
-    repitch(model, 1, 1.0e30);
-    repitch(model, 2, 440.0);
-    repitch(model, 2, 0.0);
-    look(model, 1);
+    )?;
+    let model = press(out, model, 1, 440.0)?;
+    let model = press(out, model, 1, 440.0)?;
+    let model = press(out, model, 1, 0.0)?;
+    let model = press(out, model, 2, -440.0)?;
+    repitch(out, model, 1, 220.0)?;
+    repitch(out, model, 1, 1.0e30)?;
+    repitch(out, model, 2, 440.0)?;
+    repitch(out, model, 2, 0.0)?;
+    look(out, model, 1)
 }
 
-fn look_in(cells: &[u16; CELLS], key: u8) {
-    action(b"  lookup", key);
-    access(access_key(cells, key));
-    show::word(b"\n");
+// What is done with a block that is held here.
+fn look_in(out: &mut impl Write, cells: &[u16; CELLS], key: u8) -> io::Result<()> {
+    action(out, b"  lookup", key)?;
+    access(out, access_key(cells, key))?;
+    show::word(out, b"\n")
+}
+
+fn would_press(out: &mut impl Write, cells: &[u16; CELLS], key: u8, hz: f64) -> io::Result<()> {
+    action(out, b"  would press", key)?;
+    pressed(out, allocate_key(cells, key, Pitch::from_hz(hz)))
+}
+
+fn press_in(out: &mut impl Write, cells: &mut [u16; CELLS], key: u8, hz: f64) -> io::Result<()> {
+    action(out, b"  press", key)?;
+    pressed(out, register_key(cells, key, Pitch::from_hz(hz)))
+}
+
+fn press_note(
+    out: &mut impl Write,
+    cells: &mut [u16; CELLS],
+    key: u8,
+    note: i32,
+) -> io::Result<()> {
+    action(out, b"  press", key)?;
+    pressed(out, register_note(cells, key, note, 1.0))
+}
+
+fn release_in(out: &mut impl Write, cells: &mut [u16; CELLS], key: u8) -> io::Result<()> {
+    action(out, b"  release", key)?;
+    access(out, deregister_key(cells, key))?;
+    show::word(out, b"\n")
 }
 
 // The same in a block that is held here: what a press would answer changes nothing, and a press for its note is that press. Then a block of no sense.
-fn in_place() {
-    show::word(b"in place\n");
+fn in_place(out: &mut impl Write) -> io::Result<()> {
+    show::word(out, b"in place\n")?;
     let list = present(ChannelList::of(&[0, 1]));
     let mut cells = [0u16; CELLS];
     pools::block::open(
@@ -281,44 +344,35 @@ fn in_place() {
         PoolingMode::Stop,
         TuningKind::FineTuning,
     );
-    action(b"  would press", 1);
-    pressed(allocate_key(&cells, 1, Pitch::from_hz(440.0)));
-    look_in(&cells, 1);
-    action(b"  press", 1);
-    pressed(register_note(&mut cells, 1, 69, 1.0));
-    look_in(&cells, 1);
-    action(b"  would press", 1);
-    pressed(allocate_key(&cells, 1, Pitch::from_hz(440.0)));
-    action(b"  press", 1);
-    pressed(register_note(&mut cells, 1, 69, 1.0));
-    action(b"  press", 2);
-    pressed(register_note(&mut cells, 2, 501, 1.0));
-    action(b"  press", 2);
-    pressed(register_key(&mut cells, 2, Pitch::from_hz(450.0)));
-    action(b"  would press", 3);
-    pressed(allocate_key(&cells, 3, Pitch::from_hz(460.0)));
-    action(b"  press", 3);
-    pressed(register_key(&mut cells, 3, Pitch::from_hz(460.0)));
-    look_in(&cells, 1);
-    action(b"  release", 2);
-    access(deregister_key(&mut cells, 2));
-    show::word(b"\n");
+    would_press(out, &cells, 1, 440.0)?;
+    look_in(out, &cells, 1)?;
+    press_note(out, &mut cells, 1, 69)?;
+    look_in(out, &cells, 1)?;
+    would_press(out, &cells, 1, 440.0)?;
+    press_note(out, &mut cells, 1, 69)?;
+    press_note(out, &mut cells, 2, 501)?;
+    press_in(out, &mut cells, 2, 450.0)?;
+    would_press(out, &cells, 3, 460.0)?;
+    press_in(out, &mut cells, 3, 460.0)?;
+    look_in(out, &cells, 1)?;
+    release_in(out, &mut cells, 2)?;
     deregister_all(&mut cells);
-    look_in(&cells, 3);
+    look_in(out, &cells, 3)?;
     let mut noise = [65535u16; CELLS];
-    look_in(&noise, 255);
-    action(b"  press", 255);
-    pressed(register_key(&mut noise, 255, Pitch::from_hz(440.0)));
+    look_in(out, &noise, 255)?;
+    press_in(out, &mut noise, 255, 440.0)?;
     deregister_all(&mut noise);
-    look_in(&noise, 255);
+    look_in(out, &noise, 255)
 }
 
-fn main() {
-    examples();
-    block();
-    ignore();
-    letters();
-    no_channels();
-    refusals();
-    in_place();
+fn main(rt: HostRuntime) -> io::Result<()> {
+    let mut out = BufWriter::new(rt.alloc(), rt.stdout())?;
+    examples(&mut out)?;
+    block(&mut out)?;
+    ignore(&mut out)?;
+    letters(&mut out)?;
+    no_channels(&mut out)?;
+    refusals(&mut out)?;
+    in_place(&mut out)?;
+    out.flush()
 }

@@ -13,12 +13,13 @@ use arithmetic::pitch::{Pitch, Ratio};
 use arithmetic::tuning::{Approximation, find_by_pitch};
 use channels::keys::AccessKeyResult;
 use channels::tuning_value::{Tuning, TuningAnswer, TuningKind, tuning_of};
-use libc::STDIN_FILENO;
 use models::aot::{AotTuningModel, SetTuning};
 use models::jit::JitTuningModel;
 use plans::block::{GroupBy, PlanAnswer as Plan};
 use pools::block::{PoolGroupBy, PoolingMode, RegisterKeyResult, StoppedNote};
 use show::{number, refusal, signed, word};
+use std::io;
+use std::io::{BufWriter, Read, Write};
 
 const CHANNELS: [u8; 16] = [0, 1, 2, 3, 4, 5, 6, 7, 8, 9, 10, 11, 12, 13, 14, 15];
 
@@ -29,88 +30,83 @@ struct Taken {
     at: usize,
 }
 
-fn main() {
-    let mut buffer = io::large_buffer();
-    let n = io::read_full(STDIN_FILENO, &mut buffer);
-    replay_first(&buffer, n);
+fn main(rt: HostRuntime) -> io::Result<()> {
+    let mut text = Vec::new(rt.alloc());
+    let n = rt.reader().read_to_end(&mut text)?;
+    let mut out = BufWriter::new(rt.alloc(), rt.stdout())?;
+    replay_first(&mut out, &text, n)?;
+    out.flush()
 }
 
-fn replay_first(buffer: &[u8], n: usize) {
+fn replay_first(out: &mut impl Write, buffer: &[u8], n: usize) -> io::Result<()> {
     if n <= buffer.len() {
-        replay(&buffer[..n]);
+        replay(out, &buffer[..n])?;
     }
+    Ok(())
 }
 
-fn replay(text: &[u8]) {
+fn replay(out: &mut impl Write, text: &[u8]) -> io::Result<()> {
     let count = read(text, 0);
-    let n = count.value;
     let mut at = count.at;
-    let mut i: u64 = 0;
-    while i < n {
-        at = remark(text, replay_one(text, at));
-        word(b"\n");
-        i += 1;
+    for _ in 0..count.value {
+        let end = replay_one(out, text, at)?;
+        at = remark(out, text, end)?;
+        word(out, b"\n")?;
     }
+    Ok(())
 }
 
-fn replay_one(text: &[u8], at: usize) -> usize {
+fn replay_one(out: &mut impl Write, text: &[u8], at: usize) -> io::Result<usize> {
     let kind = read(text, at);
     let k = kind.value;
     if k == 1 {
-        return nearest(text, kind.at);
+        return nearest(out, text, kind.at);
     }
     if k == 2 {
-        return values(text, kind.at);
+        return values(out, text, kind.at);
     }
     if k == 3 {
-        return plan(text, kind.at);
+        return plan(out, text, kind.at);
     }
     if k == 4 {
-        return pool(text, kind.at);
+        return pool(out, text, kind.at);
     }
     if k == 5 {
-        return pool_tuner(text, kind.at);
+        return pool_tuner(out, text, kind.at);
     }
-    plan_tuner(text, kind.at)
+    plan_tuner(out, text, kind.at)
 }
 
 // Writes what is left of a line.
-fn remark(text: &[u8], from: usize) -> usize {
-    let n = text.len();
-    let mut at = from;
-    while at < n {
+fn remark(out: &mut impl Write, text: &[u8], from: usize) -> io::Result<usize> {
+    for at in from..text.len() {
         if text[at] == b'\n' {
-            word(&text[from..at]);
-            return at;
+            word(out, &text[from..at])?;
+            return Ok(at);
         }
-        at += 1;
     }
-    at
+    Ok(from.max(text.len()))
 }
 
 // The next number: its digits, behind what is no digit.
 fn read(text: &[u8], from: usize) -> Taken {
-    let n = text.len();
-    let mut at = from;
     let mut value: u64 = 0;
     let mut begun = false;
-    while at < n {
+    for at in from..text.len() {
         let byte = text[at];
         if is_digit(byte) {
             value = with_digit(value, byte);
             begun = true;
-        } else {
-            if begun {
-                return Taken { value, at };
-            }
+        } else if begun {
+            return Taken { value, at };
         }
-        at += 1;
     }
+    let at = from.max(text.len());
     Taken { value, at }
 }
 
 fn is_digit(byte: u8) -> bool {
-    48 <= byte && byte <= 57
+    byte.is_ascii_digit()
 }
 
 fn with_digit(value: u64, byte: u8) -> u64 {
@@ -146,42 +142,42 @@ fn low_byte(value: u64) -> u8 {
 }
 
 // A pitch in millihertz: its nearest note.
-fn nearest(text: &[u8], at: usize) -> usize {
+fn nearest(out: &mut impl Write, text: &[u8], at: usize) -> io::Result<usize> {
     let pitch = read(text, at);
-    word(b"note");
+    word(out, b"note")?;
     match find_by_pitch(Pitch::from_hz(hertz(pitch.value))) {
-        Approximation::Nearest(note, _) => signed(note),
-        Approximation::Refused(n) => refusal(n),
+        Approximation::Nearest(note, _) => signed(out, note)?,
+        Approximation::Refused(n) => refusal(out, n)?,
     }
-    pitch.at
+    Ok(pitch.at)
 }
 
 // A detuning in millionths: its fine value and its bend.
-fn values(text: &[u8], at: usize) -> usize {
+fn values(out: &mut impl Write, text: &[u8], at: usize) -> io::Result<usize> {
     let detuning = read(text, at);
     let ratio = Ratio::from_float(float(detuning.value) / 1000000.0);
-    word(b"values");
-    value(tuning_of(TuningKind::FineTuning, ratio));
-    value(tuning_of(TuningKind::Bend, ratio));
-    detuning.at
+    word(out, b"values")?;
+    value(out, tuning_of(TuningKind::FineTuning, ratio))?;
+    value(out, tuning_of(TuningKind::Bend, ratio))?;
+    Ok(detuning.at)
 }
 
-fn value(answer: TuningAnswer) {
+fn value(out: &mut impl Write, answer: TuningAnswer) -> io::Result<()> {
     match answer {
         TuningAnswer::Value(tuning) => match tuning {
-            Tuning::Fine(n) => number(n as u64),
-            Tuning::Bend(n) => bend(n),
+            Tuning::Fine(n) => number(out, n as u64),
+            Tuning::Bend(n) => bend(out, n),
         },
-        TuningAnswer::Refused(n) => refusal(n),
+        TuningAnswer::Refused(n) => refusal(out, n),
     }
 }
 
-fn bend(n: i16) {
-    signed(n as i32);
+fn bend(out: &mut impl Write, n: i16) -> io::Result<()> {
+    signed(out, n as i32)
 }
 
 // The kind of group, the count of channels, the count of keys, and each key with its pitch in millihertz: the answer, and each key's channel and note.
-fn plan(text: &[u8], at: usize) -> usize {
+fn plan(out: &mut impl Write, text: &[u8], at: usize) -> io::Result<usize> {
     let group = read(text, at);
     let present = read(text, group.at);
     let lines = read(text, present.at);
@@ -192,10 +188,10 @@ fn plan(text: &[u8], at: usize) -> usize {
     let model = opened_plan(&CHANNELS, present.value, group_by(group.value));
     let planned = planned(model, &keys, &pitches, lines.value);
     let answer = planned.answer;
-    told(answer);
+    told(out, answer)?;
     let next = planned.model;
-    seats(next, &keys, lines.value);
-    end
+    seats(out, next, &keys, lines.value)?;
+    Ok(end)
 }
 
 fn opened_plan(channels: &[u8], present: u64, group_by: GroupBy) -> AotTuningModel {
@@ -210,17 +206,17 @@ fn planned(model: AotTuningModel, keys: &[u8], pitches: &[f64], lines: u64) -> S
     model.set_tuning_of_pitches(&keys[..n], &pitches[..m])
 }
 
-fn told(answer: Plan) {
+fn told(out: &mut impl Write, answer: Plan) -> io::Result<()> {
     match answer {
         Plan::Tuned(count) => {
-            word(b"tuned");
-            number(count as u64);
+            word(out, b"tuned")?;
+            number(out, count as u64)
         }
         Plan::Untuned(count) => {
-            word(b"untuned");
-            number(count as u64);
+            word(out, b"untuned")?;
+            number(out, count as u64)
         }
-        Plan::Refused(n) => refusal(n),
+        Plan::Refused(n) => refusal(out, n),
     }
 }
 
@@ -236,14 +232,12 @@ fn group_by(number: u64) -> GroupBy {
 
 fn lines_of(text: &[u8], from: usize, n: usize, keys: &mut [u8], pitches: &mut [f64]) -> usize {
     let mut at = from;
-    let mut i: usize = 0;
-    while i < n {
+    for i in 0..n {
         let key = read(text, at);
         let pitch = read(text, key.at);
         at = pitch.at;
         put_key(keys, i, low_byte(key.value));
         put_pitch(pitches, i, hertz(pitch.value));
-        i += 1;
     }
     at
 }
@@ -260,23 +254,22 @@ fn put_pitch(pitches: &mut [f64], i: usize, pitch: f64) {
     }
 }
 
-fn seats(model: AotTuningModel, keys: &[u8], lines: u64) {
+fn seats(out: &mut impl Write, model: AotTuningModel, keys: &[u8], lines: u64) -> io::Result<()> {
     let n = cut(lines, keys.len());
-    let mut i: usize = 0;
-    while i < n {
-        accessed(model.access_key(keys[i]));
-        i += 1;
+    for key in &keys[..n] {
+        accessed(out, model.access_key(*key))?;
     }
+    Ok(())
 }
 
-fn place(channel: u8, note: i32) {
-    word(b",");
-    number(channel as u64);
-    signed(note);
+fn place(out: &mut impl Write, channel: u8, note: i32) -> io::Result<()> {
+    word(out, b",")?;
+    number(out, channel as u64)?;
+    signed(out, note)
 }
 
 // 1 for letters, the mode, the count of channels, the count of events, and each event: 0 a press, 1 a release, else a lookup, the key, the pitch.
-fn pool(text: &[u8], at: usize) -> usize {
+fn pool(out: &mut impl Write, text: &[u8], at: usize) -> io::Result<usize> {
     let letters = read(text, at);
     let mode = read(text, letters.at);
     let present = read(text, mode.at);
@@ -287,8 +280,8 @@ fn pool(text: &[u8], at: usize) -> usize {
         pool_group(letters.value),
         pooling_mode(mode.value),
     );
-    word(b"pool");
-    play(model, text, events.at, events.value)
+    word(out, b"pool")?;
+    play(out, model, text, events.at, events.value)
 }
 
 fn opened_pool(
@@ -319,40 +312,55 @@ fn pooling_mode(number: u64) -> PoolingMode {
     PoolingMode::Ignore
 }
 
-fn play(opened: JitTuningModel, text: &[u8], from: usize, n: u64) -> usize {
+fn play(
+    out: &mut impl Write,
+    opened: JitTuningModel,
+    text: &[u8],
+    from: usize,
+    n: u64,
+) -> io::Result<usize> {
     let mut model = opened;
     let mut at = from;
-    let mut i: u64 = 0;
-    while i < n {
+    for _ in 0..n {
         let event = read(text, at);
         let key = read(text, event.at);
         let pitch = read(text, key.at);
         at = pitch.at;
-        let next = happen(model, event.value, low_byte(key.value), hertz(pitch.value));
-        model = next;
-        i += 1;
+        model = happen(
+            out,
+            model,
+            event.value,
+            low_byte(key.value),
+            hertz(pitch.value),
+        )?;
     }
-    at
+    Ok(at)
 }
 
-fn happen(model: JitTuningModel, event: u64, key: u8, hz: f64) -> JitTuningModel {
+fn happen(
+    out: &mut impl Write,
+    model: JitTuningModel,
+    event: u64,
+    key: u8,
+    hz: f64,
+) -> io::Result<JitTuningModel> {
     if event == 0 {
         let registered = model.register_key(key, Pitch::from_hz(hz));
         let result = registered.result;
-        pressed(result);
-        return registered.model;
+        pressed(out, result)?;
+        return Ok(registered.model);
     }
     if event == 1 {
         let deregistered = model.deregister_key(key);
         let result = deregistered.result;
-        accessed(result);
-        return deregistered.model;
+        accessed(out, result)?;
+        return Ok(deregistered.model);
     }
-    accessed(model.access_key(key));
-    model
+    accessed(out, model.access_key(key))?;
+    Ok(model)
 }
 
-fn pressed(res: RegisterKeyResult) {
+fn pressed(out: &mut impl Write, res: RegisterKeyResult) -> io::Result<()> {
     match res {
         RegisterKeyResult::Accepted {
             channel,
@@ -360,30 +368,30 @@ fn pressed(res: RegisterKeyResult) {
             started_note,
             detuning: _,
         } => {
-            place(channel, started_note);
-            stopped(stopped_note);
+            place(out, channel, started_note)?;
+            stopped(out, stopped_note)
         }
-        RegisterKeyResult::Rejected => word(b", rejected"),
-        RegisterKeyResult::Refused(n) => refusal(n),
+        RegisterKeyResult::Rejected => word(out, b", rejected"),
+        RegisterKeyResult::Refused(n) => refusal(out, n),
     }
 }
 
-fn stopped(note: StoppedNote) {
+fn stopped(out: &mut impl Write, note: StoppedNote) -> io::Result<()> {
     match note {
         StoppedNote::Note(n) => {
-            word(b" stops");
-            signed(n);
+            word(out, b" stops")?;
+            signed(out, n)
         }
-        StoppedNote::Nothing => {}
+        StoppedNote::Nothing => Ok(()),
     }
 }
 
-fn accessed(res: AccessKeyResult) {
+fn accessed(out: &mut impl Write, res: AccessKeyResult) -> io::Result<()> {
     match res {
         AccessKeyResult::Found {
             channel,
             found_note,
-        } => place(channel, found_note),
-        AccessKeyResult::NotFound => word(b", -"),
+        } => place(out, channel, found_note),
+        AccessKeyResult::NotFound => word(out, b", -"),
     }
 }

@@ -8,12 +8,14 @@ use pools::block::PoolingMode;
 use senders::jit::{JitTuner, PressAnswer};
 use senders::midi::Sent;
 use show::{byte, number, refusal, word};
+use std::io;
+use std::io::Write;
 
 const VELOCITY: u8 = 64;
 
 // 1 for bends, the mode, the count of channels, the count of calls, and each call: 0 a press, 1 a release, 2 a repitch, 3 a pressure, else a stop; the
 // key, the pitch, the velocity or pressure.
-pub fn pool_tuner(text: &[u8], at: usize) -> usize {
+pub fn pool_tuner(out: &mut impl Write, text: &[u8], at: usize) -> io::Result<usize> {
     let bends = read(text, at);
     let mode = read(text, bends.at);
     let present = read(text, mode.at);
@@ -24,12 +26,12 @@ pub fn pool_tuner(text: &[u8], at: usize) -> usize {
         kind(bends.value),
         pooling_mode(mode.value),
     );
-    word(b"pool tuner");
-    play(tuner, text, calls.at, calls.value)
+    word(out, b"pool tuner")?;
+    play(out, tuner, text, calls.at, calls.value)
 }
 
 // 1 for bends, the count of channels, the count of keys, and each key with its pitch in millihertz: the tuning, and a press of each key.
-pub fn plan_tuner(text: &[u8], at: usize) -> usize {
+pub fn plan_tuner(out: &mut impl Write, text: &[u8], at: usize) -> io::Result<usize> {
     let bends = read(text, at);
     let present = read(text, bends.at);
     let lines = read(text, present.at);
@@ -38,10 +40,10 @@ pub fn plan_tuner(text: &[u8], at: usize) -> usize {
     let mut pitches = [0.0; 256];
     let end = lines_of(text, lines.at, n, &mut keys, &mut pitches);
     let tuner = started_plan(&CHANNELS, present.value, kind(bends.value));
-    word(b"plan tuner");
-    let next = tuned(tuner, &keys, &pitches, lines.value);
-    presses(next, &keys, lines.value);
-    end
+    word(out, b"plan tuner")?;
+    let next = tuned(out, tuner, &keys, &pitches, lines.value)?;
+    presses(out, next, &keys, lines.value)?;
+    Ok(end)
 }
 
 fn kind(bends: u64) -> TuningKind {
@@ -63,130 +65,144 @@ fn started_plan(channels: &[u8], present: u64, kind: TuningKind) -> AotTuner {
     opened.tuner
 }
 
-fn play(started: JitTuner, text: &[u8], from: usize, n: u64) -> usize {
+fn play(
+    out: &mut impl Write,
+    started: JitTuner,
+    text: &[u8],
+    from: usize,
+    n: u64,
+) -> io::Result<usize> {
     let mut tuner = started;
     let mut at = from;
-    let mut i: u64 = 0;
-    while i < n {
+    for _ in 0..n {
         let call = read(text, at);
         let key = read(text, call.at);
         let pitch = read(text, key.at);
         let value = read(text, pitch.at);
         at = value.at;
-        let next = happen(
+        tuner = happen(
+            out,
             tuner,
             call.value,
             low_byte(key.value),
             hertz(pitch.value),
             low_byte(value.value),
-        );
-        tuner = next;
-        i += 1;
+        )?;
     }
-    at
+    Ok(at)
 }
 
-fn happen(tuner: JitTuner, call: u64, key: u8, hz: f64, value: u8) -> JitTuner {
-    let mut out = [0u8; 1024];
+fn happen(
+    out: &mut impl Write,
+    tuner: JitTuner,
+    call: u64,
+    key: u8,
+    hz: f64,
+    value: u8,
+) -> io::Result<JitTuner> {
+    let mut buffer = [0u8; 1024];
     if call == 0 {
-        let pressed = tuner.note_on(key, Pitch::from_hz(hz), value, &mut out);
+        let pressed = tuner.note_on(key, Pitch::from_hz(hz), value, &mut buffer);
         let answer = pressed.answer;
-        press(answer, &out);
-        return pressed.tuner;
+        press(out, answer, &buffer)?;
+        return Ok(pressed.tuner);
     }
     if call == 1 {
-        let released = tuner.note_off(key, value, &mut out);
+        let released = tuner.note_off(key, value, &mut buffer);
         let answer = released.answer;
-        sent(answer, &out);
-        return released.tuner;
+        sent(out, answer, &buffer)?;
+        return Ok(released.tuner);
     }
     if call == 2 {
-        let answer = tuner.note_pitch(key, Pitch::from_hz(hz), &mut out);
-        sent(answer, &out);
-        return tuner;
+        let answer = tuner.note_pitch(key, Pitch::from_hz(hz), &mut buffer);
+        sent(out, answer, &buffer)?;
+        return Ok(tuner);
     }
     if call == 3 {
-        let answer = tuner.note_attr(key, value, &mut out);
-        sent(answer, &out);
-        return tuner;
+        let answer = tuner.note_attr(key, value, &mut buffer);
+        sent(out, answer, &buffer)?;
+        return Ok(tuner);
     }
-    let released = tuner.stop(&mut out);
+    let released = tuner.stop(&mut buffer);
     let answer = released.answer;
-    sent(answer, &out);
-    released.tuner
+    sent(out, answer, &buffer)?;
+    Ok(released.tuner)
 }
 
-fn press(answer: PressAnswer, out: &[u8]) {
+fn press(out: &mut impl Write, answer: PressAnswer, buffer: &[u8]) -> io::Result<()> {
     match answer {
-        PressAnswer::Written(n) => written(out, n),
-        PressAnswer::Rejected => word(b", rejected"),
-        PressAnswer::Refused(n) => refusal(n),
+        PressAnswer::Written(n) => written(out, buffer, n),
+        PressAnswer::Rejected => word(out, b", rejected"),
+        PressAnswer::Refused(n) => refusal(out, n),
     }
 }
 
-fn sent(answer: Sent, out: &[u8]) {
+fn sent(out: &mut impl Write, answer: Sent, buffer: &[u8]) -> io::Result<()> {
     match answer {
-        Sent::Written(n) => written(out, n),
-        Sent::Refused(n) => refusal(n),
+        Sent::Written(n) => written(out, buffer, n),
+        Sent::Refused(n) => refusal(out, n),
     }
 }
 
-fn written(out: &[u8], count: usize) {
+fn written(out: &mut impl Write, buffer: &[u8], count: usize) -> io::Result<()> {
     if count == 0 {
-        word(b", -");
-        return;
+        return word(out, b", -");
     }
-    word(b",");
-    bytes(out, count);
+    word(out, b",")?;
+    bytes(out, buffer, count)
 }
 
-fn bytes(out: &[u8], count: usize) {
-    let n = cut(count as u64, out.len());
-    let mut i: usize = 0;
-    while i < n {
-        byte(out[i]);
-        i += 1;
+fn bytes(out: &mut impl Write, buffer: &[u8], count: usize) -> io::Result<()> {
+    let n = cut(count as u64, buffer.len());
+    for sent in &buffer[..n] {
+        byte(out, *sent)?;
     }
+    Ok(())
 }
 
-fn tuned(tuner: AotTuner, keys: &[u8], pitches: &[f64], lines: u64) -> AotTuner {
+fn tuned(
+    out: &mut impl Write,
+    tuner: AotTuner,
+    keys: &[u8],
+    pitches: &[f64],
+    lines: u64,
+) -> io::Result<AotTuner> {
     let n = cut(lines, keys.len());
     let m = cut(lines, pitches.len());
-    let mut out = [0u8; 256];
-    let tuned = tuner.set_tuning_of_pitches(&keys[..n], &pitches[..m], &mut out);
+    let mut buffer = [0u8; 256];
+    let tuned = tuner.set_tuning_of_pitches(&keys[..n], &pitches[..m], &mut buffer);
     let answer = tuned.answer;
-    plan(answer, &out);
-    tuned.tuner
+    plan(out, answer, &buffer)?;
+    Ok(tuned.tuner)
 }
 
-fn plan(answer: PlanSent, out: &[u8]) {
+fn plan(out: &mut impl Write, answer: PlanSent, buffer: &[u8]) -> io::Result<()> {
     match answer {
         PlanSent::Tuned {
             channels,
             written: count,
         } => {
-            number(channels as u64);
-            written(out, count);
+            number(out, channels as u64)?;
+            written(out, buffer, count)
         }
         PlanSent::Untuned(channels) => {
-            word(b" untuned");
-            number(channels as u64);
+            word(out, b" untuned")?;
+            number(out, channels as u64)
         }
-        PlanSent::Refused(n) => refusal(n),
+        PlanSent::Refused(n) => refusal(out, n),
     }
 }
 
-fn presses(tuner: AotTuner, keys: &[u8], lines: u64) {
+fn presses(out: &mut impl Write, tuner: AotTuner, keys: &[u8], lines: u64) -> io::Result<()> {
     let n = cut(lines, keys.len());
-    let mut i: usize = 0;
-    while i < n {
-        key_press(tuner, keys[i]);
-        i += 1;
+    for key in &keys[..n] {
+        key_press(out, tuner, *key)?;
     }
+    Ok(())
 }
 
-fn key_press(tuner: AotTuner, key: u8) {
-    let mut out = [0u8; 16];
-    let answer = tuner.note_on(key, VELOCITY, &mut out);
-    sent(answer, &out);
+fn key_press(out: &mut impl Write, tuner: AotTuner, key: u8) -> io::Result<()> {
+    let mut buffer = [0u8; 16];
+    let answer = tuner.note_on(key, VELOCITY, &mut buffer);
+    sent(out, answer, &buffer)
 }

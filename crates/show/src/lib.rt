@@ -1,29 +1,29 @@
-// What the test programs write to standard output: words, numbers, refusals and the bits of an f64, each number behind a space.
+// What the test programs write: words, numbers, refusals and the bits of an f64, each number behind a space. Each function takes what it writes to, and
+// its error is that a write failed.
 #![tactic(auto)]
 
 ghost use Rattle.std.specs.Prelude.{◌≡◌, nat_abs};
 
-use libc::STDOUT_FILENO;
+use std::io;
+use std::io::Write;
 
-pub fn word(text: &[u8]) {
-    io::write_all(STDOUT_FILENO, text);
+pub fn word<W: Write>(out: &mut W, text: &[u8]) -> io::Result<()> {
+    out.write_all(text)
 }
 
-pub fn number(n: u64) {
-    word(b" ");
-    io::print_decimal(STDOUT_FILENO, n);
+pub fn number<W: Write>(out: &mut W, n: u64) -> io::Result<()> {
+    write!(out, " {n}")
 }
 
-pub fn signed(n: i32) {
-    long(n as i64);
+pub fn signed<W: Write>(out: &mut W, n: i32) -> io::Result<()> {
+    long(out, n as i64)
 }
 
-pub fn long(n: i64) {
+pub fn long<W: Write>(out: &mut W, n: i64) -> io::Result<()> {
     if n < 0 {
-        word(b" -");
-        io::print_decimal(STDOUT_FILENO, magnitude(n));
+        write!(out, " -{}", magnitude(n))
     } else {
-        number(magnitude(n));
+        number(out, magnitude(n))
     }
 }
 
@@ -31,31 +31,24 @@ pub fn long(n: i64) {
 fn magnitude(n: i64) -> u64
     ensures { result ≡ nat_abs n }
 {
-    if n < 0 {
-        let below = -1 - n;
-        return below as u64 + 1;
-    }
-    n as u64
+    n.unsigned_abs()
 }
 
 // Two hexadecimal digits.
-pub fn byte(n: u8) {
-    word(b" ");
-    io::print_hex(STDOUT_FILENO, n as u64, 2);
+pub fn byte<W: Write>(out: &mut W, n: u8) -> io::Result<()> {
+    write!(out, " {n:02x}")
 }
 
 // A refusal by its number, as R4.
-pub fn refusal(n: u8) {
-    word(b" R");
-    io::print_decimal(STDOUT_FILENO, n as u64);
+pub fn refusal<W: Write>(out: &mut W, n: u8) -> io::Result<()> {
+    write!(out, " R{n}")
 }
 
 // The sixteen hexadecimal digits of an f64, or NaN.
-pub fn float(x: f64) {
+pub fn float<W: Write>(out: &mut W, x: f64) -> io::Result<()> {
     if x == x {
-        word(b" ");
-        io::print_hex(STDOUT_FILENO, f64::to_bits(x), 16);
+        write!(out, " {:016x}", x.to_bits())
     } else {
-        word(b" NaN");
+        word(out, b" NaN")
     }
 }

@@ -5,7 +5,12 @@ mod plan;
 mod pool;
 mod shown;
 
-fn main() {
-    pool::all();
-    plan::all();
+use std::io;
+use std::io::{BufWriter, Write};
+
+fn main(rt: HostRuntime) -> io::Result<()> {
+    let mut out = BufWriter::new(rt.alloc(), rt.stdout())?;
+    pool::all(&mut out)?;
+    plan::all(&mut out)?;
+    out.flush()
 }

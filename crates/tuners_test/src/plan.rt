@@ -9,6 +9,8 @@ use channels::list::ChannelsAnswer;
 use channels::tuning_value::TuningKind;
 use plan_tuner::aot::{AotTuner, PlanSent, Tuned};
 use senders::midi::{ChannelMessageType, Sent};
+use std::io;
+use std::io::Write;
 
 // Sixteen channels take 192 bytes.
 const ROOM: usize = 200;
@@ -123,54 +125,59 @@ fn set(tuner: AotTuner, list: u8, out: &mut [u8]) -> Tuned {
 }
 
 // Makes a call first one byte short and then with room, and shows both answers, and of the first the tuner that it left.
-fn play(tuner: AotTuner, call: Call) -> AotTuner {
+fn play(out: &mut impl Write, tuner: AotTuner, call: Call) -> io::Result<AotTuner> {
     let mut buffer = [0xaau8; ROOM];
     let played = perform(tuner, call, &mut buffer);
     let answer = played.answer;
     let short = short_of(answer);
     if short < ROOM {
-        try_short(tuner, call, short);
+        try_short(out, tuner, call, short)?;
     }
-    answered(answer, &buffer);
-    show::word(b"\n");
-    played.tuner
+    answered(out, answer, &buffer)?;
+    show::word(out, b"\n")?;
+    Ok(played.tuner)
 }
 
-fn try_short(tuner: AotTuner, call: Call, room: usize)
+fn try_short(out: &mut impl Write, tuner: AotTuner, call: Call, room: usize) -> io::Result<()>
     requires { room ≤ 200 }
 {
     let mut buffer = [0xaau8; ROOM];
-    try_with(tuner, call, &mut buffer[..room]);
+    try_with(out, tuner, call, &mut buffer[..room])
 }
 
-fn try_with(tuner: AotTuner, call: Call, out: &mut [u8]) {
-    let played = perform(tuner, call, out);
+fn try_with(
+    out: &mut impl Write,
+    tuner: AotTuner,
+    call: Call,
+    buffer: &mut [u8],
+) -> io::Result<()> {
+    let played = perform(tuner, call, buffer);
     let answer = played.answer;
-    answered(answer, out);
-    state(played.tuner);
+    answered(out, answer, buffer)?;
+    state(out, played.tuner)
 }
 
 // Whether there is a plan, and where key 5 is.
-fn state(tuner: AotTuner) {
+fn state(out: &mut impl Write, tuner: AotTuner) -> io::Result<()> {
     if tuner.tuned() {
-        show::word(b" (tuned");
+        show::word(out, b" (tuned")?;
     } else {
-        show::word(b" (no plan");
+        show::word(out, b" (no plan")?;
     }
-    place(tuner.access_key(5));
-    show::word(b")");
+    place(out, tuner.access_key(5))?;
+    show::word(out, b")")
 }
 
-fn place(access: AccessKeyResult) {
+fn place(out: &mut impl Write, access: AccessKeyResult) -> io::Result<()> {
     match access {
         AccessKeyResult::Found {
             channel,
             found_note,
         } => {
-            show::number(channel as u64);
-            show::signed(found_note);
+            show::number(out, channel as u64)?;
+            show::signed(out, found_note)
         }
-        AccessKeyResult::NotFound => show::word(b" not found"),
+        AccessKeyResult::NotFound => show::word(out, b" not found"),
     }
 }
 
@@ -199,159 +206,177 @@ fn less(count: usize) -> usize {
     0
 }
 
-fn answered(answer: Answer, buffer: &[u8]) {
+fn answered(out: &mut impl Write, answer: Answer, buffer: &[u8]) -> io::Result<()> {
     match answer {
         Answer::Planned(plan) => match plan {
             PlanSent::Tuned { channels, written } => {
-                show::word(b" tuned");
-                show::number(channels as u64);
-                crate::shown::written(written, buffer);
+                show::word(out, b" tuned")?;
+                show::number(out, channels as u64)?;
+                crate::shown::written(out, written, buffer)
             }
             PlanSent::Untuned(channels) => {
-                show::word(b" untuned");
-                show::number(channels as u64);
-                written(0, buffer);
+                show::word(out, b" untuned")?;
+                show::number(out, channels as u64)?;
+                written(out, 0, buffer)
             }
-            PlanSent::Refused(n) => refused(n, buffer),
+            PlanSent::Refused(n) => refused(out, n, buffer),
         },
         Answer::Other(sent) => match sent {
-            Sent::Written(count) => written(count, buffer),
-            Sent::Refused(n) => refused(n, buffer),
+            Sent::Written(count) => written(out, count, buffer),
+            Sent::Refused(n) => refused(out, n, buffer),
         },
     }
 }
 
-fn tune(tuner: AotTuner, list: u8) -> AotTuner {
-    action(b"  list", list);
-    play(tuner, Call::Set(list))
+fn tune(out: &mut impl Write, tuner: AotTuner, list: u8) -> io::Result<AotTuner> {
+    action(out, b"  list", list)?;
+    play(out, tuner, Call::Set(list))
 }
 
-fn press(tuner: AotTuner, key: u8, velocity: u8) {
-    action(b"  on", key);
-    play(tuner, Call::On { key, velocity });
+fn press(out: &mut impl Write, tuner: AotTuner, key: u8, velocity: u8) -> io::Result<()> {
+    action(out, b"  on", key)?;
+    play(out, tuner, Call::On { key, velocity })?;
+    Ok(())
 }
 
-fn release(tuner: AotTuner, key: u8, velocity: u8) {
-    action(b"  off", key);
-    play(tuner, Call::Off { key, velocity });
+fn release(out: &mut impl Write, tuner: AotTuner, key: u8, velocity: u8) -> io::Result<()> {
+    action(out, b"  off", key)?;
+    play(out, tuner, Call::Off { key, velocity })?;
+    Ok(())
 }
 
-fn pressure(tuner: AotTuner, key: u8, pressure: u8) {
-    action(b"  attr", key);
-    play(tuner, Call::Attr { key, pressure });
+fn pressure(out: &mut impl Write, tuner: AotTuner, key: u8, pressure: u8) -> io::Result<()> {
+    action(out, b"  attr", key)?;
+    play(out, tuner, Call::Attr { key, pressure })?;
+    Ok(())
 }
 
-fn to_all(tuner: AotTuner, message: ChannelMessageType) {
-    show::word(b"  all:");
-    play(tuner, Call::All(message));
+fn to_all(out: &mut impl Write, tuner: AotTuner, message: ChannelMessageType) -> io::Result<()> {
+    show::word(out, b"  all:")?;
+    play(out, tuner, Call::All(message))?;
+    Ok(())
 }
 
-fn stop(tuner: AotTuner) {
-    show::word(b"  stop:");
-    play(tuner, Call::Stop);
+fn stop(out: &mut impl Write, tuner: AotTuner) -> io::Result<()> {
+    show::word(out, b"  stop:")?;
+    play(out, tuner, Call::Stop)?;
+    Ok(())
 }
 
-fn lookup(tuner: AotTuner, key: u8) {
-    action(b"  key", key);
-    place(tuner.access_key(key));
-    show::word(b"\n");
+fn lookup(out: &mut impl Write, tuner: AotTuner, key: u8) -> io::Result<()> {
+    action(out, b"  key", key)?;
+    place(out, tuner.access_key(key))?;
+    show::word(out, b"\n")
 }
 
 // ---- the passages
 
-pub fn all() {
-    show::word(b"plan, fine tuning\n");
-    passage(TuningKind::FineTuning);
-    show::word(b"plan, bend\n");
-    passage(TuningKind::Bend);
-    show::word(b"plan, lists\n");
-    started(&[]);
-    started(&[15, 16]);
-    started(&[4, 4, 16]);
-    started(&[15, 14, 13, 12, 11, 10, 9, 8, 7, 6, 5, 4, 3, 2, 1, 0]);
+pub fn all(out: &mut impl Write) -> io::Result<()> {
+    show::word(out, b"plan, fine tuning\n")?;
+    passage(out, TuningKind::FineTuning)?;
+    show::word(out, b"plan, bend\n")?;
+    passage(out, TuningKind::Bend)?;
+    show::word(out, b"plan, lists\n")?;
+    started(out, &[])?;
+    started(out, &[15, 16])?;
+    started(out, &[4, 4, 16])?;
+    started(out, &[15, 14, 13, 12, 11, 10, 9, 8, 7, 6, 5, 4, 3, 2, 1, 0])
 }
 
-fn passage(kind: TuningKind) {
+fn passage(out: &mut impl Write, kind: TuningKind) -> io::Result<()> {
     let tuner = AotTuner::start(&[3, 15, 0], kind).tuner;
-    keys(tuner);
-    let tuner = tune(tuner, 0);
-    keys(tuner);
-    messages(tuner);
-    stop(tuner);
-    let tuner = refusals(tuner);
-    keys(tuner);
-    let tuner = tune(tuner, 1);
-    keys(tuner);
-    let tuner = tune(tuner, 7);
-    lookup(tuner, 10);
-    lookup(tuner, 20);
-    lookup(tuner, 30);
-    press(tuner, 20, 1);
-    let tuner = tune(tuner, 6);
-    lookup(tuner, 10);
+    keys(out, tuner)?;
+    let tuner = tune(out, tuner, 0)?;
+    keys(out, tuner)?;
+    messages(out, tuner)?;
+    stop(out, tuner)?;
+    let tuner = refusals(out, tuner)?;
+    keys(out, tuner)?;
+    let tuner = tune(out, tuner, 1)?;
+    keys(out, tuner)?;
+    let tuner = tune(out, tuner, 7)?;
+    lookup(out, tuner, 10)?;
+    lookup(out, tuner, 20)?;
+    lookup(out, tuner, 30)?;
+    press(out, tuner, 20, 1)?;
+    let tuner = tune(out, tuner, 6)?;
+    lookup(out, tuner, 10)
 }
 
 // Keys of the first list and one that is in none.
-fn keys(tuner: AotTuner) {
-    lookup(tuner, 5);
-    lookup(tuner, 99);
-    press(tuner, 5, 100);
-    press(tuner, 9, 0);
-    press(tuner, 200, 127);
-    press(tuner, 1, 127);
-    press(tuner, 77, 1);
-    press(tuner, 99, 127);
-    press(tuner, 99, 128);
-    press(tuner, 5, 128);
-    pressure(tuner, 9, 64);
-    pressure(tuner, 1, 64);
-    pressure(tuner, 9, 255);
-    release(tuner, 9, 2);
-    release(tuner, 200, 3);
-    release(tuner, 99, 200);
+fn keys(out: &mut impl Write, tuner: AotTuner) -> io::Result<()> {
+    lookup(out, tuner, 5)?;
+    lookup(out, tuner, 99)?;
+    press(out, tuner, 5, 100)?;
+    press(out, tuner, 9, 0)?;
+    press(out, tuner, 200, 127)?;
+    press(out, tuner, 1, 127)?;
+    press(out, tuner, 77, 1)?;
+    press(out, tuner, 99, 127)?;
+    press(out, tuner, 99, 128)?;
+    press(out, tuner, 5, 128)?;
+    pressure(out, tuner, 9, 64)?;
+    pressure(out, tuner, 1, 64)?;
+    pressure(out, tuner, 9, 255)?;
+    release(out, tuner, 9, 2)?;
+    release(out, tuner, 200, 3)?;
+    release(out, tuner, 99, 200)
 }
 
 // 12, 4, 3, 5; of pitches 12, 1, 5.
-fn refusals(tuner: AotTuner) -> AotTuner {
-    let tuner = tune(tuner, 2);
-    let tuner = tune(tuner, 3);
-    let tuner = tune(tuner, 4);
-    let tuner = tune(tuner, 5);
-    let tuner = tune(tuner, 8);
-    let tuner = tune(tuner, 9);
-    tune(tuner, 10)
+fn refusals(out: &mut impl Write, tuner: AotTuner) -> io::Result<AotTuner> {
+    let tuner = tune(out, tuner, 2)?;
+    let tuner = tune(out, tuner, 3)?;
+    let tuner = tune(out, tuner, 4)?;
+    let tuner = tune(out, tuner, 5)?;
+    let tuner = tune(out, tuner, 8)?;
+    let tuner = tune(out, tuner, 9)?;
+    tune(out, tuner, 10)
 }
 
 // Messages to all, of kinds with and without a padding, a bend, and refused ones.
-fn messages(tuner: AotTuner) {
+fn messages(out: &mut impl Write, tuner: AotTuner) -> io::Result<()> {
     to_all(
+        out,
         tuner,
         ChannelMessageType::ControlChange {
             controller: 123,
             value: 0,
         },
-    );
-    to_all(tuner, ChannelMessageType::ProgramChange { program: 5 });
-    to_all(tuner, ChannelMessageType::ProgramChange { program: 128 });
-    to_all(tuner, ChannelMessageType::PitchBendChange { value: -1 });
-    to_all(tuner, ChannelMessageType::PitchBendChange { value: 8192 });
+    )?;
+    to_all(out, tuner, ChannelMessageType::ProgramChange { program: 5 })?;
+    to_all(
+        out,
+        tuner,
+        ChannelMessageType::ProgramChange { program: 128 },
+    )?;
+    to_all(
+        out,
+        tuner,
+        ChannelMessageType::PitchBendChange { value: -1 },
+    )?;
+    to_all(
+        out,
+        tuner,
+        ChannelMessageType::PitchBendChange { value: 8192 },
+    )
 }
 
 // ---- channel lists
 
-fn started(channels: &[u8]) {
-    show::word(b"  start:");
+fn started(out: &mut impl Write, channels: &[u8]) -> io::Result<()> {
+    show::word(out, b"  start:")?;
     let opened = AotTuner::start(channels, TuningKind::FineTuning);
     let answer = opened.answer;
     match answer {
-        ChannelsAnswer::Listed(list) => show::number(list.len() as u64),
-        ChannelsAnswer::Refused(n) => show::refusal(n),
+        ChannelsAnswer::Listed(list) => show::number(out, list.len() as u64)?,
+        ChannelsAnswer::Refused(n) => show::refusal(out, n)?,
     }
-    show::word(b"\n");
+    show::word(out, b"\n")?;
     let tuner = opened.tuner;
-    let tuner = tune(tuner, 6);
-    let tuner = tune(tuner, 7);
-    let tuner = tune(tuner, 11);
-    press(tuner, 5, 9);
-    lookup(tuner, 5);
+    let tuner = tune(out, tuner, 6)?;
+    let tuner = tune(out, tuner, 7)?;
+    let tuner = tune(out, tuner, 11)?;
+    press(out, tuner, 5, 9)?;
+    lookup(out, tuner, 5)
 }
