@@ -70,6 +70,7 @@ fn in_range(number: i64) -> bool
 }
 
 // The letter: the remainder by 12. Refuses 4.
+// Example: letter(69) is 9
 pub fn letter(note: i32) -> LetterAnswer
     ensures { letter_answer result ≡ letter_rule note }
 {
@@ -81,6 +82,7 @@ pub fn letter(note: i32) -> LetterAnswer
 }
 
 // The octave: the quotient by 12, rounded down, minus 1. Refuses 4.
+// Example: octave(-1) is -2
 pub fn octave(note: i32) -> OctaveAnswer
     ensures { octave_answer result ≡ octave_rule note }
 {
@@ -92,6 +94,8 @@ pub fn octave(note: i32) -> OctaveAnswer
 }
 
 // The note so many semitones higher, for any step. Refuses 4: the note, or the sum.
+// Example: plus_semitones(69, 12) is note 81
+// Example: plus_semitones(69, 432) is refused (4)
 pub fn plus_semitones(note: i32, num_semitones: i32) -> NoteAnswer
     ensures { note_answer result ≡ plus_rule note num_semitones }
 {
@@ -107,6 +111,7 @@ pub fn plus_semitones(note: i32, num_semitones: i32) -> NoteAnswer
 }
 
 // How many semitones the note lies before the other one. Refuses 4: the note, or the other.
+// Example: num_semitones_before(60, 67) is 7 semitones
 pub fn num_semitones_before(note: i32, other: i32) -> StepsAnswer
     ensures { steps_answer result ≡ before_rule note other }
 {
@@ -121,6 +126,7 @@ pub fn num_semitones_before(note: i32, other: i32) -> StepsAnswer
 }
 
 // The number that MIDI has for the note, if it has one. Refuses 4.
+// Example: checked_midi_number(128) is none
 pub fn checked_midi_number(note: i32) -> MidiAnswer
     ensures { midi_answer result ≡ midi_rule note }
 {

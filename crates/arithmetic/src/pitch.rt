@@ -99,6 +99,7 @@ impl Ratio {
     }
 
     // The second pitch over the first, rounded once.
+    // Example: Ratio::between_pitches(440 Hz, 660 Hz) is 1.5
     pub fn between_pitches(pitch_a: Pitch, pitch_b: Pitch) -> Ratio
         ensures { result.float_value ≡ div binary64 pitch_b.hz pitch_a.hz }
     {
@@ -138,6 +139,7 @@ impl Ratio {
     }
 
     // At least 0.999999 and less than 1.000001: too close to 1 to be heard.
+    // Example: Ratio::from_float(1.0000005).is_negligible() is yes
     pub fn is_negligible(self) -> bool
         ensures { result ≡ negligible self.float_value }
     {
@@ -145,6 +147,8 @@ impl Ratio {
     }
 
     // The base-2 logarithm in steps of 2^-24, cut off: document 01's measure. Refuses 2 a ratio that is not positive and finite.
+    // Example: Ratio::from_float(1.5).measure() is 9814042
+    // Example: Ratio::from_float(0).measure() is refused (2)
     pub fn measure(self) -> Measured
         ensures { measured result ≡ measure_rule self.float_value }
     {

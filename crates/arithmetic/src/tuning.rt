@@ -155,6 +155,7 @@ const SEMITONE_FACTORS: [f64; 12] = [
 ];
 
 // The pitch of a note, in Hz. Refuses 4.
+// Example: pitch_of(60) is 261.625565... Hz
 pub fn pitch_of(note: i32) -> PitchAnswer
     ensures { pitch_answer result ≡ pitch_rule note }
 {
@@ -165,6 +166,7 @@ pub fn pitch_of(note: i32) -> PitchAnswer
 }
 
 // The ratio of a pitch to a note's. Refuses 1, then 4.
+// Example: detuning(455 Hz, 69) is 1.034090...
 pub fn detuning(pitch: Pitch, note: i32) -> RatioAnswer
     ensures { ratio_answer result ≡ detuning_rule pitch.hz note }
 {
@@ -178,6 +180,8 @@ pub fn detuning(pitch: Pitch, note: i32) -> RatioAnswer
 }
 
 // The nearest note, and the ratio of the pitch to its pitch. Refuses 1.
+// Example: find_by_pitch(455 Hz) is note 70, detuning 0.976051...
+// Example: find_by_pitch(0 Hz) is refused (1)
 pub fn find_by_pitch(pitch: Pitch) -> Approximation
     ensures { approximation result ≡ nearest_rule pitch.hz }
 {

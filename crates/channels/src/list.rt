@@ -57,6 +57,7 @@ impl ChannelList {
     }
 
     // The list of these entries. Refuses, entry by entry, 6 a channel over 15 and 7 one that came before.
+    // Example: ChannelList::of([0, 1, 0]) is refused (7)
     pub fn of(channels: &[u8]) -> ChannelsAnswer
         ensures { channels_answer result ≡ list_rule channels.now }
     {

@@ -40,6 +40,8 @@ pub struct Tunings {
 }
 
 // The tuning in which a detuning is sent. Refuses 2.
+// Example: tuning_of(FineTuning, 33/32) is fine value 12556
+// Example: tuning_of(Bend, 33/32) is bend 2182
 pub fn tuning_of(kind: TuningKind, detuning: Ratio) -> TuningAnswer
     ensures { tuning_answer result ≡ tuning_rule kind detuning.float_value }
 {

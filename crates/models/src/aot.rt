@@ -37,6 +37,7 @@ pub struct Opened {
 
 impl AotTuningModel {
     // A model with no keys, for the channels of a list. Refuses, entry by entry, 6 a channel over 15 and 7 one that came before.
+    // Example: AotTuningModel::open([0, 1], Channel) is channels listed 2
     pub fn open(channels: &[u8], group_by: GroupBy) -> Opened
         ensures { opened_of result ≡ open_rule channels.now group_by }
     {
@@ -58,6 +59,9 @@ impl AotTuningModel {
     }
 
     // Plans keys with their notes and detunings. Refuses 12, then line by line 4, 3, 5.
+    // Example: open([0, 1], Channel); set_tuning([1, 2], [69, 69], [1, 33/32]) is tuned, channels used 2
+    // Example: open([0, 1], Channel); set_tuning([1, 2, 3], [69, 69, 69], [1, 33/32, 31/32]) is untuned, channels needed 3
+    // Example: open([0, 1], Channel); set_tuning([1, 1], [69, 69], [1, 1]) is refused (5)
     pub fn set_tuning(self, keys: &[u8], notes: &[i32], detunings: &[f64]) -> SetTuning
         ensures result_value { outcome_of result ≡ set_tuning (model_of self) keys.now notes.now detunings.now }
         ensures smallest { Smallest (model_of self) (note_lists keys.now notes.now detunings.now) (outcome_of result) }
@@ -68,6 +72,7 @@ impl AotTuningModel {
     }
 
     // Plans keys with their pitches in Hz: each has the nearest note. Refuses 12, then line by line 1, 5.
+    // Example: open([0, 1], Channel); set_tuning_of_pitches([1, 2, 3], [440, 445, 880]) is tuned, channels used 2
     pub fn set_tuning_of_pitches(self, keys: &[u8], pitches: &[f64]) -> SetTuning
         ensures result_value { outcome_of result ≡ set_tuning_of_pitches (model_of self) keys.now pitches.now }
         ensures smallest { Smallest (model_of self) (pitch_lists keys.now pitches.now) (outcome_of result) }
@@ -78,6 +83,8 @@ impl AotTuningModel {
     }
 
     // The channel and the note of a key of the plan.
+    // Example: open([0, 1], Channel); set_tuning([1, 2], [69, 69], [1, 33/32]); access_key(2) is channel 1, note 69
+    // Example: open([0, 1], Channel); set_tuning([1, 2], [69, 69], [1, 33/32]); access_key(3) is not found
     pub fn access_key(self, key: u8) -> AccessKeyResult
         ensures { access_answer result ≡ (model_of self).keys key }
     {
@@ -119,6 +126,7 @@ impl AotTuningModel {
 
     // The detuning of a group on a channel of the plan, carried over from the channels before where it was not replaced. A note is its own group's number,
     // a letter's is 0 to 11, a whole channel's 0.
+    // Example: open([0, 1], Channel); set_tuning([1, 2], [69, 69], [1, 33/32]); detuning(1, 0) is 1.03125
     pub fn detuning(self, channel: u16, group: i32) -> DetuningAnswer
         ensures { detuning_answer result ≡ (model_of self).detunings channel group }
     {
@@ -127,6 +135,7 @@ impl AotTuningModel {
     }
 
     // The first of a channel's detunings whose group is `from` or higher: they are listed by rising group.
+    // Example: open([0, 1], Channel); set_tuning([1, 2], [69, 69], [1, 33/32]); next_detuning(1, -300) is group 0, detuning 1.03125
     pub fn next_detuning(self, channel: u16, from: i32) -> NextAnswer
         ensures { next_answer result ≡ next_rule (model_of self) channel from }
     {

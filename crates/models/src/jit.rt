@@ -44,6 +44,7 @@ pub struct Deregistered {
 
 impl JitTuningModel {
     // A model in which no key is found, with the channels listed. Refuses 6 or 7 as the channel list does; the model has no channels then.
+    // Example: JitTuningModel::open([0, 16], Channel, Stop) is refused (6)
     pub fn open(channels: &[u8], group_by: PoolGroupBy, pooling_mode: PoolingMode) -> Opened
         ensures { opened result ≡ open_rule channels.now group_by pooling_mode }
     {
@@ -62,6 +63,10 @@ impl JitTuningModel {
     }
 
     // A press: the nearest note, on a channel of its pool. Refuses 1, then 11 a key that is held.
+    // Example: open([0], Channel, Stop); register_key(1, 445 Hz) is channel 0, note 69, detuning 1.011363...
+    // Example: open([0], Channel, Stop); register_key(1, 440 Hz); register_key(1, 440 Hz) is refused (11)
+    // Example: open([0], Channel, Stop); register_key(1, 440 Hz); register_key(2, 880 Hz) is channel 0, note 81, detuning 1, stopped note 69
+    // Example: open([0], Channel, Block); register_key(1, 440 Hz); register_key(2, 880 Hz) is rejected
     pub fn register_key(self, key: u8, pitch: Pitch) -> Registered
         ensures { told result ≡ replied (view self) (register_rule (view self) key pitch.hz) }
     {
@@ -71,6 +76,7 @@ impl JitTuningModel {
     }
 
     // A release: where the key was found.
+    // Example: open([0], Channel, Stop); register_key(1, 440 Hz); deregister_key(1) is channel 0, note 69
     pub fn deregister_key(self, key: u8) -> Deregistered
         ensures { (place result.result ≡ found (view self) key) × (view result.model ≡ released (view self) key) }
     {
@@ -80,6 +86,7 @@ impl JitTuningModel {
     }
 
     // A lookup: where the key is found.
+    // Example: open([0], Channel, Stop); register_key(1, 440 Hz); access_key(1) is channel 0, note 69
     pub fn access_key(self, key: u8) -> AccessKeyResult
         ensures { place result ≡ found (view self) key }
     {
@@ -88,6 +95,7 @@ impl JitTuningModel {
     }
 
     // The detuning of a pitch for the note of a found key. Refuses 1, for unknown keys too.
+    // Example: open([0], Channel, Stop); register_key(1, 440 Hz); repitch_key(1, 445 Hz) is channel 0, note 69, detuning 1.011363...
     pub fn repitch_key(self, key: u8, pitch: Pitch) -> RepitchKeyResult
         ensures { repitched result ≡ repitch_rule (view self) key pitch.hz }
     {
@@ -96,6 +104,7 @@ impl JitTuningModel {
     }
 
     // The first found key from a number on. All found keys by rising key: from 0, and then each time from one above the last.
+    // Example: open([0], Channel, Stop); register_key(1, 440 Hz); next_key(0) is key 1, channel 0, note 69
     pub fn next_key(self, from: usize) -> NextKey
         ensures { next_held result ≡ first (held_keys (view self) from) }
     {
@@ -104,6 +113,7 @@ impl JitTuningModel {
     }
 
     // Every found key is released, by rising key.
+    // Example: open([0], Channel, Stop); register_key(1, 440 Hz); stop(); access_key(1) is not found
     pub fn stop(self) -> JitTuningModel
         ensures { view result ≡ stopped (view self) }
     {

@@ -61,6 +61,7 @@ impl AotTuner {
 
     // Plans keys with their notes and detunings, and tunes each channel used, in order. Refuses 12, then line by line 4, 3, 5; then 10, unless there are too
     // few channels.
+    // Example: AotTuner::start([0, 1], Bend); set_tuning([1, 2], [69, 69], [1, 33/32]) is tuned, channels used 2: e0 00 40 e1 06 51
     pub fn set_tuning(self, keys: &[u8], notes: &[i32], detunings: &[f64], out: &mut [u8]) -> Tuned
         ensures steps { Steps tuner (set_tuning_rule (tuner self) keys.now notes.now detunings.now)
             self out.old (plan_sent result.answer) result.tuner out.new }
@@ -85,6 +86,8 @@ impl AotTuner {
     }
 
     // A press: the note-on of a key of the plan. Refuses 8, 10.
+    // Example: AotTuner::start([0, 1], Bend); set_tuning([1, 2], [69, 69], [1, 33/32]); note_on(2, 100) is 91 45 64
+    // Example: AotTuner::start([0, 1], Bend); set_tuning([1, 2], [69, 69], [1, 33/32]); note_on(3, 100) is no bytes
     pub fn note_on(self, key: u8, velocity: u8, out: &mut [u8]) -> Sent
         ensures { Answers (note_on_rule (tuner self) key velocity) out.old (sent_answer result) out.new }
     {

@@ -65,6 +65,7 @@ pub fn set_tuning(
 }
 
 // Plans keys with their pitches in Hz, and tunes each channel used, in order. Refuses 12, then line by line 1, 5; then 10, unless there are too few channels.
+// Example: start(cells, [0, 1], Bend); set_tuning_of_pitches(cells, [1, 2], [440, 445]) is tuned, channels used 2: e0 00 40 e1 21 46
 pub fn set_tuning_of_pitches(
     cells: &mut [u64; PLAN_CELLS],
     keys: &[u8],

@@ -80,6 +80,7 @@ pub fn set_tuning(
 
 // Plans keys with their pitches in Hz: each has the nearest note. Refuses 12, then line by line 1, 5. A plan that needs more channels than there are leaves
 // none.
+// Example: open(cells, [0, 1], Channel, Bend); set_tuning_of_pitches(cells, [1, 2], [440, 445]) is tuned, channels used 2
 pub fn set_tuning_of_pitches(
     cells: &mut [u64; PLAN_CELLS],
     keys: &[u8],

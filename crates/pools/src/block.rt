@@ -81,6 +81,7 @@ pub fn open(
 }
 
 // What a press would answer: its channel, and the note that would be stopped for it. Refuses 1, then 11 a key that is held.
+// Example: open(cells, [0, 1], Channel, Stop, Bend); allocate_key(cells, 1, 445 Hz) is channel 0, note 69, detuning 1.011363...
 pub fn allocate_key(cells: &[u16; CELLS], key: u8, pitch: Pitch) -> RegisterKeyResult
     ensures { press result ≡ (replied (state_of cells.now) (register_rule (state_of cells.now) key pitch.hz)).0 }
 {
@@ -91,6 +92,7 @@ pub fn allocate_key(cells: &[u16; CELLS], key: u8, pitch: Pitch) -> RegisterKeyR
 }
 
 // A press: the nearest note, on a channel of its pool. Refuses 1, then 11 a key that is held.
+// Example: open(cells, [0, 1], Channel, Stop, Bend); register_key(cells, 1, 445 Hz) is channel 0, note 69, detuning 1.011363...
 pub fn register_key(cells: &mut [u16; CELLS], key: u8, pitch: Pitch) -> RegisterKeyResult
     ensures { let s = state_of cells.old in
         (press result ≡ (replied s (register_rule s key pitch.hz)).0) × Moves (register_rule s key pitch.hz) cells.old cells.new }

@@ -46,6 +46,7 @@ pub fn start(
 }
 
 // A press: the note-off of the note it stops, the tuning, the note-on. Refuses 8, 1, 11, 10.
+// Example: start(cells, [0, 1], Bend, Stop); note_on(cells, 1, 440 Hz, 100) is e0 00 40 90 45 64
 pub fn note_on(
     cells: &mut [u16; CELLS],
     key: u8,

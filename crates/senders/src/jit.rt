@@ -51,6 +51,7 @@ pub struct Released {
 
 impl JitTuner {
     // A tuner of the channels listed, in which no key is found. Refuses 6 or 7 as the channel list does; the tuner has no channels then.
+    // Example: JitTuner::start([0, 1], Bend, Stop) is channels listed 2
     pub fn start(channels: &[u8], kind: TuningKind, pooling_mode: PoolingMode) -> Opened
         ensures { opened result ≡ start_rule channels.now kind pooling_mode }
     {
@@ -63,6 +64,7 @@ impl JitTuner {
     }
 
     // A press: the note-off of the note it stops, the tuning, the note-on. Refuses 8, 1, 11, 10.
+    // Example: JitTuner::start([0, 1], Bend, Stop); note_on(1, 445 Hz, 100) is e0 21 46 90 45 64
     pub fn note_on(self, key: u8, pitch: Pitch, velocity: u8, out: &mut [u8]) -> Pressed
         ensures { Steps tuner (note_on_rule (tuner self) key pitch.hz velocity) self out.old (press_answer result.answer) result.tuner out.new }
     {
@@ -72,6 +74,7 @@ impl JitTuner {
     }
 
     // A release: the note-off of a key that is found. Refuses 8, 10.
+    // Example: JitTuner::start([0, 1], Bend, Stop); note_on(1, 440 Hz, 100); note_off(1, 64) is 80 45 40
     pub fn note_off(self, key: u8, velocity: u8, out: &mut [u8]) -> Released
         ensures { Steps tuner (note_off_rule (tuner self) key velocity) self out.old (sent_answer result.answer) result.tuner out.new }
     {
@@ -81,6 +84,7 @@ impl JitTuner {
     }
 
     // The tuning of the channel of a key that is found, by the pitch. Refuses 1, and 10 where the key is found.
+    // Example: JitTuner::start([0, 1], Bend, Stop); note_on(1, 440 Hz, 100); note_pitch(1, 445 Hz) is e0 21 46
     pub fn note_pitch(self, key: u8, pitch: Pitch, out: &mut [u8]) -> Sent
         ensures { Answers (note_pitch_rule (tuner self) key pitch.hz) out.old (sent_answer result) out.new }
     {
@@ -97,6 +101,7 @@ impl JitTuner {
     }
 
     // A message to every channel, except bends of a tuner that tunes by bends. Refuses 8 from left, 9, also where nothing is sent, and 10.
+    // Example: JitTuner::start([0, 1], Bend, Stop); global_attr(ControlChange(7, 90)) is b0 07 5a b1 07 5a
     pub fn global_attr(self, message: ChannelMessageType, out: &mut [u8]) -> Sent
         ensures { Answers (global_attr_rule (tuner self) message) out.old (sent_answer result) out.new }
     {
@@ -105,6 +110,7 @@ impl JitTuner {
     }
 
     // Every key that is found is released with velocity 0, by rising key. Refuses 10.
+    // Example: JitTuner::start([0, 1], Bend, Stop); note_on(1, 440 Hz, 100); stop() is 80 45 00
     pub fn stop(self, out: &mut [u8]) -> Released
         ensures { Steps tuner (stop_rule (tuner self)) self out.old (sent_answer result.answer) result.tuner out.new }
     {

@@ -60,6 +60,8 @@ pub enum ChannelMessageType {
 
 impl ChannelMessageType {
     // Writes the message on a channel to the buffer's start. Refuses 6, 8 from left, 9, 10.
+    // Example: NoteOn(69, 100).to_raw_message(0, 3 bytes) is 90 45 64
+    // Example: NoteOn(69, 100).to_raw_message(0, 2 bytes) is refused (10)
     pub fn to_raw_message(self, channel: u8, out: &mut [u8]) -> Sent
         ensures { Answers (message_rule channel self) out.old (sent_answer result) out.new }
     {

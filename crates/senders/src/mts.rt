@@ -28,6 +28,7 @@ const CHANNEL_FINE_TUNING_MSB: u8 = 0x00;
 const CHANNEL_FINE_TUNING_LSB: u8 = 0x01;
 
 // Writes the fine tuning of a channel by a detuning to the buffer's start. Refuses 6, 2, 10.
+// Example: channel_fine_tuning(0, 33/32, 12 bytes) is b0 65 00 b0 64 01 b0 06 62 b0 26 0c
 pub fn channel_fine_tuning(channel: u8, detuning: Ratio, out: &mut [u8]) -> Sent
     ensures { Answers (channel_tuning_rule TuningKind.FineTuning channel detuning.float_value) out.old (sent_answer result) out.new }
 {
@@ -35,6 +36,7 @@ pub fn channel_fine_tuning(channel: u8, detuning: Ratio, out: &mut [u8]) -> Sent
 }
 
 // Writes the bend of a channel by a detuning to the buffer's start. Refuses 6, 2, 10.
+// Example: channel_pitch_bend(0, 33/32, 3 bytes) is e0 06 51
 pub fn channel_pitch_bend(channel: u8, detuning: Ratio, out: &mut [u8]) -> Sent
     ensures { Answers (channel_tuning_rule TuningKind.Bend channel detuning.float_value) out.old (sent_answer result) out.new }
 {
