@@ -1,8 +1,12 @@
 // The console program: lines on standard input, an answer to each on standard output, in large pieces.
 #![tactic(auto)]
 
-fn main() {
-    let mut piece = io::large_buffer();
-    let mut out = io::large_buffer();
-    terminal::run(&mut piece, &mut out);
+use anyhow::Result;
+
+fn main(rt: HostRuntime) -> Result<()> {
+    let mut piece = [0u8; 65536];
+    let mut out = [0u8; 65536];
+    let (_, res) = terminal::run(&mut rt.stdin(), &mut rt.stdout(), &rt, &mut piece, &mut out);
+    res?;
+    Ok(())
 }

@@ -1,9 +1,9 @@
 -- What each function of a stream does to its state. Assumes nothing.
-use Prim.Native.Nat.{ℕ, ◌+◌, ◌-◌, ◌≤◌, ◌<◌, min}
-use native.Mathlib.Nat.{sub-zero}
+use Prim.Native.Nat.{ℕ, ◌+◌, min}
+use native.Mathlib.Nat.{sub-zero, zero-min}
 use native.Mathlib.Omega.{arith}
 use mathlib.Core.Path.{◌≡◌, refl, sym, ◌∙◌, ap, subst}
-use mathlib.Core.Bool.{Bool, true, false, cond}
+use mathlib.Core.Bool.{Bool, true, false}
 use mathlib.Core.List.{List, [], ◌∷◌}
 use lib.ListN.{length, take, drop, length-take}
 use lib.Seq.{take_at}
@@ -11,13 +11,13 @@ use lib.IntN.{ℤ, pos, negsuc}
 use lib.Dec.{leb, T, leb→le}
 use lib.Signed.{lt_z, le_z}
 use borrow.Author.Tests.{ltb-true}
-use Rattle.io.specs.Counts.{clamp_len}
 use Rattle.channels.specs.Outcome.{value, refused}
 use Rattle.senders.specs.Lent.{Answers, written, fitted, left}
 use Rattle.lines.specs.Session.{session, Stepped, step_rule, finish, finish_rule}
 use Rattle.lines.specs.declared.step.Step.{Step}
-use Rattle.terminal.specs.Stream.{State, view, part, answer_rule, end_rule, receive, read_rule, receive_buffer, read_buffer, write_rule, count, Leaves}
+use Rattle.terminal.specs.Stream.{view, part, answer_rule, end_rule, receive, read_rule, receive_buffer, read_buffer, write_rule, count, Leaves}
 use Rattle.terminal.specs.declared.stream.Stream.{Stream}
+use Rattle.terminal.proofs.Counts.{true_false}
 use Rattle.terminal.proofs.Parts.{empty, take_min, drop_min, part_drop}
 
 clash : {A : Type 0} {m n : ℕ} → value n ≡ refused m → A
@@ -32,18 +32,13 @@ front n l = ap (λ (k : ℕ). take k l) (sub-zero n)
 
 -- ---- a write
 
-drop_count : (put : ℤ) (l : List ℕ) → drop (clamp_len put (length l)) l ≡ drop (count put) l
-unfolding count
-drop_count (pos n) l = drop_min n l
-drop_count (negsuc k) l = refl
-
-pub wrote_law : (s : Stream) (put : ℤ) (n : ℕ) (piece out : List ℕ) → n ≡ clamp_len put (length (part s.from s.end out))
+pub wrote_law : (s : Stream) (put : ℤ) (n : ℕ) (piece out : List ℕ) → n ≡ min (count put) (length (part s.from s.end out))
     → view (record { console = s.console; at = s.at; len = s.len; from = s.from + n; end = s.end; ended = s.ended }) piece out
     ≡ write_rule put (view s piece out)
 wrote_law s put n piece out e =
     let v = view s piece out in
     ap (λ (l : List ℕ). record { session = v.session; unanswered = v.unanswered; unwritten = l; ended = v.ended })
-    (part_drop n s.from s.end out ∙ ap (λ (k : ℕ). drop k v.unwritten) e ∙ drop_count put v.unwritten)
+    (part_drop n s.from s.end out ∙ ap (λ (k : ℕ). drop k v.unwritten) e ∙ drop_min (count put) v.unwritten)
 
 -- ---- answers
 
@@ -102,9 +97,6 @@ end_refused s m piece old new a = go (leb (length (finish (session s.console))) 
 
 -- ---- a read
 
-true_false : true ≡ false → ⊥
-true_false e = let z : ◌≡◌ {A = ℕ} 1 0 = ap (λ (b : Bool). cond b 1 0) e in omega arith
-
 -- an answer below some limit that is not above 0
 pub read_failed : (s : Stream) (got limit : ℤ) (piece out : List ℕ) → lt_z got limit ≡ true → T (le_z limit (pos 0))
     → Leaves (read_rule (length out) got piece (view s piece out)) (read_buffer got piece (view s piece out) out) (view s piece out) out
@@ -113,10 +105,10 @@ read_failed s (pos k) (pos n) piece out h l = absurd (omega (arith, ltb-true k n
 read_failed s (pos k) (negsuc n) piece out h l = absurd (true_false (sym h))
 read_failed s (negsuc k) limit piece out h l = record { state_is = refl; buffer_is = refl }
 
-pub read_some : (s : Stream) (n : ℕ) (got : ℤ) (piece out : List ℕ) → n ≡ clamp_len got (length piece) → (n ≡ 0 → ⊥)
+pub read_some : (s : Stream) (n : ℕ) (got : ℤ) (piece out : List ℕ) → n ≡ min (count got) (length piece) → (n ≡ 0 → ⊥)
     → Leaves (read_rule (length out) got piece (view s piece out)) (read_buffer got piece (view s piece out) out)
     (view (record { console = s.console; at = 0; len = n; from = s.from; end = s.end; ended = s.ended }) piece out) out
-unfolding read_rule read_buffer receive receive_buffer
+unfolding read_rule read_buffer receive receive_buffer count
 read_some s n (pos k) piece out e some =
     go (take k piece) (front n piece ∙ ap (λ (i : ℕ). take i piece) e ∙ take_min k piece) (λ z. some (e ∙ sym (length-take k piece) ∙ z))
   where
@@ -130,12 +122,12 @@ read_some s n (pos k) piece out e some =
           state_is = ap (λ (u : List ℕ). record { session = v.session; unanswered = u; unwritten = v.unwritten; ended = v.ended }) f;
           buffer_is = refl;
         }
-read_some s n (negsuc k) piece out e some = absurd (some e)
+read_some s n (negsuc k) piece out e some = absurd (some (e ∙ zero-min (length piece)))
 
-pub read_none : (s t : Stream) (n : ℕ) (got : ℤ) (piece old new : List ℕ) → lt_z got (pos 0) ≡ false → n ≡ clamp_len got (length piece) → n ≡ 0
+pub read_none : (s t : Stream) (n : ℕ) (got : ℤ) (piece old new : List ℕ) → lt_z got (pos 0) ≡ false → n ≡ min (count got) (length piece) → n ≡ 0
     → Leaves (end_rule (length old) (view s piece old)) (receive_buffer [] (view s piece old) old) (view t piece new) new
     → Leaves (read_rule (length old) got piece (view s piece old)) (read_buffer got piece (view s piece old) old) (view t piece new) new
-unfolding read_rule read_buffer receive receive_buffer
+unfolding read_rule read_buffer receive receive_buffer count
 read_none s t n (pos k) piece old new h e none l =
     subst (λ (b : List ℕ). Leaves (receive (length old) b (view s piece old)) (receive_buffer b (view s piece old) old) (view t piece new) new)
     (sym (empty (take k piece) (length-take k piece ∙ sym e ∙ none))) l

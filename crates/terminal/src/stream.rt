@@ -5,6 +5,7 @@ ghost use Rattle.senders.specs.Lent.{written};
 ghost use Rattle.terminal.specs.Stream.{view, start, answer_rule, end_rule, read_rule, read_buffer, receive_buffer, write_rule, Leaves};
 ghost use Rattle.terminal.specs.Stream.{part as Stream·part};
 
+use crate::moved::count;
 use lines::step::Console;
 use senders::midi::Sent;
 
@@ -67,7 +68,7 @@ impl Stream {
         if got < 0 {
             return self;
         }
-        let n = io::count(got, piece);
+        let n = count(got, piece);
         if n == 0 {
             return self.end(out);
         }
@@ -132,7 +133,7 @@ impl Stream {
     {
         let from = self.from;
         let end = self.end;
-        let n = io::count(put, part(out, from, end));
+        let n = count(put, part(out, from, end));
         let next = from + n;
         let console = self.console;
         Stream {

@@ -1,0 +1,158 @@
+-- What turns take from a reader and give to a writer. Assumes nothing.
+use Prim.Native.Nat.{ℕ}
+use native.Mathlib.Omega.{arith}
+use mathlib.Core.Path.{◌≡◌, refl, sym, ◌∙◌, ap, subst}
+use mathlib.Core.Bool.{true, false}
+use mathlib.Core.List.{List, [], ◌∷◌, ◌++◌, append_assoc, append-nil}
+use lib.ListN.{length, take}
+use Rattle.std.specs.Prelude.{Some, None, Result, Ok, Err}
+use Rattle.std.specs.Io.{ReadsAtMost}
+use Rattle.std.specs.Io.KnownBytes.{Keeps, Consumes, Appends, ReadConsumes, WriteAppends}
+use Rattle.std.specs.declared.option.Option.{Option}
+use Rattle.terminal.specs.Stream.{State, view, part, start, brought, receive, read_rule, count, write_rule, answer_rule}
+use Rattle.terminal.specs.Stream.{rests, Turned, Reached, starts, turns, Ran}
+use Rattle.terminal.specs.Moved.{number}
+use Rattle.terminal.specs.declared.stream.Stream.{Stream}
+use Rattle.terminal.specs.Bytes.{EndsBehind, TurnedOver, RanOver, Finished}
+use Rattle.terminal.proofs.Counts.{true_false}
+use Rattle.terminal.proofs.Turns.{turn_writes, turn_answers, turn_reads}
+
+-- ---- known bytes
+
+takes_none : (a : Option (List ℕ)) → Consumes a a []
+takes_none None = tt
+takes_none (Some x) = refl
+
+takes_kept : (a b : Option (List ℕ)) → Keeps a b → Consumes a b []
+takes_kept None b k = tt
+takes_kept (Some x) None k = absurd k
+takes_kept (Some x) (Some y) k = sym k
+
+takes_more : (a b c : Option (List ℕ)) (x y : List ℕ) → Consumes a b x → Consumes b c y → Consumes a c (x ++ y)
+takes_more None b c x y p q = tt
+takes_more (Some l) None c x y p q = absurd p
+takes_more (Some l) (Some m) None x y p q = absurd q
+takes_more (Some l) (Some m) (Some n) x y p q = p ∙ ap (λ (r : List ℕ). x ++ r) q ∙ sym (append_assoc x y n)
+
+gives_none : (a : Option (List ℕ)) → Appends a a []
+gives_none None = tt
+gives_none (Some x) = sym (append-nil x)
+
+gives_kept : (a b : Option (List ℕ)) → Keeps a b → Appends a b []
+gives_kept None b k = tt
+gives_kept (Some x) None k = absurd k
+gives_kept (Some x) (Some y) k = k ∙ sym (append-nil x)
+
+gives_more : (a b c : Option (List ℕ)) (x y : List ℕ) → Appends a b x → Appends b c y → Appends a c (x ++ y)
+gives_more None b c x y p q = tt
+gives_more (Some l) None c x y p q = absurd p
+gives_more (Some l) (Some m) None x y p q = absurd q
+gives_more (Some l) (Some m) (Some n) x y p q = q ∙ ap (λ (r : List ℕ). r ++ y) p ∙ append_assoc l x y
+
+-- ---- what a call moved, by its number
+
+module _ {E : Type 0} (a b : Option (List ℕ)) where
+  -- a write
+  pub given_by : (res : Result ℕ E) (buf : List ℕ) → WriteAppends a b res buf → Appends a b (take (count (number res)) buf)
+  unfolding count number
+  given_by (Ok n) buf h = h
+  given_by (Err e) buf h = gives_kept a b h
+
+  -- a read
+  pub taken_by : (res : Result ℕ E) (buf : List ℕ) → ReadConsumes a b res buf → Consumes a b (brought (number res) buf)
+  unfolding brought number
+  taken_by (Ok n) buf h = h.0
+  taken_by (Err e) buf h = takes_kept a b h
+
+  -- it takes the end of the input only behind all of it
+  pub behind_by : (res : Result ℕ E) (buf : List ℕ) (room : ℕ) (s : State) → ReadsAtMost res buf → ReadConsumes a b res buf → s.ended ≡ false
+      → EndsBehind (length buf) (read_rule room (number res) buf s) b
+  unfolding read_rule number receive
+  behind_by (Ok n) buf room s most h going = go (take n buf) refl
+    where
+      go : (l : List ℕ) → take n buf ≡ l → EndsBehind (length buf) (receive room l s) b
+      go [] e = λ x some. h.1 (most.1 ∙ ap length e) some
+      go (c ∷ l) e = λ x some. absurd (true_false (sym x ∙ going))
+  behind_by (Err e) buf room s most h going = λ x some. absurd (true_false (sym x ∙ going))
+
+-- ---- a turn
+
+pub over_rests : (size : ℕ) (a b : Option (List ℕ)) (s : State) → TurnedOver size a a b b s s
+over_rests size a b s =
+    record { read = []; put = []; turn = rests; taken = takes_none a; given = gives_none b; behind = λ e. e }
+
+-- a write that answered `res`
+pub over_writes : (size : ℕ) (a b b' : Option (List ℕ)) (s t : State) {E : Type 0} (res : Result ℕ E) → WriteAppends b b' res s.unwritten
+    → t ≡ write_rule (number res) s → TurnedOver size a a b b' s t
+over_writes size a b b' s t res h e =
+    record {
+      read = [];
+      put = take (count (number res)) s.unwritten;
+      turn = turn_writes s t (number res) e;
+      taken = takes_none a;
+      given = given_by b b' res s.unwritten h;
+      behind = λ f x some. f (sym (ap (λ (u : State). u.ended) e) ∙ x) some;
+    }
+
+-- what was read is answered
+pub over_answers : (size : ℕ) (a b : Option (List ℕ)) (s t : State) (room : ℕ) → s.unwritten ≡ [] → t ≡ answer_rule room s → TurnedOver size a a b b s t
+over_answers size a b s t room none e =
+    record {
+      read = [];
+      put = [];
+      turn = turn_answers s t room none e;
+      taken = takes_none a;
+      given = gives_none b;
+      behind = λ f x some. f (sym (ap (λ (u : State). u.ended) e) ∙ x) some;
+    }
+
+-- a read that answered `res`
+pub over_reads : (s : Stream) (a a' b : Option (List ℕ)) (t : State) (room : ℕ) {E : Type 0} (res : Result ℕ E) (before piece out : List ℕ)
+    → length piece ≡ length before → part s.at s.len before ≡ [] → part s.from s.end out ≡ [] → s.ended ≡ false → ReadsAtMost res piece
+    → ReadConsumes a a' res piece → t ≡ read_rule room (number res) piece (view s piece out) → TurnedOver (length before) a a' b b (view s before out) t
+over_reads s a a' b t room res before piece out same none written going most h e =
+    record {
+      read = brought (number res) piece;
+      put = [];
+      turn = turn_reads s t room (number res) before piece out same none written going e;
+      taken = taken_by a a' res piece h;
+      given = gives_none b;
+      behind = λ f x some.
+          behind_by a a' res piece room (view s piece out) most h going (sym (ap (λ (u : State). u.ended) e) ∙ x) (omega (arith, some, same));
+    }
+
+-- ---- some turns
+
+pub ran_over : {size : ℕ} {a a' b b' : Option (List ℕ)} {s : State} → RanOver size a a' b b' s → Ran s
+ran_over r = record { input = r.input; output = r.output; reached = r.reached }
+
+pub turned_over : {size : ℕ} {a a' b b' : Option (List ℕ)} {s t : State} → TurnedOver size a a' b b' s t → Turned s t
+turned_over r = record { read = r.read; put = r.put; turn = r.turn }
+
+pub over_none : (size : ℕ) (a b : Option (List ℕ)) (s : State) → s ≡ start → RanOver size a a b b s
+over_none size a b s e =
+    record {
+      input = [];
+      output = [];
+      reached = subst (λ (u : State). Reached u [] []) (sym e) starts;
+      taken = takes_none a;
+      given = gives_none b;
+      behind = λ x some. absurd (true_false (sym x ∙ ap (λ (u : State). u.ended) e));
+    }
+
+pub over_more : {size : ℕ} {a a' a'' b b' b'' : Option (List ℕ)} {s t : State} → RanOver size a a' b b' s → TurnedOver size a' a'' b' b'' s t
+    → RanOver size a a'' b b'' t
+over_more {a = a} {a' = a'} {a'' = a''} {b = b} {b' = b'} {b'' = b''} r n =
+    record {
+      input = r.input ++ n.read;
+      output = r.output ++ n.put;
+      reached = turns r.reached n.turn;
+      taken = takes_more a a' a'' r.input n.read r.taken n.taken;
+      given = gives_more b b' b'' r.output n.put r.given n.given;
+      behind = n.behind r.behind;
+    }
+
+-- ---- more to do
+
+pub not_yet : (s : State) → true ≡ false → Finished s
+not_yet s e = absurd (true_false e)
