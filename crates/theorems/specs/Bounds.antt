@@ -3,9 +3,8 @@
 use Rattle.std.specs.Prelude.{ℕ, ◌*◌, ◌^◌, ◌≤◌, ◌<◌, ◌+◌, ◌-◌, zero, suc, ℤ, pos, ◌+ℤ◌, ◌-ℤ◌, ◌*ℤ◌, negsuc, Float, ◌⊎◌}
 use Rattle.std.proofs.Math.IntN.{suc_ℤ}
 use Rattle.std.specs.Float.Ieee.{up, down}
-use Rattle.std.specs.Float.Ieee.Positive.{num, den, positive}
+use Rattle.std.specs.Float.Ieee.Positive.{num, den}
 use Rattle.arithmetic.specs.Powers.{AtLeast, Below}
-use Rattle.arithmetic.specs.Outcome.{value}
 use Rattle.channels.specs.declared.tuning_value.TuningKind.{TuningKind}
 use Rattle.channels.specs.declared.tuning_value.TuningKind.TheVariants.{FineTuning, Bend}
 use Rattle.channels.specs.declared.tuning_value.Tuning.{Tuning}

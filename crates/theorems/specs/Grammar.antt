@@ -3,7 +3,7 @@
 use Rattle.std.specs.Prelude.{ℕ, ◌≤◌, ◌≡◌, true, List, ◌∷◌, ◌++◌, length}
 use Rattle.lines.specs.Split.{comma}
 use Rattle.lines.specs.declared.line.Kind.{Kind}
-use Rattle.lines.specs.Grammar.{word, digits, decimal, zeros, allowed}
+use Rattle.lines.specs.Grammar.{word, digits, decimal, allowed}
 
 -- s spells n in 1 to `places` digits, "leading zeros allowed"
 pub record Spells (places : ℕ) (s : List ℕ) (n : ℕ) : Type 0 where

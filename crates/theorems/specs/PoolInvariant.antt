@@ -3,7 +3,7 @@ use Rattle.std.specs.Prelude.{ℕ, ◌+◌, ◌<◌, ◌≤◌, ◌≡◌, lengt
 use Rattle.std.proofs.Math.Option.{some}
 use Rattle.channels.specs.Lists.{upward}
 use Rattle.channels.specs.Places.{Place}
-use Rattle.pools.specs.Pool.{key_count, Pool, State, empty_pool, pool_count, pool_of, pool, found}
+use Rattle.pools.specs.Pool.{key_count, Pool, State, empty_pool, pool_count, pool_of, found}
 use Rattle.theorems.specs.PoolCalls.{times, standing}
 
 -- A key is found on a note of the pool i.

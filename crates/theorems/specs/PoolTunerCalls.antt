@@ -1,7 +1,6 @@
 -- Calls of a pool tuner one after the other, each with a buffer of some length. The calls that are left out, `note_pitch`, `note_attr`, `global_attr` and
 -- the lookup, change no tuner. Assumes nothing.
 use Rattle.std.specs.Prelude.{List, [], ◌∷◌, ℕ, ◌<◌, Float}
-use Rattle.channels.specs.Outcome.{refused}
 use Rattle.pools.specs.Pool.{key_count}
 use Rattle.theorems.specs.PoolCalls.{Call as Pool-as-Call, after as Pool·after}
 use Rattle.senders.specs.Lent.{fitted, settled}

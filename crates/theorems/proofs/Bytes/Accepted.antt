@@ -9,7 +9,7 @@ use lib.Seq.{take_at}
 use mathlib.Core.Bool.{Bool, true, false, cond}
 use Rattle.channels.specs.Outcome.{Outcome, value, refused}
 use Rattle.channels.specs.Refusal.{buffer_too_short}
-use Rattle.senders.specs.Lent.{Effect, sends, sent, fitted, told, Moved, left, written, Steps}
+use Rattle.senders.specs.Lent.{Effect, sends, fitted, told, Moved, left, written, Steps}
 
 -- ---- what a call that was accepted did
 

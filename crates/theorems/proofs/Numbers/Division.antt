@@ -1,12 +1,10 @@
 -- Quotients in f64: for a ≤ b and c ≤ d, c/b is at most d/a; and a quotient of two detunings is positive and finite.
 use mathlib.Core.Path.{◌≡◌}
 use mathlib.Core.Bool.{false}
-use Prim.Native.Nat.{◌≤◌}
 use lib.Dec.{T}
 use lib.Ieee.{Float, Format, binary64, div, le, lt}
 use lib.Ieee.Positive.{positive, between}
 use Rattle.arithmetic.proofs.FloatDivision.{div_mono, not_below_mono}
-use Rattle.arithmetic.proofs.Notes.{bounds}
 use Rattle.arithmetic.proofs.Bounds.{low_detuning, high_detuning, Detuning, detuning_is}
 
 -- for a ≤ b ≤ c ≤ d the quotient of the inner two is at most that of the outer two

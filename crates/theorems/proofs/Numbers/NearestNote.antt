@@ -1,6 +1,6 @@
 -- The nearest note: document 01's bound, and the range of the notes that pitches have.
 use mathlib.Core.Path.{refl, subst}
-use Prim.Native.Nat.{◌/◌, ◌^◌}
+use Prim.Native.Nat.{◌^◌}
 use native.Mathlib.Omega.{arith}
 use lib.Dec.{T, lit<}
 use lib.IntN.{ℤ, pos, negsuc, ◌+ℤ◌, ◌-ℤ◌, ◌*ℤ◌}
@@ -10,7 +10,7 @@ use Rattle.arithmetic.specs.Division.{quotient}
 use Rattle.arithmetic.specs.Measure.{measure}
 use Rattle.theorems.specs.Bounds.{NearestBound}
 use Rattle.arithmetic.specs.Nearest.{semitones, over_a4, nearest_note}
-use Rattle.arithmetic.proofs.Integers.{less, add_parts, mul_parts, same, sub_parts_ℤ, between_parts}
+use Rattle.arithmetic.proofs.Integers.{add_parts, mul_parts, same, sub_parts_ℤ, between_parts}
 use Rattle.theorems.proofs.Numbers.MeasureFactor.{above, below, floor}
 use Rattle.arithmetic.proofs.Measure.{measure_law}
 use lib.Signed.{◌≤ℤ◌}

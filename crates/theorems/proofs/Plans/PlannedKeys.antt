@@ -13,8 +13,7 @@ use lib.ListN.{length, get_or}
 use Rattle.plans.specs.declared.block.GroupBy.{GroupBy}
 use Rattle.channels.specs.Lists.{Each, keep}
 use Rattle.plans.specs.Line.{Line, of_group, rising, group}
-use Rattle.plans.specs.PlanLists.{keys}
-use Rattle.plans.specs.Walk.{takes, next, channels, walk, count, replaced, entry_from, entry, seat}
+use Rattle.plans.specs.Walk.{walk, count, replaced, entry_from, entry, seat}
 use Rattle.plans.specs.PlanInternal.{Accepted}
 use Rattle.channels.proofs.ListLaws.{T→true, Each-map, keep_same}
 use Rattle.plans.proofs.Rising.{rising_Each}

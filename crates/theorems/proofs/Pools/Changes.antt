@@ -1,7 +1,7 @@
 -- The invariant through each change of a pool: a free channel that is taken, one that is freed, a release, and the room for a press. Assumes nothing.
 use Prim.Native.Nat.{ℕ, zero, suc, ◌<◌, ◌≤◌}
 use mathlib.Core.Path.{◌≡◌, refl, sym, ap, subst, ◌∙◌}
-use mathlib.Core.Bool.{Bool, true, false, not, cond}
+use mathlib.Core.Bool.{Bool, true, false, cond}
 use mathlib.Core.List.{List, [], ◌∷◌}
 use mathlib.Core.Option.{Option, some, none}
 use mathlib.Core.Logic.{◌≢◌}
@@ -15,7 +15,7 @@ use Rattle.pools.specs.declared.block.PoolingMode.TheVariants.{Block, Stop, Igno
 use Rattle.channels.specs.Lists.{member, without, first}
 use Rattle.channels.specs.Places.{Place}
 use Rattle.pools.specs.Pool.{key_count, Pool, State, Held, pool_of, pool, found, with_pool, with_key, behind, taken_in, taken, freed_in, freed, forgotten, released, oldest, made_room, room_by, room_for, pressed_on, pressed}
-use Rattle.theorems.specs.PoolCalls.{press, release, times, keys_on, standing}
+use Rattle.theorems.specs.PoolCalls.{times, keys_on, standing}
 use Rattle.pools.proofs.Queues.{behind_room}
 use Rattle.pools.proofs.Pools.{pool_small, oldest_is, released_found, released_none, released_other}
 use Rattle.theorems.proofs.Pools.Occurrences.{times_cons, times_same, either, member_times, member_not, sum_without, times_append, times_without, length_without}

@@ -18,7 +18,7 @@ use Rattle.pools.specs.declared.block.PoolingMode.{PoolingMode}
 use Rattle.channels.specs.Lists.{upward}
 use Rattle.channels.specs.ChannelList.{list_rule, present}
 use Rattle.channels.specs.Places.{Place, is_held}
-use Rattle.pools.specs.Pool.{key_count, Pool, State, Held, empty_pool, pool_count, pool, found, fresh, open_rule, released, released_all, stopped, pressed, unless_held, register_rule, replied}
+use Rattle.pools.specs.Pool.{key_count, Pool, State, Held, empty_pool, pool_count, found, fresh, open_rule, released, released_all, stopped, pressed, unless_held, register_rule, replied}
 use Rattle.pools.specs.Block.{register_note_rule}
 use Rattle.theorems.specs.PoolCalls.{Call, press, release, lookup, repitch, press_note, stop, after, played, standing}
 use Rattle.channels.proofs.ChannelLists.{Verdict, listed, offended, verdict, fine_listed, offence_refused, channels_few}

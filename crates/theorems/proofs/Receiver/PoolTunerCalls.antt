@@ -13,7 +13,7 @@ use lib.ListN.{length, get_elem?}
 use Rattle.channels.specs.Outcome.{Outcome, value, refused}
 use Rattle.channels.specs.ChannelList.{list_rule, present}
 use Rattle.channels.specs.Places.{Place}
-use Rattle.pools.specs.Pool.{key_count, State, Press, accepted, found, stopped, register_rule, replied}
+use Rattle.pools.specs.Pool.{key_count, State, Press, accepted, found, register_rule, replied}
 use Rattle.theorems.specs.PoolCalls as recital
 use Rattle.channels.specs.declared.tuning_value.TuningKind.{TuningKind}
 use Rattle.pools.specs.declared.block.PoolingMode.{PoolingMode}

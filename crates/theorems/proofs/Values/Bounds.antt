@@ -11,7 +11,7 @@ use lib.Signed.{quot_z}
 use lib.Ieee.{Float, le}
 use lib.Ieee.Positive.{positive, num, den}
 use borrow.Author.Tests.{le-ltb}
-use Rattle.arithmetic.specs.Outcome.{value, refused}
+use Rattle.arithmetic.specs.Outcome.{refused}
 use Rattle.arithmetic.specs.Refusal.{not_measurable}
 use Rattle.arithmetic.specs.Division.{quotient}
 use Rattle.arithmetic.specs.Measure.{measure}
