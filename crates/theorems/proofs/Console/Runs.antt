@@ -7,6 +7,7 @@ use mathlib.Core.Bool.{Bool, true, false, cond}
 use mathlib.Core.List.{List, [], ◌∷◌, ◌++◌, append_assoc, append-nil}
 use lib.ListN.{length, take, drop, length-drop, take-append-drop}
 use lib.IntN.{ℤ, pos, negsuc}
+use Rattle.std.specs.Prelude.{Some}
 use lib.Dec.{leb}
 use borrow.Author.Tests.{le-leb}
 use Rattle.lines.specs.Split.{feed}
@@ -18,6 +19,7 @@ use Rattle.theorems.proofs.Console.Streaming.{ahead, ahead_none, ahead_step}
 use Rattle.terminal.specs.Stream.{State, start, answer_rule, end_rule, brought, receive, read_rule, count, write_rule}
 use Rattle.terminal.specs.Stream.{Idle, Turn, rests, reads, writes, Reached, starts, turns}
 use Rattle.terminal.specs.Stream.{answers as answering}
+use Rattle.terminal.specs.Bytes.{RanOver, Finished}
 
 -- while the input is open, and once it has ended
 record Written (s : State) (input put : List ℕ) : Type 0 where
@@ -127,6 +129,14 @@ so_far r = (written r).more
 -- and once the input has ended and all is written, the output for the input has been written
 pub whole_run : {s : State} {input put : List ℕ} → Reached s input put → s.ended ≡ true → s.unwritten ≡ [] → put ≡ output input
 whole_run {s} {input} {put} r e none = sym (append-nil put) ∙ ap (λ (l : List ℕ). put ++ l) (sym none) ∙ ((written r).all e).1
+
+-- so a run that has finished has read all that the reader had, and has given the writer the output for it, where both are known
+pub whole_bytes : {size : ℕ} {input rest held holds : List ℕ} {s : State} → 0 < size → RanOver size (Some input) (Some rest) (Some held) (Some holds) s
+    → Finished s → (rest ≡ []) × (holds ≡ held ++ output input)
+whole_bytes {input = input} {rest = rest} {held = held} some r f =
+    let none : rest ≡ [] = r.behind f.ended some in
+    let all : r.input ≡ input = sym (append-nil r.input) ∙ ap (λ (l : List ℕ). r.input ++ l) (sym none) ∙ sym r.taken in
+    (none, r.given ∙ ap (λ (l : List ℕ). held ++ l) (whole_run r.reached f.ended f.written ∙ ap output all))
 
 -- ---- with room for an answer the program goes on
 
