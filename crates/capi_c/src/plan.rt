@@ -142,7 +142,7 @@ pub extern "C" fn tarvoued_plan_next_detuning(plan: &Plan, channel: u16, from: i
 pub extern "C" fn tarvoued_plan_model_open(plan: &mut Plan, channels: &[u8], group_by: u8) -> Answer
     ensures { let rule = open_rule channels.now (group_by_of group_by) in
         (result ≡ of_list rule.1)
-        × Starts rule.1 (record { plan = rule.0; kind = FineTuning }) plan.entry.now plan.exit.now }
+        × Starts rule.1 (record { plan = rule.0; kind = FineTuning }) plan.old plan.new }
 {
     capi::plan::tarvoued_plan_model_open(plan, channels, group_by)
 }
@@ -155,7 +155,7 @@ pub extern "C" fn tarvoued_plan_model_set_tuning(
     notes: &[i32],
     detunings: &[f64],
 ) -> Answer
-    ensures fact { let rule = set_tuning (plan_at plan.old) keys.now notes.now detunings.now in
+    ensures tunes { let rule = set_tuning (plan_at plan.old) keys.now notes.now detunings.now in
         (result ≡ of_plan rule.1) × Tunes rule plan.old plan.new rule.1 }
     ensures smallest { Model.Smallest (plan_at plan.old) (note_lists keys.now notes.now detunings.now)
         (plan_at plan.new, plan_in result) }
@@ -170,7 +170,7 @@ pub extern "C" fn tarvoued_plan_model_set_tuning_of_pitches(
     keys: &[u8],
     pitches: &[f64],
 ) -> Answer
-    ensures fact { let rule = set_tuning_of_pitches (plan_at plan.old) keys.now pitches.now in
+    ensures tunes { let rule = set_tuning_of_pitches (plan_at plan.old) keys.now pitches.now in
         (result ≡ of_plan rule.1) × Tunes rule plan.old plan.new rule.1 }
     ensures smallest { Model.Smallest (plan_at plan.old) (pitch_lists keys.now pitches.now)
         (plan_at plan.new, plan_in result) }

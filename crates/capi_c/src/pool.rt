@@ -113,7 +113,7 @@ pub extern "C" fn tarvoued_pool_model_open(
 ) -> Answer
     ensures { let rule = open_rule channels.now (group_of group_by) (mode_of pooling_mode) in
         (result ≡ of_list rule.0)
-        × Starts rule.0 (record { pool = rule.1; kind = FineTuning }) pool.entry.now pool.exit.now }
+        × Starts rule.0 (record { pool = rule.1; kind = FineTuning }) pool.old pool.new }
 {
     capi::pool::tarvoued_pool_model_open(pool, channels, group_by, pooling_mode)
 }

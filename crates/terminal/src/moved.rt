@@ -1,7 +1,7 @@
 // What a read or a write answered.
 
 ghost use Rattle.std.specs.Prelude.{◌≡◌, ◌≤◌, Err, IfOk, IfErr, OnOk, min, length};
-ghost use Rattle.terminal.specs.Stream.{count as Stream·count};
+ghost use Rattle.terminal.specs.Stream.{count};
 ghost use Rattle.terminal.specs.Moved.{number, Passes};
 
 use std::io::ErrorKind;
@@ -20,13 +20,13 @@ pub(crate) fn moved(res: &io::Result<usize>, buffer: &[u8]) -> isize
 }
 
 // How many of a buffer's bytes a call moved that answered this number: none where it failed, and no more than there are.
-pub(crate) fn count(number: isize, buffer: &[u8]) -> usize
-    ensures { result ≡ min (Stream·count number) (length buffer.now) }
+pub(crate) fn count(answer: isize, buffer: &[u8]) -> usize
+    ensures { result ≡ min (count answer) (length buffer.now) }
 {
-    if number < 0 {
+    if answer < 0 {
         return 0;
     }
-    let n = number as usize;
+    let n = answer as usize;
     let len = buffer.len();
     if n < len { n } else { len }
 }

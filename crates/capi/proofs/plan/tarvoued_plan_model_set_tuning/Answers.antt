@@ -10,6 +10,6 @@ returns c =
     let e = c.set_tuning.ensures in
     let answered = ap (λ (x : Model × Answer). x.1) e.tunes.0 in
     record {
-      fact = (c.of_plan.ensures ∙ ap of_plan answered, rw answered at e.tunes);
+      tunes = (c.of_plan.ensures ∙ ap of_plan answered, rw answered at e.tunes);
       smallest = rw (c.of_plan.ensures, plan_read _) e.smallest;
     }
