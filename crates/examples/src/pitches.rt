@@ -1,4 +1,4 @@
-// Pitches, ratios and what is sent of them, SPEC 4 and 5.
+// Pitches, ratios and what is sent of them, SPEC 4 and 5, and a channel list, SPEC 1.6.
 use crate::{ask, end};
 use arithmetic::pitch::{Pitch, Ratio};
 use arithmetic::tuning::{detuning, find_by_pitch, pitch_of};

@@ -62,7 +62,8 @@ pub(crate) fn commit(
     }
     let count = planning.count;
     let present = listed(cells).len() as u16;
-    if present < count {
+    let few = present < count;
+    if few {
         clear(cells);
         return PlanAnswer::Untuned(count);
     }

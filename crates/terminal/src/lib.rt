@@ -89,7 +89,8 @@ fn turn<R: Read, W: Write, C: Clock>(
     if stream.unanswered(piece).len() > 0 {
         return (stream.answer(piece, out), Ok(true));
     }
-    if stream.has_ended() {
+    let ended = stream.has_ended();
+    if ended {
         return (stream, Ok(false));
     }
     let got = input.read(piece);

@@ -32,7 +32,7 @@ pub(crate) fn count(answer: isize, buffer: &[u8]) -> usize
 }
 
 // Whether the program goes on after a call that answered so. One that a signal interrupted, or that can move nothing yet, is made again: the latter
-// after a thousandth of a second, or less where a signal comes, in which no processor time is used.
+// after a thousandth of a second, in which no processor time is used.
 pub(crate) fn goes_on<C: Clock>(clock: &C, res: &io::Result<usize>) -> io::Result<()>
     ensures ok { OnOk result (IfErr res.now Passes) }
     ensures err { IfErr result (λ e. (res.now ≡ Err e) × (Passes e → ⊥)) }

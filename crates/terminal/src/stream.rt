@@ -65,7 +65,8 @@ impl Stream {
             (view result piece.now out.new)
             out.new }
     {
-        if got < 0 {
+        let failed = got < 0;
+        if failed {
             return self;
         }
         let n = count(got, piece);

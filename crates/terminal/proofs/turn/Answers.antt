@@ -47,8 +47,8 @@ returns-then-unanswered-gt0 g c =
     in
     record { turned = turned_over over; bytes = over; all = not_yet (view c.answer.result a.piece.now c.answer.new.out) }
 
-pub returns-then-has_ended : goal.returns-then-has_ended
-returns-then-has_ended g c =
+pub returns-then-ended : goal.returns-then-ended
+returns-then-ended g c =
     let a = c.args in
     let over =
     over_rests (length a.piece.now) (g.R.Read.remaining a.input.now) (g.W.Write.contents a.output.now) (view a.stream a.piece.now a.out.now)
@@ -60,7 +60,7 @@ returns-then-has_ended g c =
           record {
             answered = none c.unanswered.result.now (part a.stream.at a.stream.len a.piece.now) c.unanswered.ensures c.if-unanswered-gt0.false;
             written = none c.unwritten.result.now (part a.stream.from a.stream.end a.out.now) c.unwritten.ensures c.if-unwritten-gt0.false;
-            ended = sym c.has_ended.ensures ∙ c.if-has_ended.true;
+            ended = sym c.has_ended-ended.ensures ∙ c.if-ended.true;
           };
     }
 
@@ -74,7 +74,7 @@ returns g c =
     (view c.read.result piece c.read.new.out) (length a.out.now) c.read-got.result a.piece.now piece a.out.now c.read-got.auto.buf
     (none c.unanswered.result.now (part a.stream.at a.stream.len a.piece.now) c.unanswered.ensures c.if-unanswered-gt0.false)
     (none c.unwritten.result.now (part a.stream.from a.stream.end a.out.now) c.unwritten.ensures c.if-unwritten-gt0.false)
-    (sym c.has_ended.ensures ∙ c.if-has_ended.false) c.read-got.ensures.bound c.read-got.ensures.bytes
+    (sym c.has_ended-ended.ensures ∙ c.if-ended.false) c.read-got.ensures.bound c.read-got.ensures.bytes
     (c.read.ensures.state_is ∙ ap (λ (z : ℤ). read_rule (length a.out.now) z piece (view a.stream piece a.out.now)) moved)
     in
     record {

@@ -18,15 +18,15 @@ returns-then-refusal-ne-ACCEPTED c lines h =
     let m = plan_at a.cells.now in
     (plan_refused m m.group_by a.planning a.records.now a.detunings.now lines h c.if-refusal-ne-ACCEPTED.true, refl, refl)
 
-pub returns-then-present-count : goal.returns-then-present-count
-returns-then-present-count c lines h =
+pub returns-then-few : goal.returns-then-few
+returns-then-few c lines h =
     let a = c.args in
     let m = plan_at a.cells.now in
     let p = plan_accepted m m.group_by a.planning a.records.now a.detunings.now lines h c.if-refusal-ne-ACCEPTED.false in
     let n = p.2.count_is in
     let len = c.len-present in
     let present = len.ensures ∙ ap length c.listed.ensures in
-    let more : length m.channels < count m.group_by p.0 = omega (arith, c.if-present-count.true, present, n) in
+    let more : length m.channels < count m.group_by p.0 = omega (arith, c.if-few.true, present, n) in
     ((λ i. (c.clear.ensures.0 i, untuned (n i))) ∙ sym (planned_untuned m p.0 more) ∙ p.3, c.clear.ensures.1, tt)
 
 pub bounds-cells-516 : goal.bounds-cells-516
@@ -43,8 +43,8 @@ returns c lines h =
     let list = c.listed in
     let len = c.len-present in
     let present = len.ensures ∙ ap length list.ensures in
-    let fit : count m.group_by p.0 ≤ length m.channels = omega (arith, c.if-present-count.false, present, p.2.count_is) in
-    let few : a.planning.count ≤ 16 = omega (arith, c.if-present-count.false, len.ensures, entries_few list.result) in
+    let fit : count m.group_by p.0 ≤ length m.channels = omega (arith, c.if-few.false, present, p.2.count_is) in
+    let few : a.planning.count ≤ 16 = omega (arith, c.if-few.false, len.ensures, entries_few list.result) in
     let put = c.put_records in
     let same = put.ensures.0 in
     let new = put.new.cells in
