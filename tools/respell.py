@@ -1,7 +1,7 @@
 #!/usr/bin/env python3
 """Brings the repository's own definitions and lemmas to the spelling of today's Rattle: words in snake case.
 
-usage: python3 tools/respell.py before     on the older text, before /opt/rattle/port/port.py
+usage: python3 tools/respell.py before     on the older text, before the kit's port/port.py (in the folder of the page that `rt doc` names)
        python3 tools/respell.py after      on what port.py made
 
 `before` sets apart the names that fall together in snake case: of a definition `entryAt` and a lemma `entry-at` the lemma becomes `entry-at-lem`.
