@@ -1,5 +1,5 @@
 -- What the private functions of the crate yield. No public contract cites it. Assumes nothing.
-use Rattle.std.specs.Prelude.{◌≡◌, ℕ, ◌+◌, ◌*◌, ◌/◌, ◌^◌, ◌<◌, ℤ, pos, ◌+ℤ◌, ◌-ℤ◌, ◌*ℤ◌, get_or, false, Float}
+use Rattle.std.specs.Prelude.{◌≡◌, ℕ, ◌+◌, ◌*◌, ◌/◌, ◌^◌, ◌<◌, ℤ, pos, ◌+ℤ◌, ◌-ℤ◌, ◌*ℤ◌, get_or, false, Float, Option, Some, None}
 use Rattle.std.specs.Float.{binary64}
 use Rattle.std.specs.Float.Ieee.{round}
 use Rattle.arithmetic.specs.Refusal.{not_measurable}
@@ -7,12 +7,16 @@ use Rattle.arithmetic.specs.Outcome.{Outcome, value, refused}
 use Rattle.arithmetic.specs.Measure.{digits}
 use Rattle.arithmetic.specs.Note.{a4}
 use Rattle.arithmetic.specs.Pitch.{significands}
-use Rattle.arithmetic.specs.declared.pitch.Binary as B
+use Rattle.arithmetic.specs.declared.pitch.Binary.{Binary}
 
--- The octave, counted from 2 ^ -1074 on, and the first 32 digits write a measure, and no more is said of them; or there is none.
-abbrev pub Writes : B.Binary → Outcome ℤ → Type 0
-Writes (B.TheVariants.Digits o y) m = (o < 2 ^ 12) × (y < 2 ^ 32) × (m ≡ value (pos (o * 2 ^ 24 + digits 24 y) -ℤ pos (1074 * 2 ^ 24)))
-Writes B.TheVariants.Nothing m = m ≡ refused not_measurable
+-- The octave, counted from 2 ^ -1074 on, and the first 32 digits write a measure, and no more is said of them.
+abbrev pub WritesOut : Binary → Outcome ℤ → Type 0
+WritesOut b m = (b.octave < 2 ^ 12) × (b.first < 2 ^ 32) × (m ≡ value (pos (b.octave * 2 ^ 24 + digits 24 b.first) -ℤ pos (1074 * 2 ^ 24)))
+
+-- they write it, or there is none
+abbrev pub Writes : Option Binary → Outcome ℤ → Type 0
+Writes (Some b) m = WritesOut b m
+Writes None m = m ≡ refused not_measurable
 
 -- How many semitones lie within the octave, from the first 32 digits: Nearest `semitones` of the digits alone, from 0 to 12. 8388318 is 8388608 - 290.
 unfoldable pub within : ℕ → ℕ

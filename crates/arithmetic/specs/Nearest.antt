@@ -8,6 +8,7 @@ use Rattle.arithmetic.specs.Division.{quotient}
 use Rattle.arithmetic.specs.Note.{a4}
 use Rattle.arithmetic.specs.Pitch.{is_pitch, a4_pitch, detuning_of}
 use Rattle.arithmetic.specs.Measure.{measure}
+use Rattle.arithmetic.specs.declared.tuning.Approximation.{Approximation}
 
 -- half a semitone, in the steps of 12 L: 2 ^ 23
 abbrev pub half_semitone : ℤ
@@ -31,3 +32,7 @@ nearest_note hz = a4 +ℤ semitones (measure (over_a4 hz))
 -- "the nearest-note answer carries the note and its f64 detuning, or the refusal"
 unfoldable pub nearest_rule : Float → Outcome (ℤ × Float)
 nearest_rule hz = refuse pitch_out_of_range unless is_pitch hz then value (nearest_note hz, detuning_of hz (nearest_note hz))
+
+-- the code's answer in these words
+abbrev pub nearest : Approximation → ℤ × Float
+nearest a = (a.note.number, a.detuning)

@@ -36,6 +36,9 @@ midi_number (negsuc n) = none
 
 -- ---- the rules of the calls
 
+unfoldable pub note_rule : ℤ → Outcome ℤ
+note_rule z = refuse note_out_of_range unless is_note z then value z
+
 unfoldable pub letter_rule : ℤ → Outcome ℕ
 letter_rule z = refuse note_out_of_range unless is_note z then value (letter_of z)
 

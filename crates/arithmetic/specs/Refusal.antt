@@ -1,5 +1,8 @@
--- The refusal table of document 01: each refusal by its number. `refusal.rt` has the same list for the code. Assumes nothing.
+-- The refusals, each by its number. Assumes nothing.
 use Rattle.std.specs.Prelude.{ℕ}
+use Rattle.arithmetic.specs.declared.refusal.Refusal.{Refusal}
+use Rattle.arithmetic.specs.declared.refusal.Refusal.TheVariants.{PitchOutOfRange, NotMeasurable, DetuningOutOfRange, NoteOutOfRange, KeyTwice, ChannelOver15, ChannelTwice}
+use Rattle.arithmetic.specs.declared.refusal.Refusal.TheVariants.{DataByteOver127, BendOutOfRange, BufferTooShort, KeyHeld, ListsUnequal, LineMalformed}
 
 -- pitch out of range or NaN
 abbrev pub pitch_out_of_range : ℕ
@@ -52,3 +55,19 @@ lists_unequal = 12
 -- malformed program line
 abbrev pub line_malformed : ℕ
 line_malformed = 13
+
+-- the number of the code's refusal
+abbrev pub number : Refusal → ℕ
+number PitchOutOfRange = pitch_out_of_range
+number NotMeasurable = not_measurable
+number DetuningOutOfRange = detuning_out_of_range
+number NoteOutOfRange = note_out_of_range
+number KeyTwice = key_twice
+number ChannelOver15 = channel_over15
+number ChannelTwice = channel_twice
+number DataByteOver127 = data_byte_over127
+number BendOutOfRange = bend_out_of_range
+number BufferTooShort = buffer_too_short
+number KeyHeld = key_held
+number ListsUnequal = lists_unequal
+number LineMalformed = line_malformed

@@ -1,11 +1,11 @@
-// Notes: whole numbers from -300 to 500, of which 69 is A4. Every function takes any i32 and refuses (4) a note outside.
+// Notes: whole numbers from -300 to 500, of which 69 is A4. A function of a number takes any and refuses (4) one that is no note.
 
-ghost use Rattle.std.specs.Prelude.{◌≡◌};
-ghost use Rattle.arithmetic.specs.Note.{is_note, letter_rule, octave_rule, plus_rule, before_rule, midi_rule};
-ghost use Rattle.arithmetic.specs.Answers.{letter_answer, octave_answer, note_answer, steps_answer, midi_answer};
+ghost use Rattle.std.specs.Prelude.{◌≡◌, true};
+ghost use Rattle.arithmetic.specs.Note.{is_note, letter_of, midi_number, note_rule, letter_rule, octave_rule, plus_rule, before_rule, midi_rule};
+ghost use Rattle.arithmetic.specs.Answers.{optional, outcome, outcome_by};
 
 use crate::math::{i32_div_u, i32_rem_u};
-use crate::refusal::NOTE_OUT_OF_RANGE;
+use crate::refusal::Refusal;
 
 pub const LOWEST_NOTE: i32 = -300;
 
@@ -16,43 +16,40 @@ const HIGHEST_MIDI_NUMBER: i32 = 127;
 
 pub const A4: i32 = 69;
 
+// A number that is a note.
 #[derive(Clone, Copy)]
-pub enum LetterAnswer {
+pub struct Note {
+    pub(crate) number: i32,
+    ghost is_note: { is_note number ≡ true },
+}
+
+impl Note {
+    pub fn number(self) -> i32
+        ensures { result ≡ self.number }
+    {
+        self.number
+    }
+
     // 0 to 11, C is 0.
-    Letter(u8),
-    // 4.
-    Refused(u8),
+    pub fn letter(self) -> u8
+        ensures { result ≡ letter_of self.number }
+    {
+        i32_rem_u(self.number, 12) as u8
+    }
 }
 
-#[derive(Clone, Copy)]
-pub enum OctaveAnswer {
-    Octave(i32),
-    // 4.
-    Refused(u8),
-}
+impl TryFrom<i32> for Note {
+    type Error = Refusal;
 
-#[derive(Clone, Copy)]
-pub enum NoteAnswer {
-    Note(i32),
-    // 4.
-    Refused(u8),
-}
+    // The note of a number. Refuses 4 a number that is none.
+    ghost try_from_gives = { λ number r. outcome_by (λ n. n.number) r ≡ note_rule number };
 
-#[derive(Clone, Copy)]
-pub enum StepsAnswer {
-    Steps(i32),
-    // 4.
-    Refused(u8),
-}
-
-#[derive(Clone, Copy)]
-pub enum MidiAnswer {
-    // 0 to 127.
-    Number(u8),
-    // A note below or above those.
-    Unnumbered,
-    // 4.
-    Refused(u8),
+    fn try_from(number: i32) -> Result<Note, Refusal> {
+        if is_note(number) {
+            return Ok(Note { number });
+        }
+        Err(Refusal::NoteOutOfRange)
+    }
 }
 
 // Whether a number is a note.
@@ -71,74 +68,61 @@ fn in_range(number: i64) -> bool
 
 // The letter: the remainder by 12. Refuses 4.
 // Example: letter(69) is 9
-pub fn letter(note: i32) -> LetterAnswer
-    ensures { letter_answer result ≡ letter_rule note }
+pub fn letter(note: i32) -> Result<u8, Refusal>
+    ensures { outcome result ≡ letter_rule note }
 {
-    if !is_note(note) {
-        return LetterAnswer::Refused(NOTE_OUT_OF_RANGE);
-    }
-    let letter = i32_rem_u(note, 12) as u8;
-    LetterAnswer::Letter(letter)
+    let note = Note::try_from(note)?;
+    Ok(note.letter())
 }
 
 // The octave: the quotient by 12, rounded down, minus 1. Refuses 4.
 // Example: octave(-1) is -2
-pub fn octave(note: i32) -> OctaveAnswer
-    ensures { octave_answer result ≡ octave_rule note }
+pub fn octave(note: i32) -> Result<i32, Refusal>
+    ensures { outcome result ≡ octave_rule note }
 {
-    if !is_note(note) {
-        return OctaveAnswer::Refused(NOTE_OUT_OF_RANGE);
-    }
-    let octave = i32_div_u(note, 12) - 1;
-    OctaveAnswer::Octave(octave)
+    let note = Note::try_from(note)?;
+    Ok(i32_div_u(note.number, 12) - 1)
 }
 
 // The note so many semitones higher, for any step. Refuses 4: the note, or the sum.
 // Example: plus_semitones(69, 12) is note 81
 // Example: plus_semitones(69, 432) is refused (4)
-pub fn plus_semitones(note: i32, num_semitones: i32) -> NoteAnswer
-    ensures { note_answer result ≡ plus_rule note num_semitones }
+pub fn plus_semitones(note: i32, num_semitones: i32) -> Result<i32, Refusal>
+    ensures { outcome result ≡ plus_rule note num_semitones }
 {
-    if !is_note(note) {
-        return NoteAnswer::Refused(NOTE_OUT_OF_RANGE);
-    }
-    let sum = note as i64 + num_semitones as i64;
+    let note = Note::try_from(note)?;
+    let sum = note.number as i64 + num_semitones as i64;
     if !in_range(sum) {
-        return NoteAnswer::Refused(NOTE_OUT_OF_RANGE);
+        return Err(Refusal::NoteOutOfRange);
     }
-    let higher = sum as i32;
-    NoteAnswer::Note(higher)
+    Ok(sum as i32)
 }
 
 // How many semitones the note lies before the other one. Refuses 4: the note, or the other.
 // Example: num_semitones_before(60, 67) is 7 semitones
-pub fn num_semitones_before(note: i32, other: i32) -> StepsAnswer
-    ensures { steps_answer result ≡ before_rule note other }
+pub fn num_semitones_before(note: i32, other: i32) -> Result<i32, Refusal>
+    ensures { outcome result ≡ before_rule note other }
 {
-    if !is_note(note) {
-        return StepsAnswer::Refused(NOTE_OUT_OF_RANGE);
-    }
-    if !is_note(other) {
-        return StepsAnswer::Refused(NOTE_OUT_OF_RANGE);
-    }
-    let steps = other - note;
-    StepsAnswer::Steps(steps)
+    let note = Note::try_from(note)?;
+    let other = Note::try_from(other)?;
+    Ok(other.number - note.number)
 }
 
-// The number that MIDI has for the note, if it has one. Refuses 4.
+// The number that MIDI has for the note, if it has one: 0 to 127. Refuses 4.
 // Example: checked_midi_number(128) is none
-pub fn checked_midi_number(note: i32) -> MidiAnswer
-    ensures { midi_answer result ≡ midi_rule note }
+pub fn checked_midi_number(note: i32) -> Result<Option<u8>, Refusal>
+    ensures { outcome_by optional result ≡ midi_rule note }
 {
-    if !is_note(note) {
-        return MidiAnswer::Refused(NOTE_OUT_OF_RANGE);
+    let note = Note::try_from(note)?;
+    Ok(midi_number(note.number))
+}
+
+// The number that MIDI has for a note, if it has one. Any number may be asked.
+pub fn midi_number(note: i32) -> Option<u8>
+    ensures { optional result ≡ midi_number note }
+{
+    if 0 <= note && note <= HIGHEST_MIDI_NUMBER {
+        return Some(note as u8);
     }
-    if note < 0 {
-        return MidiAnswer::Unnumbered;
-    }
-    if HIGHEST_MIDI_NUMBER < note {
-        return MidiAnswer::Unnumbered;
-    }
-    let number = note as u8;
-    MidiAnswer::Number(number)
+    None
 }

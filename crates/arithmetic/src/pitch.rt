@@ -6,10 +6,10 @@ ghost use Rattle.std.specs.Float.Ieee.{div, le, lt};
 ghost use Rattle.arithmetic.specs.Pitch.{is_pitch, negligible};
 ghost use Rattle.arithmetic.specs.Measure.{digits, measure, measure_rule};
 ghost use Rattle.arithmetic.specs.Outcome.{value};
-ghost use Rattle.arithmetic.specs.Answers.{measured};
-ghost use Rattle.arithmetic.specs.Inside.{Writes};
+ghost use Rattle.arithmetic.specs.Answers.{outcome};
+ghost use Rattle.arithmetic.specs.Inside.{Writes, WritesOut};
 
-use crate::refusal::NOT_MEASURABLE;
+use crate::refusal::Refusal;
 
 // A pitch in Hz. It holds any f64; what needs one from 2^-20 to 2^40 refuses (1) others.
 #[derive(Clone, Copy)]
@@ -76,19 +76,11 @@ const NEGLIGIBLE_BELOW: Ratio = Ratio {
     float_value: 1.000001,
 };
 
-#[derive(Clone, Copy)]
-pub enum Measured {
-    Measure(i64),
-    // 2.
-    Refused(u8),
-}
-
 // A positive finite number from 2^(octave - 1074) on and below twice that, with its first 32 digits in base 2.
 #[derive(Clone, Copy)]
-pub(crate) enum Binary {
-    Digits { octave: u64, first: u64 },
-    // Of any other.
-    Nothing,
+pub(crate) struct Binary {
+    pub octave: u64,
+    pub first: u64,
 }
 
 impl Ratio {
@@ -149,21 +141,19 @@ impl Ratio {
     // The base-2 logarithm in steps of 2^-24, cut off: document 01's measure. Refuses 2 a ratio that is not positive and finite.
     // Example: Ratio::from_float(1.5).measure() is 9814042
     // Example: Ratio::from_float(0).measure() is refused (2)
-    pub fn measure(self) -> Measured
-        ensures { measured result ≡ measure_rule self.float_value }
+    pub fn measure(self) -> Result<i64, Refusal>
+        ensures { outcome result ≡ measure_rule self.float_value }
     {
-        match self.binary() {
-            Binary::Digits { octave, first } => {
-                // An octave has 2^24 steps, and octaves are counted from 2^-1074, the smallest positive f64.
-                let level = octave * 0x100_0000 + squarings(first);
-                Measured::Measure((level as i64) - 1074 * 0x100_0000)
-            }
-            Binary::Nothing => Measured::Refused(NOT_MEASURABLE),
-        }
+        let Some(binary) = self.binary() else {
+            return Err(Refusal::NotMeasurable);
+        };
+        // An octave has 2^24 steps, and octaves are counted from 2^-1074, the smallest positive f64.
+        let level = binary.octave * 0x100_0000 + squarings(binary.first);
+        Ok((level as i64) - 1074 * 0x100_0000)
     }
 
     // The first digits of a ratio that is positive and finite.
-    pub(crate) fn binary(self) -> Binary
+    pub(crate) fn binary(self) -> Option<Binary>
         ensures { Writes result (measure_rule self.float_value) }
     {
         let v = self.float_value;
@@ -172,24 +162,24 @@ impl Ratio {
             let exponent = bits / 0x10_0000_0000_0000;
             let fraction = bits % 0x10_0000_0000_0000;
             if exponent == 0 {
-                return first_digits(fraction, 0);
+                return Some(first_digits(fraction, 0));
             }
             if exponent < 2047 {
-                return first_digits(fraction + 0x10_0000_0000_0000, exponent - 1);
+                return Some(first_digits(fraction + 0x10_0000_0000_0000, exponent - 1));
             }
         }
-        Binary::Nothing
+        None
     }
 }
 
 // The first digits of m * 2^(k - 1074).
 fn first_digits(m: u64, k: u64) -> Binary
     requires { (0 < m) × (m < 2 ^ 53) × (k < 2046) }
-    ensures { Writes result (value (measure (fin false m (pos k -ℤ pos 1074)))) }
+    ensures { WritesOut result (value (measure (fin false m (pos k -ℤ pos 1074)))) }
 {
     let zeros = u64::leading_zeros(m) as u64;
     let first = (m << zeros) / 0x1_0000_0000;
-    Binary::Digits {
+    Binary {
         octave: k + 63 - zeros,
         first,
     }
@@ -202,14 +192,12 @@ fn squarings(y: u64) -> u64
 {
     let mut rest = y;
     let mut written: u64 = 0;
-    let mut i: u64 = 0;
-    while i < 24 {
+    for _ in 0..24 {
         let square = rest * rest;
         // A square has 64 binary digits where its digit is 1, else 63.
         let digit = square >> 63;
         rest = (square >> 31) >> digit;
         written = written * 2 + digit;
-        i += 1;
     }
     written
 }

@@ -1,40 +1,64 @@
-// The refusal table of document 01: the number that each refusal returns. `specs/Refusal.antt` has the same list.
+// Why a call is refused. Each refusal has a number, which the console shows and the interface for C returns; `specs/Refusal.antt` has the same list.
 
-// Pitch out of range or NaN.
-pub const PITCH_OUT_OF_RANGE: u8 = 1;
+ghost use Rattle.std.specs.Prelude.{◌≡◌};
+ghost use Rattle.arithmetic.specs.Refusal.{number};
 
-// Measured detuning not positive and finite.
-pub const NOT_MEASURABLE: u8 = 2;
+use std::error::Error;
+use std::fmt;
 
-// Planned detuning outside 0.5..2 or NaN.
-pub const DETUNING_OUT_OF_RANGE: u8 = 3;
+#[derive(Clone, Copy, Debug, PartialEq, Eq)]
+pub enum Refusal {
+    PitchOutOfRange = 1,
+    NotMeasurable = 2,
+    DetuningOutOfRange = 3,
+    NoteOutOfRange = 4,
+    KeyTwice = 5,
+    ChannelOver15 = 6,
+    ChannelTwice = 7,
+    DataByteOver127 = 8,
+    BendOutOfRange = 9,
+    BufferTooShort = 10,
+    KeyHeld = 11,
+    ListsUnequal = 12,
+    LineMalformed = 13,
+}
 
-// Note outside -300..500.
-pub const NOTE_OUT_OF_RANGE: u8 = 4;
+impl Refusal {
+    // Its number.
+    pub fn number(self) -> u8
+        ensures { result ≡ number self }
+    {
+        self as u8
+    }
+}
 
-// Key twice in a list.
-pub const KEY_TWICE: u8 = 5;
+impl From<Refusal> for u8 {
+    ghost from_gives = { λ refusal n. n ≡ number refusal };
 
-// MIDI channel over 15.
-pub const CHANNEL_OVER_15: u8 = 6;
+    fn from(refusal: Refusal) -> u8 {
+        refusal.number()
+    }
+}
 
-// MIDI channel twice in the channel list.
-pub const CHANNEL_TWICE: u8 = 7;
+impl fmt::Display for Refusal {
+    fn fmt<W: fmt::Write>(&self, f: &mut fmt::Formatter<W>) -> fmt::Result {
+        let why = match self {
+            Refusal::PitchOutOfRange => "pitch out of range or no number",
+            Refusal::NotMeasurable => "detuning not positive and finite",
+            Refusal::DetuningOutOfRange => "planned detuning not from 0.5 to 2",
+            Refusal::NoteOutOfRange => "note not from -300 to 500",
+            Refusal::KeyTwice => "key twice in a list",
+            Refusal::ChannelOver15 => "MIDI channel over 15",
+            Refusal::ChannelTwice => "MIDI channel twice in the channel list",
+            Refusal::DataByteOver127 => "data byte over 127",
+            Refusal::BendOutOfRange => "bend not from -8192 to 8191",
+            Refusal::BufferTooShort => "buffer shorter than the answer's bytes",
+            Refusal::KeyHeld => "press of a held key",
+            Refusal::ListsUnequal => "lists of unequal length",
+            Refusal::LineMalformed => "malformed line",
+        };
+        write!(f, "{why}")
+    }
+}
 
-// Data byte over 127.
-pub const DATA_BYTE_OVER_127: u8 = 8;
-
-// Bend outside -8192..8191.
-pub const BEND_OUT_OF_RANGE: u8 = 9;
-
-// Output buffer shorter than this answer's bytes.
-pub const BUFFER_TOO_SHORT: u8 = 10;
-
-// Press of a held key.
-pub const KEY_HELD: u8 = 11;
-
-// Lists of unequal length.
-pub const LISTS_UNEQUAL: u8 = 12;
-
-// Malformed program line.
-pub const LINE_MALFORMED: u8 = 13;
+impl Error for Refusal {}

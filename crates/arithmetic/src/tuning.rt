@@ -2,36 +2,21 @@
 
 ghost use Rattle.std.specs.Prelude.{◌≡◌, true, ◌^◌, ◌<◌, pos, negsuc, ◌≤ℤ◌};
 ghost use Rattle.arithmetic.specs.Note.{is_note};
-ghost use Rattle.arithmetic.specs.Pitch.{is_pitch, octave_pitch, pitch_of, pitch_rule, detuning_rule};
-ghost use Rattle.arithmetic.specs.Nearest.{nearest_note, nearest_rule};
-ghost use Rattle.arithmetic.specs.Inside.{within, factor_to12, note_at, Stands};
-ghost use Rattle.arithmetic.specs.Answers.{pitch_answer, ratio_answer, approximation};
+ghost use Rattle.arithmetic.specs.Pitch.{is_pitch, octave_pitch, pitch_of, pitch_rule, detuning_of, detuning_rule};
+ghost use Rattle.arithmetic.specs.Nearest.{nearest_note, nearest_rule, nearest};
+ghost use Rattle.arithmetic.specs.Inside.{within, factor_to12, note_at};
+ghost use Rattle.arithmetic.specs.Answers.{outcome, outcome_by};
 
 use crate::math::{i32_div_u, i32_rem_u};
-use crate::note::{A4, is_note};
-use crate::pitch::{Binary, Pitch, Ratio};
-use crate::refusal::{NOTE_OUT_OF_RANGE, PITCH_OUT_OF_RANGE};
-
-#[derive(Clone, Copy)]
-pub enum PitchAnswer {
-    Hz(f64),
-    // 4.
-    Refused(u8),
-}
-
-#[derive(Clone, Copy)]
-pub enum RatioAnswer {
-    Value(f64),
-    // 1 or 4.
-    Refused(u8),
-}
+use crate::note::{A4, Note};
+use crate::pitch::{Pitch, Ratio};
+use crate::refusal::Refusal;
 
 // The note nearest to a pitch, and the ratio of the pitch to the note's.
 #[derive(Clone, Copy)]
-pub enum Approximation {
-    Nearest(i32, f64),
-    // 1.
-    Refused(u8),
+pub struct Approximation {
+    pub note: Note,
+    pub detuning: f64,
 }
 
 // Where a note stands: whole octaves above A4, and up to 12 semitones above that.
@@ -39,19 +24,20 @@ pub enum Approximation {
 struct Place {
     octaves: i32,
     semitones: u32,
+    ghost is_note: { is_note (note_at octaves semitones) ≡ true },
+    ghost few: { semitones < 13 },
 }
 
 impl Place {
-    fn note(self) -> i32
-        requires { (is_note (note_at self.octaves self.semitones) ≡ true) × (self.semitones < 13) }
-        ensures { result ≡ note_at self.octaves self.semitones }
+    fn note(self) -> Note
+        ensures { result.number ≡ note_at self.octaves self.semitones }
     {
-        A4 + (self.octaves * 12 + self.semitones as i32)
+        let number = A4 + (self.octaves * 12 + self.semitones as i32);
+        Note { number }
     }
 
     // The pitch of A4, moved by the octaves and then by the semitones.
     fn pitch(self) -> Pitch
-        requires { (is_note (note_at self.octaves self.semitones) ≡ true) × (self.semitones < 13) }
         ensures { result.hz ≡ pitch_of (note_at self.octaves self.semitones) }
     {
         Pitch::from_hz(octave_pitch(self.octaves) * semitone_factor(self.semitones))
@@ -156,59 +142,60 @@ const SEMITONE_FACTORS: [f64; 12] = [
 
 // The pitch of a note, in Hz. Refuses 4.
 // Example: pitch_of(60) is 261.625565... Hz
-pub fn pitch_of(note: i32) -> PitchAnswer
-    ensures { pitch_answer result ≡ pitch_rule note }
+pub fn pitch_of(note: i32) -> Result<f64, Refusal>
+    ensures { outcome result ≡ pitch_rule note }
 {
-    if !is_note(note) {
-        return PitchAnswer::Refused(NOTE_OUT_OF_RANGE);
-    }
-    PitchAnswer::Hz(note_pitch(note).as_hz())
+    let note = Note::try_from(note)?;
+    Ok(note_pitch(note).as_hz())
 }
 
 // The ratio of a pitch to a note's. Refuses 1, then 4.
 // Example: detuning(455 Hz, 69) is 1.034090...
-pub fn detuning(pitch: Pitch, note: i32) -> RatioAnswer
-    ensures { ratio_answer result ≡ detuning_rule pitch.hz note }
+pub fn detuning(pitch: Pitch, note: i32) -> Result<f64, Refusal>
+    ensures { outcome result ≡ detuning_rule pitch.hz note }
 {
     if !pitch.is_in_range() {
-        return RatioAnswer::Refused(PITCH_OUT_OF_RANGE);
+        return Err(Refusal::PitchOutOfRange);
     }
-    if !is_note(note) {
-        return RatioAnswer::Refused(NOTE_OUT_OF_RANGE);
-    }
-    RatioAnswer::Value(Ratio::between_pitches(note_pitch(note), pitch).as_float())
+    let note = Note::try_from(note)?;
+    Ok(detuning_from(pitch, note))
+}
+
+// The ratio of a pitch to a note's.
+pub fn detuning_from(pitch: Pitch, note: Note) -> f64
+    ensures { result ≡ detuning_of pitch.hz note.number }
+{
+    Ratio::between_pitches(note_pitch(note), pitch).as_float()
 }
 
 // The nearest note, and the ratio of the pitch to its pitch. Refuses 1.
 // Example: find_by_pitch(455 Hz) is note 70, detuning 0.976051...
 // Example: find_by_pitch(0 Hz) is refused (1)
-pub fn find_by_pitch(pitch: Pitch) -> Approximation
-    ensures { approximation result ≡ nearest_rule pitch.hz }
+pub fn find_by_pitch(pitch: Pitch) -> Result<Approximation, Refusal>
+    ensures { outcome_by nearest result ≡ nearest_rule pitch.hz }
 {
     if !pitch.is_in_range() {
-        return Approximation::Refused(PITCH_OUT_OF_RANGE);
+        return Err(Refusal::PitchOutOfRange);
     }
     let place = nearest_place(pitch);
     let deviation = Ratio::between_pitches(place.pitch(), pitch);
-    Approximation::Nearest(place.note(), deviation.as_float())
+    Ok(Approximation {
+        note: place.note(),
+        detuning: deviation.as_float(),
+    })
 }
 
 // Where the note nearest to a pitch in range stands, by the first digits of the ratio to A4.
 fn nearest_place(pitch: Pitch) -> Place
     requires { is_pitch pitch.hz ≡ true }
-    ensures { Stands result.octaves result.semitones (nearest_note pitch.hz) }
+    ensures { note_at result.octaves result.semitones ≡ nearest_note pitch.hz }
 {
+    // A pitch in range over 440 Hz is positive and finite.
     let over_a4 = Ratio::between_pitches(Pitch::from_hz(A4_HZ), pitch);
-    let Binary::Digits { octave, first } = over_a4.binary() else {
-        // Not reached: a pitch over 440 Hz is positive and finite.
-        return Place {
-            octaves: 0,
-            semitones: 0,
-        };
-    };
+    let binary = over_a4.binary().unwrap();
     // Octaves are counted from 2^-1074, the smallest positive f64.
-    let octaves = (octave as i32) - 1074;
-    let semitones = within(first) as u32;
+    let octaves = (binary.octave as i32) - 1074;
+    let semitones = within(binary.first) as u32;
     Place { octaves, semitones }
 }
 
@@ -218,19 +205,16 @@ fn within(first: u64) -> u64
     ensures { result ≡ within first }
 {
     let mut passed: u64 = 0;
-    let mut i: usize = 0;
-    while i < 12 {
-        passed += (first + (0x2_0000_0000 - BOUNDARIES[i])) / 0x2_0000_0000;
-        i += 1;
+    for boundary in BOUNDARIES {
+        passed += (first + (0x2_0000_0000 - boundary)) / 0x2_0000_0000;
     }
     passed
 }
 
-fn note_pitch(note: i32) -> Pitch
-    requires { is_note note ≡ true }
-    ensures { result.hz ≡ pitch_of note }
+fn note_pitch(note: Note) -> Pitch
+    ensures { result.hz ≡ pitch_of note.number }
 {
-    let above_a4 = note - A4;
+    let above_a4 = note.number() - A4;
     let octaves = i32_div_u(above_a4, 12);
     let semitones = i32_rem_u(above_a4, 12);
     let place = Place { octaves, semitones };

@@ -1,13 +1,11 @@
 -- The channel list (document 01): "Channel list, on opening a tuner or a model: entry by entry 6, 7." "Channel i of a plan or pool is entry i of the
 -- channel list given on opening, and the channels present are that list's entries." Assumes nothing.
-use Rattle.std.specs.Prelude.{ℕ, zero, suc, min, ◌/◌, ◌%◌, not, List, [], ◌∷◌, ◌++◌, leb}
-use Rattle.std.proofs.Math.Option.{Option, some, none}
+use Rattle.std.specs.Prelude.{ℕ, not, List, [], ◌∷◌, ◌++◌, map, take, leb}
 use Rattle.arithmetic.specs.Refusal.{channel_over15, channel_twice}
 use Rattle.arithmetic.specs.Outcome.{Outcome, value, refused, refuse◌unless◌then◌}
 use Rattle.channels.specs.Lists.{member}
+use Rattle.channels.specs.Places.{channel_of}
 use Rattle.channels.specs.declared.list.ChannelList.{ChannelList}
-use Rattle.channels.specs.declared.list.ChannelsAnswer as A
-use Rattle.channels.specs.declared.list.EntryAnswer as E
 
 -- The rule: "MIDI channel over 15", "MIDI channel twice in the channel list". `before` are the entries before.
 unfoldable pub list_from : List ℕ → List ℕ → Outcome (List ℕ)
@@ -25,20 +23,6 @@ abbrev pub present : Outcome (List ℕ) → List ℕ
 present (value cs) = cs
 present (refused n) = []
 
--- The entries as they are stored: at most sixteen digits to base 16, entry 0 the lowest, so that each is a MIDI channel.
-unfoldable pub digits : ℕ → ℕ → List ℕ
-digits zero x = []
-digits (suc n) x = x % 16 ∷ digits n (x / 16)
-
+-- The entries as they are stored: the first places, at most sixteen, each read as a MIDI channel.
 unfoldable pub entries : ChannelList → List ℕ
-entries l = digits (min l.count 16) l.digits
-
--- ---- the code's answers in these words
-
-unfoldable pub channels_answer : A.ChannelsAnswer → Outcome (List ℕ)
-channels_answer (A.TheVariants.Listed l) = value (entries l)
-channels_answer (A.TheVariants.Refused n) = refused n
-
-abbrev pub entry_answer : E.EntryAnswer → Option ℕ
-entry_answer (E.TheVariants.Channel c) = some c
-entry_answer E.TheVariants.NoEntry = none
+entries l = map channel_of (take l.count l.channels)

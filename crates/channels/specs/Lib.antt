@@ -6,4 +6,3 @@ pub mod Keys
 pub mod Places
 pub mod ChannelList
 pub mod TuningValue
-pub mod Answers

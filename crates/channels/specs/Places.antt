@@ -1,8 +1,9 @@
 -- Where a key is found: a channel and a note, and both in one number, the key's record. Assumes nothing.
-use Rattle.std.specs.Prelude.{ℕ, ◌+◌, ◌*◌, ◌/◌, ◌%◌, Bool, true, false, cond, ℤ, pos, nat_abs, ◌+ℤ◌, ◌-ℤ◌}
+use Rattle.std.specs.Prelude.{ℕ, ◌+◌, ◌*◌, ◌/◌, ◌%◌, Bool, true, false, cond, ℤ, pos, nat_abs, ◌+ℤ◌, ◌-ℤ◌, Some, None}
+use Rattle.std.specs.Prelude.{Option as Optional}
 use Rattle.std.proofs.Math.Option.{Option, some, none}
 use Rattle.arithmetic.specs.Note.{is_note}
-use Rattle.channels.specs.declared.keys.AccessKeyResult as A
+use Rattle.channels.specs.declared.keys.Place as C
 
 -- Where a found key sounds.
 pub record Place : Type 0 where
@@ -31,6 +32,9 @@ cell_of note channel = cond (is_note note) (nat_abs (note +ℤ pos 301) + 1024 *
 
 -- ---- the code's answer in these words
 
-unfoldable pub place : A.AccessKeyResult → Option Place
-place (A.TheVariants.Found channel note) = some (record { channel = channel; note = note })
-place A.TheVariants.NotFound = none
+abbrev pub place_in : C.Place → Place
+place_in p = record { channel = p.channel; note = p.note.number }
+
+unfoldable pub place : Optional C.Place → Option Place
+place (Some p) = some (place_in p)
+place None = none

@@ -1,40 +1,34 @@
-// Keys: how many there are, what a lookup finds, and a key's record in one number, 0 or note + 301 + 1024 * channel.
+// Keys: how many there are, where a key is found, and both in one number, the key's record, 0 or note + 301 + 1024 * channel.
 
 ghost use Rattle.std.specs.Prelude.{◌≡◌};
 ghost use Rattle.channels.specs.Places.{is_held, note_of, place_of, cell_of, place};
 
-use arithmetic::note::is_note;
+use arithmetic::note::{Note, is_note};
 
 // The number of keys, as `key_count` of specs/.
 pub const KEYS: usize = 256;
 
-// What a lookup of a key finds.
+// Where a key is found.
 #[derive(Clone, Copy)]
-pub enum AccessKeyResult {
-    Found { channel: u8, found_note: i32 },
-    NotFound,
+pub struct Place {
+    pub channel: u8,
+    pub note: Note,
 }
 
-// The next found key.
+// A key that is found.
 #[derive(Clone, Copy)]
-pub enum NextKey {
-    Held { key: u16, channel: u8, note: i32 },
-    NoMore,
+pub struct HeldKey {
+    pub key: u16,
+    pub place: Place,
 }
 
 // Where the key of a record is found.
-pub fn place_of(cell: u16) -> AccessKeyResult
+pub fn place_of(cell: u16) -> Option<Place>
     ensures { place result ≡ place_of cell }
 {
-    let found_note = note_of(cell);
-    if is_note(found_note) {
-        let channel = (cell / 1024 % 16) as u8;
-        return AccessKeyResult::Found {
-            channel,
-            found_note,
-        };
-    }
-    AccessKeyResult::NotFound
+    let note = Note::try_from(note_of(cell)).ok()?;
+    let channel = (cell / 1024 % 16) as u8;
+    Some(Place { channel, note })
 }
 
 // Whether the key of a record is found.

@@ -3,17 +3,37 @@
 ghost use Rattle.std.specs.Prelude.{◌≡◌, ◌^◌, ◌<◌, pos, ◌≤ℤ◌};
 ghost use Rattle.std.specs.Int.Signed.{mag};
 ghost use Rattle.channels.specs.declared.tuning_value.TuningKind.TheVariants.{FineTuning, Bend};
-ghost use Rattle.channels.specs.TuningValue.{clamp, fine_value, bend_value, tuning_rule, kind_of};
-ghost use Rattle.channels.specs.Answers.{tuning_answer};
+ghost use Rattle.channels.specs.TuningValue.{fine_value, bend_value, tuning_rule, kind_of};
+ghost use Rattle.arithmetic.specs.Answers.{outcome, outcome_by};
 
-use arithmetic::pitch::{Measured, Ratio};
-use arithmetic::refusal::NOT_MEASURABLE;
+use arithmetic::pitch::Ratio;
+use arithmetic::refusal::Refusal;
 
 // How a sender tunes a channel.
-#[derive(Clone, Copy)]
+#[derive(Clone, Copy, Debug, PartialEq, Eq)]
 pub enum TuningKind {
-    FineTuning,
-    Bend,
+    FineTuning = 0,
+    Bend = 1,
+}
+
+// A number that names none is read as 0.
+impl From<u16> for TuningKind {
+    ghost from_gives = { λ number kind. kind ≡ kind_of number };
+
+    fn from(number: u16) -> TuningKind {
+        match number {
+            1 => TuningKind::Bend,
+            _ => TuningKind::FineTuning,
+        }
+    }
+}
+
+impl From<TuningKind> for u16 {
+    ghost from_gives = { λ kind number. kind_of number ≡ kind };
+
+    fn from(kind: TuningKind) -> u16 {
+        kind as u16
+    }
 }
 
 // A channel's tuning in the steps of its kind.
@@ -25,48 +45,36 @@ pub enum Tuning {
     Bend(i16),
 }
 
-#[derive(Clone, Copy)]
-pub enum TuningAnswer {
-    Value(Tuning),
-    // 2.
-    Refused(u8),
-}
-
 // Of each kind.
 #[derive(Clone, Copy)]
 pub struct Tunings {
-    pub fine: TuningAnswer,
-    pub bend: TuningAnswer,
+    pub fine: Tuning,
+    pub bend: Tuning,
 }
 
 // The tuning in which a detuning is sent. Refuses 2.
 // Example: tuning_of(FineTuning, 33/32) is fine value 12556
 // Example: tuning_of(Bend, 33/32) is bend 2182
-pub fn tuning_of(kind: TuningKind, detuning: Ratio) -> TuningAnswer
-    ensures { tuning_answer result ≡ tuning_rule kind detuning.float_value }
+pub fn tuning_of(kind: TuningKind, detuning: Ratio) -> Result<Tuning, Refusal>
+    ensures { outcome result ≡ tuning_rule kind detuning.float_value }
 {
-    let tunings = tunings_of(detuning);
-    match kind {
+    let tunings = tunings_of(detuning)?;
+    Ok(match kind {
         TuningKind::FineTuning => tunings.fine,
         TuningKind::Bend => tunings.bend,
-    }
+    })
 }
 
-// Those of both kinds, from one measure.
-pub fn tunings_of(detuning: Ratio) -> Tunings
-    ensures fine { tuning_answer result.fine ≡ tuning_rule FineTuning detuning.float_value }
-    ensures bend { tuning_answer result.bend ≡ tuning_rule Bend detuning.float_value }
+// Those of both kinds, from one measure. Refuses 2.
+pub fn tunings_of(detuning: Ratio) -> Result<Tunings, Refusal>
+    ensures fine { outcome_by (λ t. t.fine) result ≡ tuning_rule FineTuning detuning.float_value }
+    ensures bend { outcome_by (λ t. t.bend) result ≡ tuning_rule Bend detuning.float_value }
 {
-    let Measured::Measure(l) = detuning.measure() else {
-        return Tunings {
-            fine: TuningAnswer::Refused(NOT_MEASURABLE),
-            bend: TuningAnswer::Refused(NOT_MEASURABLE),
-        };
-    };
-    Tunings {
-        fine: TuningAnswer::Value(Tuning::Fine(fine_value(l))),
-        bend: TuningAnswer::Value(Tuning::Bend(bend_value(l))),
-    }
+    let l = detuning.measure()?;
+    Ok(Tunings {
+        fine: Tuning::Fine(fine_value(l)),
+        bend: Tuning::Bend(bend_value(l)),
+    })
 }
 
 // 8192 + 3L/512 rounded down, clamped to 0..16383. The shift rounds down.
@@ -74,7 +82,7 @@ fn fine_value(l: i64) -> u16
     requires { mag l < 2 ^ 40 }
     ensures { result ≡ fine_value l }
 {
-    clamped(0, 16383, 8192 + ((l * 3) >> 9)) as u16
+    (8192 + ((l * 3) >> 9)).clamp(0, 16383) as u16
 }
 
 // 3L/1024 cut toward zero, clamped to -8192..8191.
@@ -82,27 +90,5 @@ fn bend_value(l: i64) -> i16
     requires { mag l < 2 ^ 40 }
     ensures { result ≡ bend_value l }
 {
-    clamped(-8192, 8191, l * 3 / 1024) as i16
-}
-
-fn clamped(low: i64, high: i64, x: i64) -> i64
-    ensures { result ≡ clamp low high x }
-{
-    if x < low {
-        return low;
-    }
-    if high < x {
-        return high;
-    }
-    x
-}
-
-// The number of a tuning kind in a block.
-pub fn kind_number(kind: TuningKind) -> u16
-    ensures { kind_of result ≡ kind }
-{
-    match kind {
-        TuningKind::FineTuning => 0,
-        TuningKind::Bend => 1,
-    }
+    (l * 3 / 1024).clamp(-8192, 8191) as i16
 }
