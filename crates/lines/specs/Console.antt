@@ -4,7 +4,7 @@ use Rattle.std.specs.Float.{binary64}
 use Rattle.std.specs.Float.Ieee.{of_int, div}
 use Rattle.channels.specs.Outcome.{Outcome, value, refused}
 use Rattle.channels.specs.declared.tuning_value.TuningKind.TheVariants.{FineTuning}
-use Rattle.pools.specs.declared.block.PoolingMode.TheVariants.{Stop}
+use Rattle.pools.specs.declared.jit.PoolingMode.TheVariants.{Stop}
 use Rattle.senders.specs.Lent.{Effect, sends}
 use Rattle.senders.specs.Jit.{Tuner, start_rule, note_on_rule, note_off_rule, note_pitch_rule}
 use Rattle.lines.specs.Split.{feed, split}

@@ -17,9 +17,9 @@ use Rattle.arithmetic.specs.Outcome.{value, refused}
 use Rattle.channels.specs.Lists.{first}
 use Rattle.channels.specs.Places.{Place, is_held, channel_of, place_of}
 use Rattle.pools.specs.Pool.{key_count, Pool, State, Held, pool_count, pool_of, pool, found, held_at, oldest, oldest_of, Press, pressed, unless_held, replied}
-use Rattle.pools.specs.declared.block.PoolGroupBy.{PoolGroupBy}
-use Rattle.pools.specs.declared.block.PoolingMode.{PoolingMode}
-use Rattle.pools.specs.declared.block.PoolingMode.TheVariants.{Block, Stop, Ignore}
+use Rattle.pools.specs.declared.jit.PoolGroupBy.{PoolGroupBy}
+use Rattle.pools.specs.declared.jit.PoolingMode.{PoolingMode}
+use Rattle.pools.specs.declared.jit.PoolingMode.TheVariants.{Block, Stop, Ignore}
 use Rattle.pools.proofs.Pools.{pool_small}
 use Rattle.pools.proofs.PressCases.{pressed_front, pressed_nobody, pressed_blocked, pressed_elsewhere, pressed_stopping, pressed_ignoring}
 use Rattle.pools.specs.declared.state.Allocation as A

@@ -14,8 +14,8 @@ use Rattle.arithmetic.specs.Outcome.{Outcome, value, refused}
 use Rattle.channels.specs.Lists.{member, without}
 use Rattle.channels.specs.Places.{Place, note_of, channel_of, place_of}
 use Rattle.pools.specs.Pool.{key_count, Pool, State, pool_count, pool_of, pool, empty_pool, found, with_pool, with_key, behind, taken_in, freed_in, freed, taken, forgotten, replied}
-use Rattle.pools.specs.declared.block.PoolGroupBy.{PoolGroupBy}
-use Rattle.pools.specs.declared.block.PoolingMode.{PoolingMode}
+use Rattle.pools.specs.declared.jit.PoolGroupBy.{PoolGroupBy}
+use Rattle.pools.specs.declared.jit.PoolingMode.{PoolingMode}
 use Rattle.pools.proofs.Pools.{pool_small}
 use Rattle.pools.specs.Block.{settings, cell_count, queue_at, pool_at, pools_from, channels_at, group_of, mode_of, kind_at, state_with, state_of, Moves}
 use Rattle.channels.specs.TuningValue.{kind_of}

@@ -10,9 +10,9 @@ use lib.ListN.{length, take, drop, get_or, set, replicate, replicate-append-repl
 use lib.Seq.{take-take}
 use Rattle.channels.specs.Lists.{upward}
 use Rattle.pools.specs.Pool.{key_count, Pool, pool_count, fresh}
-use Rattle.pools.specs.declared.block.PoolGroupBy.{PoolGroupBy}
-use Rattle.pools.specs.declared.block.PoolGroupBy.TheVariants.{NoteLetter, Channel}
-use Rattle.pools.specs.declared.block.PoolingMode.{PoolingMode}
+use Rattle.pools.specs.declared.jit.PoolGroupBy.{PoolGroupBy}
+use Rattle.pools.specs.declared.jit.PoolGroupBy.TheVariants.{NoteLetter, Channel}
+use Rattle.pools.specs.declared.jit.PoolingMode.{PoolingMode}
 use Rattle.pools.proofs.Queues.{take_range}
 use Rattle.pools.specs.PoolInternal.{Kept}
 use Rattle.channels.specs.Places.{note_of, channel_of, place_of}

@@ -20,10 +20,10 @@ use Rattle.arithmetic.proofs.Refusals.{letter_refuses, detuning_refuses}
 use Rattle.channels.specs.Lists.{first}
 use Rattle.channels.specs.Places.{Place}
 use Rattle.pools.specs.Pool.{State, Held, pool_count, pool_of, pool, found, with_pool, with_key, freed, forgotten, released, released_from, released_all, held_at, oldest_of, oldest, Room, room, made_room, room_for, accepted, rejected, taken, pressed, pressed_on, held_from, held_keys, unless_held, register_rule}
-use Rattle.pools.specs.declared.block.PoolGroupBy.{PoolGroupBy}
-use Rattle.pools.specs.declared.block.PoolGroupBy.TheVariants.{NoteLetter, Channel}
-use Rattle.pools.specs.declared.block.PoolingMode.{PoolingMode}
-use Rattle.pools.specs.declared.block.PoolingMode.TheVariants.{Block, Stop, Ignore}
+use Rattle.pools.specs.declared.jit.PoolGroupBy.{PoolGroupBy}
+use Rattle.pools.specs.declared.jit.PoolGroupBy.TheVariants.{NoteLetter, Channel}
+use Rattle.pools.specs.declared.jit.PoolingMode.{PoolingMode}
+use Rattle.pools.specs.declared.jit.PoolingMode.TheVariants.{Block, Stop, Ignore}
 use Rattle.pools.proofs.HeldKeys.{Met}
 
 -- ---- what a call's value says of a rule

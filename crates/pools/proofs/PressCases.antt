@@ -10,8 +10,8 @@ use lib.ListN.{length, get_or}
 use lib.Seq.{get_or-set_same, get_or-set_other}
 use Rattle.channels.specs.Lists.{first}
 use Rattle.pools.specs.Pool.{Pool, State, Held, pool_of, empty_pool, pool, with_pool, freed, freed_in, forgotten, with_key, behind, released, oldest, room, made_room, room_for, room_by, accepted, rejected, taken, pressed}
-use Rattle.pools.specs.declared.block.PoolingMode.{PoolingMode}
-use Rattle.pools.specs.declared.block.PoolingMode.TheVariants.{Block, Stop, Ignore}
+use Rattle.pools.specs.declared.jit.PoolingMode.{PoolingMode}
+use Rattle.pools.specs.declared.jit.PoolingMode.TheVariants.{Block, Stop, Ignore}
 use Rattle.channels.proofs.ListLaws.{T→true, first_rest, first_none}
 use Rattle.pools.proofs.Pools.{oldest_is, made_none, pressed_free, pressed_none, released_found}
 

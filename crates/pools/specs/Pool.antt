@@ -11,10 +11,10 @@ pub use Rattle.channels.specs.Keys.{key_count}
 use Rattle.channels.specs.Places.{Place, is_held}
 use Rattle.channels.specs.Lists.{member, without, upward, first}
 use Rattle.channels.specs.ChannelList.{list_rule, present}
-use Rattle.pools.specs.declared.block.PoolGroupBy.{PoolGroupBy}
-use Rattle.pools.specs.declared.block.PoolGroupBy.TheVariants.{NoteLetter, Channel}
-use Rattle.pools.specs.declared.block.PoolingMode.{PoolingMode}
-use Rattle.pools.specs.declared.block.PoolingMode.TheVariants.{Block, Stop, Ignore}
+use Rattle.pools.specs.declared.jit.PoolGroupBy.{PoolGroupBy}
+use Rattle.pools.specs.declared.jit.PoolGroupBy.TheVariants.{NoteLetter, Channel}
+use Rattle.pools.specs.declared.jit.PoolingMode.{PoolingMode}
+use Rattle.pools.specs.declared.jit.PoolingMode.TheVariants.{Block, Stop, Ignore}
 
 -- ---- the state
 

@@ -1,28 +1,44 @@
--- What each case of the answers of pools is in the words of the rules. Assumes nothing.
-use Rattle.std.specs.Prelude.{ℤ, Float}
+-- What the answers of pools are in the words of the rules. Assumes nothing.
+use Rattle.std.specs.Prelude.{ℤ, Float, List, Result, Some, None}
+use Rattle.std.specs.Prelude.{Option as Optional}
 use Rattle.std.proofs.Math.Option.{Option, some, none}
-use Rattle.arithmetic.specs.Outcome.{Outcome, value, refused}
-use Rattle.channels.specs.Places.{Place}
-use Rattle.pools.specs.Pool.{Held, Press, accepted, rejected}
-use Rattle.channels.specs.declared.keys.NextKey as N
-use Rattle.pools.specs.declared.block.StoppedNote as S
-use Rattle.pools.specs.declared.block.RegisterKeyResult as R
-use Rattle.pools.specs.declared.block.RepitchKeyResult as P
+use Rattle.arithmetic.specs.declared.note.Note.{Note}
+use Rattle.arithmetic.specs.declared.refusal.Refusal.{Refusal}
+use Rattle.arithmetic.specs.Answers.{outcome_by}
+use Rattle.arithmetic.specs.Outcome.{Outcome}
+use Rattle.channels.specs.Places.{Place, place_in}
+use Rattle.channels.specs.declared.keys.HeldKey.{HeldKey}
+use Rattle.pools.specs.Pool.{Held, Press, accepted, rejected, held_keys}
+use Rattle.pools.specs.Block.{state_of}
+use Rattle.pools.specs.declared.jit.HeldKeys.{HeldKeys}
+use Rattle.pools.specs.declared.jit.Registered.{Registered}
+use Rattle.pools.specs.declared.jit.Repitched.{Repitched}
 
-unfoldable pub next_held : N.NextKey → Option Held
-next_held (N.TheVariants.Held key channel note) = some (record { key = key; place = record { channel = channel; note = note } })
-next_held N.TheVariants.NoMore = none
+abbrev pub held : HeldKey → Held
+held h = record { key = h.key; place = place_in h.place }
 
-abbrev pub stopped_note : S.StoppedNote → Option ℤ
-stopped_note (S.TheVariants.Note note) = some note
-stopped_note S.TheVariants.Nothing = none
+-- the found keys that an iterator has left
+abbrev pub left : HeldKeys → List Held
+left it = held_keys (state_of it.model.now) it.from
 
-unfoldable pub press : R.RegisterKeyResult → Outcome Press
-press (R.TheVariants.Accepted channel stopped started detuning) = value (accepted channel (stopped_note stopped) started detuning)
-press R.TheVariants.Rejected = value rejected
-press (R.TheVariants.Refused n) = refused n
+unfoldable pub next_held : Optional HeldKey → Option Held
+next_held (Some h) = some (held h)
+next_held None = none
 
-unfoldable pub repitched : P.RepitchKeyResult → Outcome (Option (Place × Float))
-repitched (P.TheVariants.Found channel note detuning) = value (some (record { channel = channel; note = note }, detuning))
-repitched P.TheVariants.NotFound = value none
-repitched (P.TheVariants.Refused n) = refused n
+abbrev pub stopped_note : Optional Note → Option ℤ
+stopped_note (Some note) = some note.number
+stopped_note None = none
+
+abbrev pub told : Optional Registered → Press
+told (Some r) = accepted r.channel (stopped_note r.stopped_note) r.started_note.number r.detuning
+told None = rejected
+
+abbrev pub press : Result (Optional Registered) Refusal → Outcome Press
+press r = outcome_by told r
+
+abbrev pub retuned : Optional Repitched → Option (Place × Float)
+retuned (Some r) = some (place_in r.place, r.detuning)
+retuned None = none
+
+abbrev pub repitched : Result (Optional Repitched) Refusal → Outcome (Option (Place × Float))
+repitched r = outcome_by retuned r

@@ -4,9 +4,9 @@ use Rattle.std.proofs.Math.Option.{some, none}
 use Rattle.arithmetic.specs.Note.{is_note}
 use Rattle.pools.specs.Block.{settings}
 use Rattle.pools.specs.Pool.{key_count, State, pool_of, Press, accepted, rejected, taken, freed, forgotten, pressed}
-use Rattle.pools.specs.declared.block.PoolGroupBy.{PoolGroupBy}
-use Rattle.pools.specs.declared.block.PoolingMode.{PoolingMode}
-use Rattle.pools.specs.declared.block.PoolingMode.TheVariants.{Block, Stop, Ignore}
+use Rattle.pools.specs.declared.jit.PoolGroupBy.{PoolGroupBy}
+use Rattle.pools.specs.declared.jit.PoolingMode.{PoolingMode}
+use Rattle.pools.specs.declared.jit.PoolingMode.TheVariants.{Block, Stop, Ignore}
 use Rattle.pools.specs.declared.state.Allocation as A
 use Rattle.pools.specs.declared.state.Allocation.{Allocation}
 

@@ -1,10 +1,6 @@
-// Pools, in place (document 01, "jit.rs"): channels are handed out while somebody plays.
+// Pools: channels are handed out while somebody plays.
 #![tactic(auto)]
 
-pub mod block;
-pub mod cells;
-mod channel_cells;
+pub mod jit;
 mod pool;
 mod queue;
-mod settings;
-mod state;

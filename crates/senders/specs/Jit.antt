@@ -10,8 +10,8 @@ use Rattle.pools.specs.Pool.{State, Held, Press, accepted, rejected, found, rele
 use Rattle.pools.specs.Block.{state_of, kind_at}
 use Rattle.channels.specs.TuningValue.{sent_as}
 use Rattle.channels.specs.declared.tuning_value.TuningKind.{TuningKind}
-use Rattle.pools.specs.declared.block.PoolingMode.{PoolingMode}
-use Rattle.pools.specs.declared.block.PoolGroupBy.TheVariants.{Channel}
+use Rattle.pools.specs.declared.jit.PoolingMode.{PoolingMode}
+use Rattle.pools.specs.declared.jit.PoolGroupBy.TheVariants.{Channel}
 use Rattle.senders.specs.Message.{Message, is_data}
 use Rattle.senders.specs.Midi.{bytes_of}
 use Rattle.senders.specs.Lent.{Effect, sends, Answer, sent}

@@ -3,7 +3,7 @@
 use Rattle.std.specs.Prelude.{List, [], ◌∷◌, ℕ, ℤ, Float}
 use Rattle.channels.specs.Outcome.{Outcome}
 use Rattle.channels.specs.declared.tuning_value.TuningKind.{TuningKind}
-use Rattle.pools.specs.declared.block.PoolingMode.{PoolingMode}
+use Rattle.pools.specs.declared.jit.PoolingMode.{PoolingMode}
 use Rattle.senders.specs.Lent.{fitted}
 use Rattle.senders.specs.Midi.{message_rule}
 use Rattle.senders.specs.Mts.{channel_tuning_rule}

@@ -9,8 +9,8 @@ use Rattle.channels.specs.TuningValue.{tuning_rule}
 use Rattle.pools.specs.Pool as Pools
 use Rattle.plans.specs.Plan.{Model, open_rule, set_tuning, set_tuning_of_pitches}
 use Rattle.plans.specs.declared.block.GroupBy.{GroupBy}
-use Rattle.pools.specs.declared.block.PoolGroupBy.{PoolGroupBy}
-use Rattle.pools.specs.declared.block.PoolingMode.{PoolingMode}
+use Rattle.pools.specs.declared.jit.PoolGroupBy.{PoolGroupBy}
+use Rattle.pools.specs.declared.jit.PoolingMode.{PoolingMode}
 use Rattle.channels.specs.declared.tuning_value.TuningKind.{TuningKind}
 use Rattle.senders.specs.Lent.{fitted, told}
 use Rattle.senders.specs.Midi.{message_rule}

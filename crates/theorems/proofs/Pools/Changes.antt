@@ -10,8 +10,8 @@ use lib.IntN.{ℤ}
 use lib.Ieee.{Float}
 use lib.ListN.{length, get_or, set, drop, length-set, length-append}
 use lib.Seq.{get_or-set_same, get_or-set_other}
-use Rattle.pools.specs.declared.block.PoolingMode.{PoolingMode}
-use Rattle.pools.specs.declared.block.PoolingMode.TheVariants.{Block, Stop, Ignore}
+use Rattle.pools.specs.declared.jit.PoolingMode.{PoolingMode}
+use Rattle.pools.specs.declared.jit.PoolingMode.TheVariants.{Block, Stop, Ignore}
 use Rattle.channels.specs.Lists.{member, without, first}
 use Rattle.channels.specs.Places.{Place}
 use Rattle.pools.specs.Pool.{key_count, Pool, State, Held, pool_of, pool, found, with_pool, with_key, behind, taken_in, taken, freed_in, freed, forgotten, released, oldest, made_room, room_by, room_for, pressed_on, pressed}

@@ -9,9 +9,9 @@ use lib.Ieee.{Float}
 use Rattle.arithmetic.specs.Outcome.{Outcome, value}
 use Rattle.arithmetic.specs.Pitch.{is_pitch, detuning_of}
 use Rattle.arithmetic.specs.Nearest.{nearest_note}
-use Rattle.pools.specs.declared.block.PoolGroupBy.TheVariants.{Channel}
-use Rattle.pools.specs.declared.block.PoolingMode.{PoolingMode}
-use Rattle.pools.specs.declared.block.PoolingMode.TheVariants.{Stop}
+use Rattle.pools.specs.declared.jit.PoolGroupBy.TheVariants.{Channel}
+use Rattle.pools.specs.declared.jit.PoolingMode.{PoolingMode}
+use Rattle.pools.specs.declared.jit.PoolingMode.TheVariants.{Stop}
 use Rattle.channels.specs.Lists.{without, upward, first}
 use Rattle.channels.specs.ChannelList.{list_from, list_rule}
 use Rattle.pools.specs.Pool.{State, pool_count, pool_of, pool, found, fresh, open_rule, with_pool, with_key, behind, taken_in, taken, freed_in, freed, forgotten, released, released_from, held_at, oldest_of, oldest, made_room, room_by, room_for, Press, accepted, pressed_on, pressed, register_rule, replied}

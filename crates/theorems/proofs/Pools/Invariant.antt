@@ -13,8 +13,8 @@ use Rattle.arithmetic.specs.Outcome.{value, refuse◌unless◌then◌}
 use Rattle.arithmetic.specs.Note.{is_note}
 use Rattle.arithmetic.specs.Pitch.{is_pitch, detuning_of}
 use Rattle.arithmetic.specs.Nearest.{nearest_note}
-use Rattle.pools.specs.declared.block.PoolGroupBy.{PoolGroupBy}
-use Rattle.pools.specs.declared.block.PoolingMode.{PoolingMode}
+use Rattle.pools.specs.declared.jit.PoolGroupBy.{PoolGroupBy}
+use Rattle.pools.specs.declared.jit.PoolingMode.{PoolingMode}
 use Rattle.channels.specs.Lists.{upward}
 use Rattle.channels.specs.ChannelList.{list_rule, present}
 use Rattle.channels.specs.Places.{Place, is_held}

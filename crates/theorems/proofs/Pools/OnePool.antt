@@ -11,7 +11,7 @@ use lib.ListN.{length, get_or, set, drop, length-set, length-append}
 use lib.Seq.{get_or-set_same, get_or-set_other}
 use lib.Dec.{leb}
 use borrow.Author.Tests.{leb-true, leb-false}
-use Rattle.pools.specs.declared.block.PoolGroupBy.{PoolGroupBy}
+use Rattle.pools.specs.declared.jit.PoolGroupBy.{PoolGroupBy}
 use Rattle.channels.specs.Lists.{upward, first}
 use Rattle.channels.specs.Places.{Place}
 use Rattle.pools.specs.Pool.{key_count, Pool, State, empty_pool, pool_count, pool_of, pool, found, behind}

@@ -14,8 +14,8 @@ use Rattle.arithmetic.specs.Nearest.{nearest_note}
 use Rattle.channels.specs.Places.{Place, is_held}
 use Rattle.pools.specs.Pool.{State, Press, accepted, found, pressed, unless_held, register_rule, tuning, repitch_rule}
 use Rattle.theorems.specs.PoolCalls.{Call}
-use Rattle.pools.specs.declared.block.PoolGroupBy.{PoolGroupBy}
-use Rattle.pools.specs.declared.block.PoolingMode.{PoolingMode}
+use Rattle.pools.specs.declared.jit.PoolGroupBy.{PoolGroupBy}
+use Rattle.pools.specs.declared.jit.PoolingMode.{PoolingMode}
 use Rattle.theorems.proofs.Pools.Invariant.{model}
 use Rattle.theorems.proofs.Pools.Answers.{accepted_channel}
 use Rattle.pools.proofs.Pools.{value_by}

@@ -13,8 +13,8 @@ use Rattle.arithmetic.specs.Note.{is_note}
 use Rattle.arithmetic.specs.Pitch.{is_pitch, detuning_of}
 use Rattle.arithmetic.specs.Nearest.{nearest_note}
 use Rattle.arithmetic.proofs.Outcomes.{no_value, refuses_once, refuses_twice}
-use Rattle.pools.specs.declared.block.PoolGroupBy.{PoolGroupBy}
-use Rattle.pools.specs.declared.block.PoolingMode.{PoolingMode}
+use Rattle.pools.specs.declared.jit.PoolGroupBy.{PoolGroupBy}
+use Rattle.pools.specs.declared.jit.PoolingMode.{PoolingMode}
 use Rattle.channels.specs.ChannelList.{present}
 use Rattle.channels.specs.Places.{is_held}
 use Rattle.pools.specs.Pool.{State, found, fresh, open_rule, pressed, unless_held, register_rule, replied, tuning, repitch_rule}

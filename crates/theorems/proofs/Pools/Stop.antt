@@ -6,8 +6,8 @@ use mathlib.Core.Option.{Option, some, none}
 use native.Mathlib.Omega.{arith}
 use native.Mathlib.Nat.{sub-zero}
 use lib.ListN.{length, get_or}
-use Rattle.pools.specs.declared.block.PoolGroupBy.{PoolGroupBy}
-use Rattle.pools.specs.declared.block.PoolingMode.{PoolingMode}
+use Rattle.pools.specs.declared.jit.PoolGroupBy.{PoolGroupBy}
+use Rattle.pools.specs.declared.jit.PoolingMode.{PoolingMode}
 use Rattle.channels.specs.Places.{Place}
 use Rattle.pools.specs.Pool.{Pool, State, Held, empty_pool, pool_count, found, with_pool, with_key, freed, forgotten, released, released_all, held_from, held_keys, stopped}
 use Rattle.theorems.specs.PoolCalls.{Call, times, keys_on, standing, stop, after}

@@ -16,8 +16,8 @@ use Rattle.channels.specs.Places.{Place}
 use Rattle.pools.specs.Pool.{key_count, State, Press, accepted, found, register_rule, replied}
 use Rattle.theorems.specs.PoolCalls as recital
 use Rattle.channels.specs.declared.tuning_value.TuningKind.{TuningKind}
-use Rattle.pools.specs.declared.block.PoolingMode.{PoolingMode}
-use Rattle.pools.specs.declared.block.PoolGroupBy.TheVariants.{Channel}
+use Rattle.pools.specs.declared.jit.PoolingMode.{PoolingMode}
+use Rattle.pools.specs.declared.jit.PoolGroupBy.TheVariants.{Channel}
 use Rattle.theorems.specs.PoolInvariant.{Ok}
 use Rattle.theorems.proofs.Pools.Invariant.{model, model_ok}
 use Rattle.theorems.proofs.Pools.Presses.{press_channel}

@@ -20,8 +20,8 @@ use Rattle.pools.specs.Pool.{State, Press, rejected, fresh, found, register_rule
 use Rattle.channels.specs.TuningValue.{sent_as, tuning_rule}
 use Rattle.channels.specs.declared.tuning_value.Tuning.{Tuning}
 use Rattle.channels.specs.declared.tuning_value.TuningKind.{TuningKind}
-use Rattle.pools.specs.declared.block.PoolingMode.{PoolingMode}
-use Rattle.pools.specs.declared.block.PoolGroupBy.TheVariants.{Channel as PoolGroup}
+use Rattle.pools.specs.declared.jit.PoolingMode.{PoolingMode}
+use Rattle.pools.specs.declared.jit.PoolGroupBy.TheVariants.{Channel as PoolGroup}
 use Rattle.theorems.proofs.Pools.Presses.{repitch_unknown}
 use Rattle.theorems.proofs.Pools.Refusals.{open_refused, register_refused, repitch_refused}
 use Rattle.senders.specs.Lent.{Effect, sent, fitted, told, Moved, left, Steps}

@@ -2,7 +2,7 @@
 use mathlib.Core.Path.{refl, sym, ap, ◌∙◌}
 use Rattle.channels.specs.ChannelList.{entries, channels_answer}
 use Rattle.pools.specs.Pool.{State, open_rule, fresh}
-use Rattle.pools.specs.declared.block.PoolGroupBy.TheVariants.{Channel}
+use Rattle.pools.specs.declared.jit.PoolGroupBy.TheVariants.{Channel}
 use Rattle.channels.specs.declared.tuning_value.TuningKind.{TuningKind}
 use Rattle.pools.specs.Block.{kind_at}
 use Rattle.senders.proofs.block.start.Goals as goal
