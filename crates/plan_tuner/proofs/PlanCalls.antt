@@ -26,7 +26,7 @@ use Rattle.channels.specs.declared.tuning_value.TuningKind.{TuningKind}
 use Rattle.channels.specs.Places.{place}
 use Rattle.plans.specs.PlanInternal.{Fine}
 use Rattle.plans.specs.PlanLists.{key_count, note_lists, pitch_lists}
-use Rattle.plans.specs.declared.block.GroupBy.{GroupBy}
+use Rattle.plans.specs.declared.aot.GroupBy.{GroupBy}
 use Rattle.channels.specs.declared.keys.AccessKeyResult.{AccessKeyResult}
 use Rattle.channels.specs.declared.keys.AccessKeyResult.TheVariants.{Found, NotFound}
 use Rattle.plans.proofs.Accepted.{notes_accepted, pitches_accepted}

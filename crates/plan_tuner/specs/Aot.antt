@@ -17,8 +17,8 @@ use Rattle.plans.specs.Plan.{Model, plan_at, open_rule, set_tuning, set_tuning_o
 use Rattle.plans.specs.Plan as M
 use Rattle.channels.specs.TuningValue.{sent_as}
 use Rattle.channels.specs.declared.tuning_value.TuningKind.{TuningKind}
-use Rattle.plans.specs.declared.block.GroupBy.{GroupBy}
-use Rattle.plans.specs.declared.block.GroupBy.TheVariants.{Channel}
+use Rattle.plans.specs.declared.aot.GroupBy.{GroupBy}
+use Rattle.plans.specs.declared.aot.GroupBy.TheVariants.{Channel}
 use Rattle.senders.specs.Message.{Message}
 use Rattle.senders.specs.Midi.{bytes_of}
 use Rattle.senders.specs.Lent.{Effect, Answer, sent}

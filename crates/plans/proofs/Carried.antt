@@ -12,7 +12,7 @@ use lib.Ieee.{Float, le}
 use native.Mathlib.Nat.{le_of_eq}
 use lib.Ieee.Positive.{positive, le_trans_positive, cross→le}
 use lib.ListN.{length}
-use Rattle.plans.specs.declared.block.GroupBy.{GroupBy}
+use Rattle.plans.specs.declared.aot.GroupBy.{GroupBy}
 use Rattle.channels.specs.Lists.{Each, keep, member}
 use Rattle.plans.specs.Line.{Line, of_group, joins, rising}
 use Rattle.plans.specs.PlanLists.{keys}

@@ -15,7 +15,7 @@ use lib.Ieee.Fits.{and_l, and_r}
 use lib.Ieee.Positive.{positive, le_trans_positive, cross→le}
 use lib.ListN.{length, get_or}
 use Rattle.arithmetic.specs.Note.{is_note}
-use Rattle.plans.specs.declared.block.GroupBy.{GroupBy}
+use Rattle.plans.specs.declared.aot.GroupBy.{GroupBy}
 use Rattle.channels.specs.Lists.{Each, keep, member}
 use Rattle.plans.specs.Line.{Line, group, same, of_group, rising}
 use Rattle.plans.specs.PlanLists.{key_count, keys}

@@ -10,7 +10,7 @@ use lib.IntN.{ℤ}
 use lib.Ieee.{Float}
 use lib.ListN.{length}
 use Rattle.arithmetic.specs.Outcome.{value}
-use Rattle.plans.specs.declared.block.GroupBy.{GroupBy}
+use Rattle.plans.specs.declared.aot.GroupBy.{GroupBy}
 use Rattle.plans.specs.Line.{Line, group, same}
 use Rattle.plans.specs.Walk.{count}
 use Rattle.plans.specs.Plan.{KeyRecord, Model, tuned, untuned, empty, holding, planned, is_in, records_of, key_in, counts, highest}

@@ -16,8 +16,8 @@ use Rattle.arithmetic.specs.Note.{is_note, lowest_note, letter_of}
 use Rattle.arithmetic.proofs.Integers.{plus, less, add_parts, same as same_parts}
 use Rattle.plans.proofs.Slots.{group_note}
 use Rattle.arithmetic.proofs.Notes.{bounds, letter_below}
-use Rattle.plans.specs.declared.block.GroupBy.{GroupBy}
-use Rattle.plans.specs.declared.block.GroupBy.TheVariants.{Note, NoteLetter, Channel}
+use Rattle.plans.specs.declared.aot.GroupBy.{GroupBy}
+use Rattle.plans.specs.declared.aot.GroupBy.TheVariants.{Note, NoteLetter, Channel}
 use Rattle.channels.specs.Lists.{Each}
 use Rattle.plans.specs.Line.{group, same}
 use Rattle.plans.specs.Plan.{KeyRecord, is_in, counts, highest, larger, numbers_from, groups, first_entry}

@@ -12,7 +12,7 @@ use lib.Dec.{T, eqb, eqb→eq, eqb_refl}
 use lib.ListN.{length}
 use lib.Ieee.{Float}
 use Rattle.channels.specs.Lists.{Each, member}
-use Rattle.plans.specs.declared.block.GroupBy.{GroupBy}
+use Rattle.plans.specs.declared.aot.GroupBy.{GroupBy}
 use Rattle.plans.specs.Line.{Line, group, of_group, joins, rising}
 use Rattle.plans.specs.Walk.{latest, accepts, takes, next, here, later, channels, walk, count}
 use Rattle.channels.proofs.ListLaws.{outcome, passed, failed, T→true, true→T, not_false, at_member, own_image, Each-image, map_same, Each-map, Pairwise}

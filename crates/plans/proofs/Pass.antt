@@ -12,7 +12,7 @@ use lib.Ieee.{Float, nan}
 use lib.ListN.{length, get_or, drop, set, length-set}
 use lib.Seq.{get_or-set_same, get_or-set_other}
 use Rattle.arithmetic.specs.Note.{is_note}
-use Rattle.plans.specs.declared.block.GroupBy.{GroupBy}
+use Rattle.plans.specs.declared.aot.GroupBy.{GroupBy}
 use Rattle.channels.specs.Lists.{Each, member}
 use Rattle.plans.specs.Line.{Line, group, of_group, joins, rising}
 use Rattle.plans.specs.PlanLists.{key_count, keys}

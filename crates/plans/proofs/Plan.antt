@@ -11,7 +11,7 @@ use lib.IntN.{ℤ}
 use lib.Dec.{T, eqb, eqb_refl}
 use lib.ListN.{length, get_or}
 use Rattle.channels.specs.Lists.{Each, keep, member, once}
-use Rattle.plans.specs.declared.block.GroupBy.{GroupBy}
+use Rattle.plans.specs.declared.aot.GroupBy.{GroupBy}
 use Rattle.plans.specs.Line.{Line, of_group, joins, rising}
 use Rattle.plans.specs.Walk.{walk, count, channels}
 use Rattle.plans.specs.PlanInternal.{Accepted}

@@ -18,7 +18,7 @@ use Rattle.channels.specs.Keys.{key_count}
 use Rattle.channels.specs.Lists.{Each, upward}
 use Rattle.arithmetic.specs.Outcome.{value}
 use Rattle.channels.specs.ChannelList.{digits}
-use Rattle.plans.specs.declared.block.GroupBy.{GroupBy}
+use Rattle.plans.specs.declared.aot.GroupBy.{GroupBy}
 use Rattle.plans.specs.Line.{Line}
 use Rattle.channels.specs.Places.{note_of}
 use Rattle.channels.specs.TuningValue.{kind_of}

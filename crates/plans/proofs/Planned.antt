@@ -11,7 +11,7 @@ use lib.Ieee.Positive.{positive}
 use lib.ListN.{length, get_or}
 use Rattle.arithmetic.specs.Outcome.{Outcome, value}
 use Rattle.arithmetic.specs.Note.{is_note}
-use Rattle.plans.specs.declared.block.GroupBy.{GroupBy}
+use Rattle.plans.specs.declared.aot.GroupBy.{GroupBy}
 use Rattle.channels.specs.Lists.{Each, Distinct, member}
 use Rattle.plans.specs.Line.{Line, rising}
 use Rattle.plans.specs.PlanLists.{key_count, keys}

@@ -15,7 +15,7 @@ use lib.ListN.{length, get_or, drop, drop_of_length-le}
 use lib.Seq.{drop-cons}
 use Rattle.channels.specs.Keys.{key_count}
 use Rattle.channels.specs.Lists.{Each}
-use Rattle.plans.specs.declared.block.GroupBy.{GroupBy}
+use Rattle.plans.specs.declared.aot.GroupBy.{GroupBy}
 use Rattle.plans.specs.Line.{group, same}
 use Rattle.plans.specs.Plan.{KeyRecord, nobody, is_in, record_of, records_of, key_in, counts, highest, larger, access_answer}
 use Rattle.channels.specs.Places.{Place, note_of, channel_of, place_of, place}

@@ -9,8 +9,8 @@ use mir.Val.{SFits}
 use Rattle.arithmetic.specs.Note.{is_note, letter_of}
 use Rattle.arithmetic.proofs.Integers.{plus, less, same, sub_parts_ℤ, fits_by}
 use Rattle.arithmetic.proofs.Notes.{bounds, within, letter_below}
-use Rattle.plans.specs.declared.block.GroupBy.{GroupBy}
-use Rattle.plans.specs.declared.block.GroupBy.TheVariants.{Note, NoteLetter, Channel}
+use Rattle.plans.specs.declared.aot.GroupBy.{GroupBy}
+use Rattle.plans.specs.declared.aot.GroupBy.TheVariants.{Note, NoteLetter, Channel}
 use Rattle.plans.specs.Line.{group}
 use Rattle.plans.specs.PlanInternal.{slot_of}
 

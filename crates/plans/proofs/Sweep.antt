@@ -13,7 +13,7 @@ use lib.Dec.{T, eqb, eqb→eq, eqb_refl, eqb-suc-zero, eqb-zero-suc, eqb-suc-suc
 use lib.ListN.{length, get_or}
 use lib.Ieee.{Float}
 use Rattle.channels.specs.Lists.{Each, keep, member}
-use Rattle.plans.specs.declared.block.GroupBy.{GroupBy}
+use Rattle.plans.specs.declared.aot.GroupBy.{GroupBy}
 use Rattle.plans.specs.Line.{Line, group, same, of_group, joins}
 use Rattle.plans.specs.Walk.{latest, accepts, takes, next, here, later, channels}
 use Rattle.plans.specs.Placing.{Joined}

@@ -4,8 +4,8 @@ use Rattle.std.specs.Float.{binary64}
 use Rattle.std.specs.Float.Ieee.{div, le}
 use Rattle.arithmetic.specs.Note.{letter_of}
 use Rattle.arithmetic.specs.Pitch.{negligible}
-use Rattle.plans.specs.declared.block.GroupBy.{GroupBy}
-use Rattle.plans.specs.declared.block.GroupBy.TheVariants.{Note, NoteLetter, Channel}
+use Rattle.plans.specs.declared.aot.GroupBy.{GroupBy}
+use Rattle.plans.specs.declared.aot.GroupBy.TheVariants.{Note, NoteLetter, Channel}
 
 -- A key, its note, and its detuning: the pitch that it wants divided by the note's.
 pub record Line : Type 0 where

@@ -1,7 +1,7 @@
 -- The words of demand 3. They know nothing of the walk. Assumes nothing.
 use Rattle.std.specs.Prelude.{◌↔◌, Bool, not, ◌&&◌, List, [], ◌∷◌, map, ◌≡◌, ℕ, ◌≤◌, ℤ, T, eqb, length}
 use Rattle.std.proofs.Math.Option.{Option, some}
-use Rattle.plans.specs.declared.block.GroupBy.{GroupBy}
+use Rattle.plans.specs.declared.aot.GroupBy.{GroupBy}
 use Rattle.channels.specs.Lists.{Each, keep, once}
 use Rattle.plans.specs.Line.{Line, of_group, joins, rising}
 

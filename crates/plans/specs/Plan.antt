@@ -1,22 +1,23 @@
--- A model of planned tunings as its calls see it (document 01, "aot.rs"), and the rule of each call. Assumes nothing.
-use Rattle.std.specs.Prelude.{◌≡◌, Bool, true, false, cond, ◌&&◌, List, [], ◌∷◌, map, ℕ, zero, suc, ◌+◌, ◌/◌, ◌%◌, leb, ltb, eqb, ℤ, pos, ◌+ℤ◌, Float, length, get_or}
+-- A model of planned tunings as its calls see it, and the rule of each call. Assumes nothing.
+use Rattle.std.specs.Prelude.{◌≡◌, Bool, true, false, cond, ◌&&◌, List, [], ◌∷◌, map, ℕ, zero, suc, ◌+◌, ◌/◌, ◌%◌, leb, ltb, eqb, ℤ, pos, ◌+ℤ◌, Float, length, get_or, Result, Ok, Err, Some, None}
+use Rattle.std.specs.Prelude.{Option as Optional}
 use Rattle.std.proofs.Math.Option.{Option, none, some}
 use Rattle.std.specs.Int.Signed.{le_z}
 use Rattle.std.specs.Float.{nan}
 use Rattle.std.specs.Float.Ieee.{le}
 use Rattle.arithmetic.specs.Outcome.{Outcome, value}
 use Rattle.arithmetic.specs.Note.{is_note, lowest_note}
-use Rattle.plans.specs.declared.block.GroupBy.{GroupBy}
-use Rattle.plans.specs.declared.block.GroupBy.TheVariants.{Note, NoteLetter, Channel}
-use Rattle.channels.specs.declared.keys.AccessKeyResult as A
-use Rattle.plans.specs.declared.block.PlanAnswer as T
-use Rattle.plans.specs.declared.block.DetuningAnswer as D
-use Rattle.plans.specs.declared.block.NextAnswer as N
-use Rattle.channels.specs.Keys.{key_count}
-use Rattle.channels.specs.Lists.{upward}
-use Rattle.channels.specs.ChannelList.{list_rule, present}
+use Rattle.plans.specs.declared.aot.GroupBy.{GroupBy}
+use Rattle.plans.specs.declared.aot.GroupBy.TheVariants.{Note, NoteLetter, Channel}
+use Rattle.channels.specs.declared.keys.Place.{Place}
+use Rattle.arithmetic.specs.declared.refusal.Refusal.{Refusal}
+use Rattle.arithmetic.specs.Refusal.{number}
+use Rattle.plans.specs.declared.aot.AotTuningModel.{AotTuningModel}
+use Rattle.plans.specs.declared.aot.Planned.{Planned}
+use Rattle.plans.specs.declared.aot.Planned.TheVariants.{Tuned, Untuned}
+use Rattle.channels.specs.ChannelList.{list_rule, present, entries}
 use Rattle.channels.specs.Places.{note_of, channel_of}
-use Rattle.plans.specs.PlanBlock.{plan_settings, detuning_of, list_at, group_by_at, plan_kind_at}
+use Rattle.plans.specs.PlanBlock.{detuning_of, group_by_of}
 use Rattle.plans.specs.Line.{Line, group, same}
 use Rattle.plans.specs.Walk.{count, seat, entry}
 use Rattle.plans.specs.Placing.{Demand3}
@@ -147,13 +148,10 @@ unfoldable pub highest : GroupBy → ℕ → ℤ → List KeyRecord → Option F
 highest by c g [] = none
 highest by c g (r ∷ rs) = let h = highest by c g rs in cond (counts by c g r) (larger r.detuning h) h
 
--- ---- a block of numbers as a model
+-- ---- the model of what lies in memory
 
-unfoldable pub record_at : List ℕ → ℕ → KeyRecord
-record_at l key = record_of (get_or l key 0 % 65536) (detuning_of (get_or l (key_count + key) 0))
-
-unfoldable pub records_at : List ℕ → List KeyRecord
-records_at l = map (record_at l) (upward 0 key_count)
+unfoldable pub records_in : List ℕ → List Float → List KeyRecord
+records_in records detunings = records_of records (map detuning_of detunings)
 
 -- channels beyond the plan's have no entry
 unfoldable pub detuning_in : GroupBy → ℕ → List KeyRecord → ℕ → ℤ → Option Float
@@ -163,36 +161,28 @@ detuning_in by n rs c g = cond (ltb c n) (highest by c g rs) none
 abbrev pub model_with : List ℕ → GroupBy → Bool → ℕ → List KeyRecord → Model
 model_with cs by planned n rs = record { channels = cs; group_by = by; tuned = planned; num_channels = n; keys = key_in rs; detunings = detuning_in by n rs }
 
-abbrev pub plan_at : List ℕ → Model
-plan_at l = model_with (list_at l) (group_by_at l) (eqb (get_or l (plan_settings + 4) 0) 1) (get_or l (plan_settings + 3) 0 % 65536) (records_at l)
+unfoldable pub plan_of : AotTuningModel → Model
+plan_of m = model_with (entries m.channels) (group_by_of m.group_by) (eqb m.tuned 1) m.num_channels (records_in m.records m.detunings)
 
 -- ---- calls in place
 
--- a refusal leaves the block as it was
-abbrev pub KeptIfRefused : Answer → List ℕ → List ℕ → Type 0
+-- a refusal leaves the model as it was
+abbrev pub KeptIfRefused : Answer → AotTuningModel → AotTuningModel → Type 0
 KeptIfRefused (refused n) old new = new ≡ old
 KeptIfRefused (tuned n) old new = Unit {0}
 KeptIfRefused (untuned n) old new = Unit {0}
 
--- A tuning of a block follows the rule: its model and its answer, and the tuning kind that it had; the very same block where it is refused.
-abbrev pub Tunes : Model × Answer → List ℕ → List ℕ → Answer → Type 0
-Tunes rule old new answer = ((plan_at new, answer) ≡ rule) × (plan_kind_at new ≡ plan_kind_at old) × KeptIfRefused answer old new
+-- A tuning follows the rule: its model and its answer; the very same model where it is refused.
+abbrev pub Tunes : Model × Answer → AotTuningModel → AotTuningModel → Answer → Type 0
+Tunes rule old new answer = ((plan_of new, answer) ≡ rule) × KeptIfRefused answer old new
 
 -- ---- the code's answers in these words
 
-abbrev pub access_answer : A.AccessKeyResult → Option (ℕ × ℤ)
-access_answer (A.TheVariants.Found c n) = some (c, n)
-access_answer A.TheVariants.NotFound = none
+abbrev pub access_answer : Optional Place → Option (ℕ × ℤ)
+access_answer (Some p) = some (p.channel, p.note.number)
+access_answer None = none
 
-abbrev pub plan_answer : T.PlanAnswer → Answer
-plan_answer (T.TheVariants.Tuned n) = tuned n
-plan_answer (T.TheVariants.Untuned n) = untuned n
-plan_answer (T.TheVariants.Refused n) = refused n
-
-abbrev pub detuning_answer : D.DetuningAnswer → Option Float
-detuning_answer (D.TheVariants.Detuning d) = some d
-detuning_answer D.TheVariants.NoEntry = none
-
-abbrev pub next_answer : N.NextAnswer → Option (ℤ × Float)
-next_answer (N.TheVariants.Entry g d) = some (g, d)
-next_answer N.TheVariants.NoEntry = none
+abbrev pub plan_answer : Result Planned Refusal → Answer
+plan_answer (Ok (Tuned n)) = tuned n
+plan_answer (Ok (Untuned n)) = untuned n
+plan_answer (Err r) = refused (number r)

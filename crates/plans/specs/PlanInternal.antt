@@ -7,7 +7,7 @@ use Rattle.std.specs.Float.Ieee.{fits, le, lt}
 use Rattle.std.specs.Float.Ieee.Positive.{positive}
 use Rattle.arithmetic.specs.Outcome.{Outcome, value, refused}
 use Rattle.arithmetic.specs.Note.{is_note}
-use Rattle.plans.specs.declared.block.GroupBy.{GroupBy}
+use Rattle.plans.specs.declared.aot.GroupBy.{GroupBy}
 use Rattle.channels.specs.Lists.{Each, member, Distinct}
 use Rattle.plans.specs.Line.{Line, joins, rising, group}
 use Rattle.plans.specs.Walk.{count, seat}

@@ -2,7 +2,7 @@
 -- needs, where a key then is, and the detuning entries of each channel. Assumes nothing.
 use Rattle.std.specs.Prelude.{Bool, true, cond, List, [], ◌∷◌, ℕ, zero, suc, eqb, ℤ, length, Float}
 use Rattle.std.proofs.Math.Option.{Option, none, some}
-use Rattle.plans.specs.declared.block.GroupBy.{GroupBy}
+use Rattle.plans.specs.declared.aot.GroupBy.{GroupBy}
 use Rattle.plans.specs.Line.{Line, group, of_group, joins, rising}
 
 -- The detuning that the group g has on a channel: that of the key of the group that was taken last. `taken` has the last one first.

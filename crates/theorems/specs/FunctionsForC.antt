@@ -8,7 +8,7 @@ use Rattle.arithmetic.specs.Measure.{measure_rule}
 use Rattle.channels.specs.TuningValue.{tuning_rule}
 use Rattle.pools.specs.Pool as Pools
 use Rattle.plans.specs.Plan.{Model, open_rule, set_tuning, set_tuning_of_pitches}
-use Rattle.plans.specs.declared.block.GroupBy.{GroupBy}
+use Rattle.plans.specs.declared.aot.GroupBy.{GroupBy}
 use Rattle.pools.specs.declared.jit.PoolGroupBy.{PoolGroupBy}
 use Rattle.pools.specs.declared.jit.PoolingMode.{PoolingMode}
 use Rattle.channels.specs.declared.tuning_value.TuningKind.{TuningKind}

@@ -1,7 +1,7 @@
 -- A plan key by key, by the model's own lookup. Assumes nothing.
 use Rattle.std.specs.Prelude.{◌≡◌, Bool, false, ◌&&◌, List, [], ◌∷◌, ◌++◌, ℕ, ◌<◌, eqb, ℤ, Float}
 use Rattle.std.proofs.Math.Option.{Option, some, none}
-use Rattle.plans.specs.declared.block.GroupBy.{GroupBy}
+use Rattle.plans.specs.declared.aot.GroupBy.{GroupBy}
 use Rattle.channels.specs.Lists.{keep}
 use Rattle.plans.specs.Line.{Line, group, of_group, rising}
 use Rattle.plans.specs.Placing.{Joined}

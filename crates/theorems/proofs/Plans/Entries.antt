@@ -14,8 +14,8 @@ use lib.Ieee.{Float}
 use lib.Ieee.Positive.{positive}
 use lib.ListN.{length}
 use Rattle.arithmetic.specs.Outcome.{value}
-use Rattle.plans.specs.declared.block.GroupBy.{GroupBy}
-use Rattle.plans.specs.declared.block.GroupBy.TheVariants.{Channel}
+use Rattle.plans.specs.declared.aot.GroupBy.{GroupBy}
+use Rattle.plans.specs.declared.aot.GroupBy.TheVariants.{Channel}
 use Rattle.channels.specs.Lists.{Each, keep, member}
 use Rattle.plans.specs.Line.{Line, group, of_group, rising}
 use Rattle.plans.specs.PlanLists.{keys}

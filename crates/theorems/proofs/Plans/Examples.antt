@@ -7,7 +7,7 @@ use Prim.Native.Nat.{ℕ}
 use lib.IntN.{pos}
 use lib.Ieee.{Float, binary64, round, div, le, lt}
 use Rattle.arithmetic.specs.Pitch.{negligible, negligible_from, negligible_below}
-use Rattle.plans.specs.declared.block.GroupBy.TheVariants.{Channel}
+use Rattle.plans.specs.declared.aot.GroupBy.TheVariants.{Channel}
 use Rattle.plans.specs.Line.{group, of_group, insert, rising, joins}
 use Rattle.plans.specs.Walk.{latest, accepts, takes, next, here, later, channels, walk, count, note_of, seat_from, seat, replaced, entry_from, entry}
 use Rattle.plans.specs.PlanLists.{is_planned, note_line, note_lines, line_by_line, note_lists}

@@ -10,7 +10,7 @@ use lib.Dec.{leb, eqb, eqb_refl}
 use lib.IntN.{ℤ}
 use lib.Ieee.{Float}
 use lib.ListN.{length, get_or}
-use Rattle.plans.specs.declared.block.GroupBy.{GroupBy}
+use Rattle.plans.specs.declared.aot.GroupBy.{GroupBy}
 use Rattle.channels.specs.Lists.{Each, keep}
 use Rattle.plans.specs.Line.{Line, of_group, rising, group}
 use Rattle.plans.specs.Walk.{walk, count, replaced, entry_from, entry, seat}

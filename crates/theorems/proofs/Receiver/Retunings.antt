@@ -23,8 +23,8 @@ use Rattle.plans.specs.PlanInternal.{Accepted}
 use Rattle.plans.specs.PlanLists.{pitch_lists}
 use Rattle.channels.specs.TuningValue.{sent_as}
 use Rattle.theorems.specs.Bounds.{value_of, StepBound}
-use Rattle.plans.specs.declared.block.GroupBy.{GroupBy}
-use Rattle.plans.specs.declared.block.GroupBy.TheVariants.{Channel}
+use Rattle.plans.specs.declared.aot.GroupBy.{GroupBy}
+use Rattle.plans.specs.declared.aot.GroupBy.TheVariants.{Channel}
 use Rattle.channels.specs.declared.tuning_value.TuningKind.{TuningKind}
 use Rattle.plans.proofs.Accepted.{notes_accepted, pitches_accepted}
 use Rattle.channels.proofs.ChannelLists.{Channels}

@@ -3,7 +3,7 @@ use mathlib.Core.Path.{refl, sym, ap, ◌∙◌}
 use Rattle.channels.specs.ChannelList.{entries, channels_answer}
 use Rattle.plans.specs.Plan.{Model, open_rule, empty}
 use Rattle.plans.specs.PlanBlock.{plan_kind_at}
-use Rattle.plans.specs.declared.block.GroupBy.TheVariants.{Channel}
+use Rattle.plans.specs.declared.aot.GroupBy.TheVariants.{Channel}
 use Rattle.channels.specs.declared.tuning_value.TuningKind.{TuningKind}
 use Rattle.plan_tuner.proofs.block.start.Goals as goal
 

@@ -1,0 +1,151 @@
+// Plans ("ahead of time"): every key gets a channel and a note before anyone plays.
+
+ghost use Rattle.std.specs.Prelude.{◌≡◌};
+ghost use Rattle.arithmetic.specs.Answers.{optional, outcome_by};
+ghost use Rattle.channels.specs.ChannelList.{entries};
+ghost use Rattle.plans.specs.PlanBlock.{group_by_of};
+ghost use Rattle.plans.specs.Plan.{Smallest, Tunes, access_answer, empty, next_rule, open_rule, plan_answer, plan_of, planned};
+
+use crate::lists::TuningLists;
+use arithmetic::refusal::Refusal;
+use channels::keys::{KEYS, Place};
+use channels::list::ChannelList;
+
+// What a sound module retunes together: one note, one note letter, or a whole channel.
+#[derive(Clone, Copy, Debug, PartialEq, Eq)]
+pub enum GroupBy {
+    Note = 0,
+    NoteLetter = 1,
+    Channel = 2,
+}
+
+// A number that names none is read as 0.
+impl From<u16> for GroupBy {
+    ghost from_gives = { λ number group. group ≡ group_by_of number };
+
+    fn from(number: u16) -> GroupBy {
+        match number {
+            1 => GroupBy::NoteLetter,
+            2 => GroupBy::Channel,
+            _ => GroupBy::Note,
+        }
+    }
+}
+
+// What a tuning that is not refused comes to.
+#[derive(Clone, Copy, Debug, PartialEq, Eq)]
+pub enum Planned {
+    // How many channels the plan uses.
+    Tuned(u16),
+    // How many it would need; there are fewer.
+    Untuned(u16),
+}
+
+// A model of tunings that are planned. Every content is some model (`specs/PlanBlock.antt`), since it lies in the memory of programs in C.
+#[repr(C)]
+#[derive(Clone, Copy)]
+pub struct AotTuningModel {
+    // By key, where it is in the plan, and its detuning.
+    records: [u16; KEYS],
+    detunings: [f64; KEYS],
+    channels: ChannelList,
+    group_by: u16,
+    num_channels: u16,
+    tuned: u16,
+}
+
+impl AotTuningModel {
+    // A model with no keys, for the channels listed.
+    pub fn new(channels: ChannelList, group_by: GroupBy) -> AotTuningModel
+        ensures { plan_of result ≡ empty (entries channels) group_by }
+    {
+        AotTuningModel {
+            records: [0; KEYS],
+            detunings: [0.0; KEYS],
+            channels,
+            group_by: group_by as u16,
+            num_channels: channels.len() as u16,
+            tuned: 0,
+        }
+    }
+
+    // A model with no keys, for the channels of a list. Refuses, entry by entry, 6 a channel over 15 and 7 one that came before; the model has no channels then.
+    // Example: AotTuningModel::open([0, 1], Channel) is channels listed 2
+    pub fn open(
+        channels: &[u8],
+        group_by: GroupBy,
+    ) -> (AotTuningModel, Result<ChannelList, Refusal>)
+        ensures { (plan_of result.0, outcome_by entries result.1) ≡ open_rule channels.now group_by }
+    {
+        let answer = ChannelList::of(channels);
+        let list = answer.unwrap_or(ChannelList::none());
+        (AotTuningModel::new(list, group_by), answer)
+    }
+
+    // Plans the keys of lists: of notes and detunings, or of pitches, where each key has the nearest note. Refuses 12, then line by line 4, 3, 5 of notes and 1, 5 of
+    // pitches. A plan that needs more channels than there are leaves none.
+    // Example: open([0, 1], Channel); set_tuning([1, 2], [69, 69], [1, 33/32]) is tuned, channels used 2
+    // Example: open([0, 1], Channel); set_tuning([1, 2, 3], [69, 69, 69], [1, 33/32, 31/32]) is untuned, channels needed 3
+    // Example: open([0, 1], Channel); set_tuning([1, 1], [69, 69], [1, 1]) is refused (5)
+    // Example: open([0, 1], Channel); set_tuning_of_pitches([1, 2, 3], [440, 445, 880]) is tuned, channels used 2
+    pub fn set_tuning<L: TuningLists>(&mut self, lists: &L) -> Result<Planned, Refusal>
+        ensures tunes { Tunes (planned (plan_of self.old) (L.lines lists.now)) self.old self.new (plan_answer result) }
+        ensures smallest { Smallest (plan_of self.old) (L.lines lists.now) (plan_of self.new, plan_answer result) }
+    {
+        unreachable!()
+    }
+
+    // A lookup: the channel and the note of a key of the plan.
+    // Example: open([0, 1], Channel); set_tuning([1, 2], [69, 69], [1, 33/32]); access_key(2) is channel 1, note 69
+    // Example: open([0, 1], Channel); set_tuning([1, 2], [69, 69], [1, 33/32]); access_key(3) is not found
+    pub fn access_key(&self, key: u8) -> Option<Place>
+        ensures { access_answer result ≡ (plan_of self.now).keys key }
+    {
+        unreachable!()
+    }
+
+    // How many channels the plan uses, and without a plan how many there are.
+    pub fn num_channels(&self) -> u16
+        ensures { result ≡ (plan_of self.now).num_channels }
+    {
+        self.num_channels
+    }
+
+    // Whether there is a plan.
+    pub fn tuned(&self) -> bool
+        ensures { result ≡ (plan_of self.now).tuned }
+    {
+        self.tuned == 1
+    }
+
+    // The channel list that the model was opened with.
+    pub fn channels(&self) -> ChannelList
+        ensures { entries result ≡ (plan_of self.now).channels }
+    {
+        self.channels
+    }
+
+    // What the plan retunes together.
+    pub fn group_by(&self) -> GroupBy
+        ensures { result ≡ (plan_of self.now).group_by }
+    {
+        GroupBy::from(self.group_by)
+    }
+
+    // The detuning of a group on a channel of the plan, carried over from the channels before where it was not replaced. A note is its own group's number,
+    // a letter's is 0 to 11, a whole channel's 0.
+    // Example: open([0, 1], Channel); set_tuning([1, 2], [69, 69], [1, 33/32]); detuning(1, 0) is 1.03125
+    pub fn detuning(&self, channel: u16, group: i32) -> Option<f64>
+        ensures { optional result ≡ (plan_of self.now).detunings channel group }
+    {
+        unreachable!()
+    }
+
+    // The first of a channel's detunings whose group is `from` or higher, with its group: they are listed by rising group.
+    // Example: open([0, 1], Channel); set_tuning([1, 2], [69, 69], [1, 33/32]); next_detuning(1, -300) is group 0, detuning 1.03125
+    pub fn next_detuning(&self, channel: u16, from: i32) -> Option<(i32, f64)>
+        ensures { optional result ≡ next_rule (plan_of self.now) channel from }
+    {
+        unreachable!()
+    }
+}
