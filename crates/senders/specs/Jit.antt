@@ -4,11 +4,10 @@ use Rattle.std.specs.Prelude.{◌≡◌, List, [], ℕ, Float, length}
 use Rattle.std.proofs.Math.Option.{Option, some, none}
 use Rattle.channels.specs.Outcome.{Outcome, value, refused, refuse◌unless◌then◌}
 use Rattle.channels.specs.Refusal.{data_byte_over127}
-use Rattle.channels.specs.ChannelList.{channels_answer}
 use Rattle.channels.specs.Places.{Place}
 use Rattle.pools.specs.Pool.{State, Held, Press, accepted, rejected, found, released, register_rule, repitch_rule, open_rule, held_keys, stopped}
-use Rattle.pools.specs.Block.{state_of, kind_at}
-use Rattle.channels.specs.TuningValue.{sent_as}
+use Rattle.pools.specs.Block.{state_of}
+use Rattle.channels.specs.TuningValue.{sent_as, kind_of}
 use Rattle.channels.specs.declared.tuning_value.TuningKind.{TuningKind}
 use Rattle.pools.specs.declared.jit.PoolingMode.{PoolingMode}
 use Rattle.pools.specs.declared.jit.PoolGroupBy.TheVariants.{Channel}
@@ -20,19 +19,15 @@ use Rattle.senders.specs.Tuner.{press_messages, each, on_channel, key_messages, 
 use Rattle.senders.specs.declared.midi.ChannelMessageType.{ChannelMessageType}
 use Rattle.senders.specs.declared.tuner.NoteMessage.TheVariants.{Off, Pressure}
 use Rattle.senders.specs.declared.jit.JitTuner.{JitTuner}
-use Rattle.senders.specs.declared.jit.Opened.{Opened}
 
 -- the pool model, and how channels are tuned
 pub record Tuner : Type 0 where
   pub pool : State
   pub kind : TuningKind
 
--- the tuner of a block
-abbrev pub view : List ℕ → Tuner
-view l = record { pool = state_of l; kind = kind_at l }
-
-abbrev pub tuner : JitTuner → Tuner
-tuner t = view t.cells
+-- the tuner of what lies in memory
+abbrev pub view : JitTuner → Tuner
+view t = record { pool = state_of t.model; kind = kind_of t.kind }
 
 abbrev pub with_pool : Tuner → State → Tuner
 with_pool t s = record { pool = s; kind = t.kind }
@@ -42,13 +37,10 @@ with_pool t s = record { pool = s; kind = t.kind }
 abbrev pub start_rule : List ℕ → TuningKind → PoolingMode → Outcome (List ℕ) × Tuner
 start_rule channels kind mode = let o = open_rule channels Channel mode in (o.0, record { pool = o.1; kind = kind })
 
--- a block after a start in place: a refused list leaves it as it was
-abbrev pub Starts : Outcome (List ℕ) → Tuner → List ℕ → List ℕ → Type 0
+-- a tuner after a start in place: a refused list leaves it as it was
+abbrev pub Starts : Outcome (List ℕ) → Tuner → JitTuner → JitTuner → Type 0
 Starts (value cs) t old new = view new ≡ t
 Starts (refused n) t old new = new ≡ old
-
-abbrev pub opened : Opened → Outcome (List ℕ) × Tuner
-opened o = (channels_answer o.answer, tuner o.tuner)
 
 -- ---- "Presses from a pool: 8, 1, 11, 10; a rejected press needs no bytes and so never meets 10"
 

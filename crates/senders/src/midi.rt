@@ -3,11 +3,11 @@
 ghost use Rattle.std.specs.Prelude.{◌≡◌, true, [], ◌∷◌, ◌+◌, ◌/◌, ◌%◌, ◌≤◌, ◌<◌, length};
 ghost use Rattle.channels.specs.Outcome.{value};
 ghost use Rattle.senders.specs.Lent.{Put, Answers};
-ghost use Rattle.senders.specs.Answers.{sent_answer, check_answer};
+ghost use Rattle.arithmetic.specs.Answers.{outcome};
 ghost use Rattle.senders.specs.Message.{Valid, is_bend};
 ghost use Rattle.senders.specs.Midi.{status, bend_low, bend_high, bytes, meant, checked, message_rule};
 
-use channels::refusal::{BEND_OUT_OF_RANGE, BUFFER_TOO_SHORT, CHANNEL_OVER_15, DATA_BYTE_OVER_127};
+use channels::Refusal;
 
 // The kinds: the high four bits of a status byte.
 const NOTE_OFF: u8 = 0x8;
@@ -38,13 +38,6 @@ const RECORD_LEN: usize = 3;
 // The third byte of a message that has one data byte.
 const PADDING: u8 = 0;
 
-// What a call that writes to a lent buffer answers: how many bytes it wrote at the buffer's start, or a refusal.
-#[derive(Clone, Copy)]
-pub enum Sent {
-    Written(usize),
-    Refused(u8),
-}
-
 // The channel-agnostic part of a channel message.
 #[derive(Clone, Copy)]
 pub enum ChannelMessageType {
@@ -59,38 +52,26 @@ pub enum ChannelMessageType {
 }
 
 impl ChannelMessageType {
-    // Writes the message on a channel to the buffer's start. Refuses 6, 8 from left, 9, 10.
+    // Writes the message on a channel to the buffer's start, and answers how many bytes that were. Refuses 6, 8 from left, 9, 10.
     // Example: NoteOn(69, 100).to_raw_message(0, 3 bytes) is 90 45 64
     // Example: NoteOn(69, 100).to_raw_message(0, 2 bytes) is refused (10)
-    pub fn to_raw_message(self, channel: u8, out: &mut [u8]) -> Sent
-        ensures { Answers (message_rule channel self) out.old (sent_answer result) out.new }
+    pub fn to_raw_message(self, channel: u8, out: &mut [u8]) -> Result<usize, Refusal>
+        ensures { Answers (message_rule channel self) out.old (outcome result) out.new }
     {
         if HIGHEST_CHANNEL < channel {
-            return Sent::Refused(CHANNEL_OVER_15);
+            return Err(Refusal::ChannelOver15);
         }
-        match check_message(self) {
-            Check::Passed => {
-                if out.len() < message_len(self) {
-                    return Sent::Refused(BUFFER_TOO_SHORT);
-                }
-                let end = put_message(out, 0, channel, self);
-                Sent::Written(end)
-            }
-            Check::Refused(number) => Sent::Refused(number),
+        check_message(self)?;
+        if out.len() < message_len(self) {
+            return Err(Refusal::BufferTooShort);
         }
+        Ok(put_message(out, 0, channel, self))
     }
 }
 
-// Whether a message passes the tests of its data.
-#[derive(Clone, Copy)]
-pub(crate) enum Check {
-    Passed,
-    Refused(u8),
-}
-
 // The tests of a message's data: 8 from left, 9. Where there is one data byte, the padding passes for the second.
-pub(crate) fn check_message(message: ChannelMessageType) -> Check
-    ensures { check_answer result ≡ checked message (value tt) }
+pub(crate) fn check_message(message: ChannelMessageType) -> Result<(), Refusal>
+    ensures { outcome result ≡ checked message (value tt) }
 {
     match message {
         ChannelMessageType::NoteOff { key, velocity } => check_data(key, velocity),
@@ -103,28 +84,22 @@ pub(crate) fn check_message(message: ChannelMessageType) -> Check
     }
 }
 
-fn check_data(first: u8, second: u8) -> Check
-    ensures { check_answer result ≡ checked (ChannelMessageType.ControlChange first second) (value tt) }
+fn check_data(first: u8, second: u8) -> Result<(), Refusal>
+    ensures { outcome result ≡ checked (ChannelMessageType.ControlChange first second) (value tt) }
 {
-    if HIGHEST_DATA_BYTE < first {
-        return Check::Refused(DATA_BYTE_OVER_127);
+    if HIGHEST_DATA_BYTE < first || HIGHEST_DATA_BYTE < second {
+        return Err(Refusal::DataByteOver127);
     }
-    if HIGHEST_DATA_BYTE < second {
-        return Check::Refused(DATA_BYTE_OVER_127);
-    }
-    Check::Passed
+    Ok(())
 }
 
-fn check_bend(bend: i16) -> Check
-    ensures { check_answer result ≡ checked (ChannelMessageType.PitchBendChange bend) (value tt) }
+fn check_bend(bend: i16) -> Result<(), Refusal>
+    ensures { outcome result ≡ checked (ChannelMessageType.PitchBendChange bend) (value tt) }
 {
-    if bend < LOWEST_BEND {
-        return Check::Refused(BEND_OUT_OF_RANGE);
+    if bend < LOWEST_BEND || HIGHEST_BEND < bend {
+        return Err(Refusal::BendOutOfRange);
     }
-    if HIGHEST_BEND < bend {
-        return Check::Refused(BEND_OUT_OF_RANGE);
-    }
-    Check::Passed
+    Ok(())
 }
 
 // How many bytes a message takes, on any channel: callers add these up and assume no length.

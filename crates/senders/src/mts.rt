@@ -2,16 +2,15 @@
 
 ghost use Rattle.std.specs.Prelude.{◌≡◌, ◌+◌, ◌≤◌, ◌<◌, length};
 ghost use Rattle.senders.specs.Lent.{Put, Answers, sent};
-ghost use Rattle.senders.specs.Answers.{sent_answer};
+ghost use Rattle.arithmetic.specs.Answers.{outcome};
 ghost use Rattle.senders.specs.Midi.{bytes_of};
 ghost use Rattle.channels.specs.TuningValue.{InSteps};
 ghost use Rattle.channels.specs.declared.tuning_value.TuningKind.{TuningKind};
 ghost use Rattle.senders.specs.Mts.{tuning_messages, tuning_size, channel_tuning_rule};
 
-use crate::midi::{ChannelMessageType, HIGHEST_CHANNEL, Sent, message_len, put_message};
-use channels::Ratio;
-use channels::refusal::{BUFFER_TOO_SHORT, CHANNEL_OVER_15};
-use channels::tuning_value::{Tuning, TuningAnswer, TuningKind, tuning_of};
+use crate::midi::{ChannelMessageType, HIGHEST_CHANNEL, message_len, put_message};
+use channels::tuning_value::{Tuning, TuningKind, tuning_of};
+use channels::{Ratio, Refusal};
 
 // The controllers that choose a registered parameter and set its value.
 const RPN_MSB: u8 = 0x65;
@@ -29,31 +28,34 @@ const CHANNEL_FINE_TUNING_LSB: u8 = 0x01;
 
 // Writes the fine tuning of a channel by a detuning to the buffer's start. Refuses 6, 2, 10.
 // Example: channel_fine_tuning(0, 33/32, 12 bytes) is b0 65 00 b0 64 01 b0 06 62 b0 26 0c
-pub fn channel_fine_tuning(channel: u8, detuning: Ratio, out: &mut [u8]) -> Sent
-    ensures { Answers (channel_tuning_rule TuningKind.FineTuning channel detuning.float_value) out.old (sent_answer result) out.new }
+pub fn channel_fine_tuning(channel: u8, detuning: Ratio, out: &mut [u8]) -> Result<usize, Refusal>
+    ensures { Answers (channel_tuning_rule TuningKind.FineTuning channel detuning.float_value) out.old (outcome result) out.new }
 {
     channel_tuning(TuningKind::FineTuning, channel, detuning, out)
 }
 
 // Writes the bend of a channel by a detuning to the buffer's start. Refuses 6, 2, 10.
 // Example: channel_pitch_bend(0, 33/32, 3 bytes) is e0 06 51
-pub fn channel_pitch_bend(channel: u8, detuning: Ratio, out: &mut [u8]) -> Sent
-    ensures { Answers (channel_tuning_rule TuningKind.Bend channel detuning.float_value) out.old (sent_answer result) out.new }
+pub fn channel_pitch_bend(channel: u8, detuning: Ratio, out: &mut [u8]) -> Result<usize, Refusal>
+    ensures { Answers (channel_tuning_rule TuningKind.Bend channel detuning.float_value) out.old (outcome result) out.new }
 {
     channel_tuning(TuningKind::Bend, channel, detuning, out)
 }
 
 // Writes the tuning of a channel by a detuning, of either kind, to the buffer's start. Refuses 6, 2, 10.
-pub fn channel_tuning(kind: TuningKind, channel: u8, detuning: Ratio, out: &mut [u8]) -> Sent
-    ensures { Answers (channel_tuning_rule kind channel detuning.float_value) out.old (sent_answer result) out.new }
+pub fn channel_tuning(
+    kind: TuningKind,
+    channel: u8,
+    detuning: Ratio,
+    out: &mut [u8],
+) -> Result<usize, Refusal>
+    ensures { Answers (channel_tuning_rule kind channel detuning.float_value) out.old (outcome result) out.new }
 {
     if HIGHEST_CHANNEL < channel {
-        return Sent::Refused(CHANNEL_OVER_15);
+        return Err(Refusal::ChannelOver15);
     }
-    match tuning_of(kind, detuning) {
-        TuningAnswer::Value(tuning) => write_tuning(channel, tuning, out),
-        TuningAnswer::Refused(number) => Sent::Refused(number),
-    }
+    let tuning = tuning_of(kind, detuning)?;
+    write_tuning(channel, tuning, out)
 }
 
 // How many bytes a tuning of a kind takes, on any channel and by any detuning.
@@ -73,15 +75,14 @@ pub fn channel_tuning_len(kind: TuningKind) -> usize
 }
 
 // Writes the tuning of a channel to the buffer's start. Refuses 10.
-pub(crate) fn write_tuning(channel: u8, tuning: Tuning, out: &mut [u8]) -> Sent
+pub(crate) fn write_tuning(channel: u8, tuning: Tuning, out: &mut [u8]) -> Result<usize, Refusal>
     requires { (channel < 16) × InSteps tuning }
-    ensures { Answers (sent (bytes_of (tuning_messages channel tuning))) out.old (sent_answer result) out.new }
+    ensures { Answers (sent (bytes_of (tuning_messages channel tuning))) out.old (outcome result) out.new }
 {
     if out.len() < tuning_len(tuning) {
-        return Sent::Refused(BUFFER_TOO_SHORT);
+        return Err(Refusal::BufferTooShort);
     }
-    let end = put_tuning(out, 0, channel, tuning);
-    Sent::Written(end)
+    Ok(put_tuning(out, 0, channel, tuning))
 }
 
 // How many bytes a tuning takes, on any channel.

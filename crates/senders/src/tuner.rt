@@ -3,7 +3,7 @@
 ghost use Rattle.std.specs.Prelude.{◌≡◌, true, [], ◌∷◌, ◌+◌, ◌≤◌, ◌<◌, length};
 ghost use Rattle.std.specs.Float.Ieee.Positive.{positive};
 ghost use Rattle.senders.specs.Lent.{Put, Answers, sent};
-ghost use Rattle.senders.specs.Answers.{number_answer, sent_answer};
+ghost use Rattle.arithmetic.specs.Answers.{optional, outcome};
 ghost use Rattle.senders.specs.Message.{Valid};
 ghost use Rattle.senders.specs.Midi.{bytes_of, meant};
 ghost use Rattle.senders.specs.Mts.{tuning_messages};
@@ -13,19 +13,13 @@ ghost use Rattle.channels.specs.Places.{place};
 ghost use Rattle.pools.specs.PoolAnswers.{stopped_note};
 ghost use Rattle.senders.specs.Tuner.{number_of, note_type, note_messages, stop_messages, press_messages, each, on_channel, key_messages, is_kept, to_all, key_rule, to_all_rule};
 
-use crate::midi::{
-    ChannelMessageType, Check, HIGHEST_DATA_BYTE, Sent, check_message, message_len, put_message,
-};
+use crate::midi::{ChannelMessageType, HIGHEST_DATA_BYTE, check_message, message_len, put_message};
 use crate::mts::{put_tuning, tuning_len, write_tuning};
-use channels::Ratio;
-use channels::keys::AccessKeyResult;
-use channels::list::{ChannelList, EntryAnswer};
-use channels::refusal::{BUFFER_TOO_SHORT, DATA_BYTE_OVER_127};
-use channels::tuning_value::{Tuning, TuningAnswer, TuningKind, tuning_of};
-use pools::block::StoppedNote;
-
-// MIDI's note numbers go from 0.
-const HIGHEST_NOTE_NUMBER: i32 = 127;
+use arithmetic::note::midi_number;
+use channels::keys::Place;
+use channels::list::ChannelList;
+use channels::tuning_value::{Tuning, TuningKind, tuning_of};
+use channels::{Note, Ratio, Refusal};
 
 // The three messages of a note.
 #[derive(Clone, Copy)]
@@ -35,25 +29,18 @@ pub enum NoteMessage {
     Pressure,
 }
 
-// A note's number, if MIDI has one for it.
-#[derive(Clone, Copy)]
-enum NoteNumber {
-    Number(u8),
-    Unnumbered,
-}
-
 // Writes a message of a key's note as `send_key` does, and tests its value. Refuses 8, also for a key that is not found, and 10.
 pub fn send_checked_key(
     channels: ChannelList,
-    found: AccessKeyResult,
+    found: Option<Place>,
     kind: NoteMessage,
     value: u8,
     out: &mut [u8],
-) -> Sent
-    ensures { Answers (key_rule kind (entries channels) value (place found)) out.old (sent_answer result) out.new }
+) -> Result<usize, Refusal>
+    ensures { Answers (key_rule kind (entries channels) value (place found)) out.old (outcome result) out.new }
 {
     if HIGHEST_DATA_BYTE < value {
-        return Sent::Refused(DATA_BYTE_OVER_127);
+        return Err(Refusal::DataByteOver127);
     }
     send_key(channels, found, kind, value, out)
 }
@@ -61,26 +48,23 @@ pub fn send_checked_key(
 // Writes a message of a key's note on its channel to the buffer's start: nothing for a key that is not found. Refuses 10.
 pub(crate) fn send_key(
     channels: ChannelList,
-    found: AccessKeyResult,
+    found: Option<Place>,
     kind: NoteMessage,
     value: u8,
     out: &mut [u8],
-) -> Sent
+) -> Result<usize, Refusal>
     requires { value < 128 }
-    ensures { Answers (sent (bytes_of (key_messages kind (entries channels) value (place found)))) out.old (sent_answer result) out.new }
+    ensures { Answers (sent (bytes_of (key_messages kind (entries channels) value (place found)))) out.old (outcome result) out.new }
 {
-    let AccessKeyResult::Found {
-        channel,
-        found_note,
-    } = found
-    else {
-        return Sent::Written(0);
+    let Some(place) = found else {
+        return Ok(0);
     };
-    if out.len() < key_len(channels, channel, kind, found_note) {
-        return Sent::Refused(BUFFER_TOO_SHORT);
+    let (channel, note) = (place.channel, place.note.number());
+    if out.len() < key_len(channels, channel, kind, note) {
+        return Err(Refusal::BufferTooShort);
     }
-    let end = put_key(out, 0, channels, channel, kind, found_note, value);
-    Sent::Written(end)
+    let end = put_key(out, 0, channels, channel, kind, note, value);
+    Ok(end)
 }
 
 // How many bytes a note's message takes on channel i of a list: none where the list is shorter.
@@ -88,8 +72,8 @@ pub(crate) fn key_len(channels: ChannelList, i: u8, kind: NoteMessage, note: i32
     ensures { result ≡ length (bytes_of (on_channel (entries channels) i (λ ch. note_messages kind ch note 0))) }
 {
     match channels.entry(i) {
-        EntryAnswer::Channel(_) => note_len(kind, note),
-        EntryAnswer::NoEntry => 0,
+        Some(_) => note_len(kind, note),
+        None => 0,
     }
 }
 
@@ -107,18 +91,23 @@ pub(crate) fn put_key(
     ensures { Put at (bytes_of (on_channel (entries channels) i (λ ch. note_messages kind ch note value))) result out.old out.new }
 {
     match channels.entry(i) {
-        EntryAnswer::Channel(channel) => put_note(out, at, kind, channel, note, value),
-        EntryAnswer::NoEntry => at,
+        Some(channel) => put_note(out, at, kind, channel, note, value),
+        None => at,
     }
 }
 
 // Writes the tuning of channel i of a list to the buffer's start. Refuses 10.
-pub(crate) fn send_tuning(channels: ChannelList, i: u8, tuning: Tuning, out: &mut [u8]) -> Sent
+pub(crate) fn send_tuning(
+    channels: ChannelList,
+    i: u8,
+    tuning: Tuning,
+    out: &mut [u8],
+) -> Result<usize, Refusal>
     requires { InSteps tuning }
-    ensures { Answers (sent (bytes_of (on_channel (entries channels) i (λ ch. tuning_messages ch tuning)))) out.old (sent_answer result) out.new }
+    ensures { Answers (sent (bytes_of (on_channel (entries channels) i (λ ch. tuning_messages ch tuning)))) out.old (outcome result) out.new }
 {
-    let EntryAnswer::Channel(channel) = channels.entry(i) else {
-        return Sent::Written(0);
+    let Some(channel) = channels.entry(i) else {
+        return Ok(0);
     };
     write_tuning(channel, tuning, out)
 }
@@ -127,23 +116,23 @@ pub(crate) fn send_tuning(channels: ChannelList, i: u8, tuning: Tuning, out: &mu
 pub(crate) fn send_press(
     channels: ChannelList,
     i: u8,
-    stopped: StoppedNote,
+    stopped: Option<Note>,
     tuning: Tuning,
     note: i32,
     velocity: u8,
     out: &mut [u8],
-) -> Sent
+) -> Result<usize, Refusal>
     requires { InSteps tuning × (velocity < 128) }
-    ensures { Answers (sent (bytes_of (on_channel (entries channels) i (λ ch. press_messages ch (stopped_note stopped) tuning note velocity)))) out.old (sent_answer result) out.new }
+    ensures { Answers (sent (bytes_of (on_channel (entries channels) i (λ ch. press_messages ch (stopped_note stopped) tuning note velocity)))) out.old (outcome result) out.new }
 {
-    let EntryAnswer::Channel(channel) = channels.entry(i) else {
-        return Sent::Written(0);
+    let Some(channel) = channels.entry(i) else {
+        return Ok(0);
     };
     if out.len() < press_len(stopped, tuning, note) {
-        return Sent::Refused(BUFFER_TOO_SHORT);
+        return Err(Refusal::BufferTooShort);
     }
     let end = put_press(out, 0, channel, stopped, tuning, note, velocity);
-    Sent::Written(end)
+    Ok(end)
 }
 
 // Writes a message to every channel as `send_to_all` does, and tests it. Refuses 8 from left, 9, also where nothing is sent, and 10.
@@ -152,13 +141,11 @@ pub fn send_checked_to_all(
     channels: ChannelList,
     message: ChannelMessageType,
     out: &mut [u8],
-) -> Sent
-    ensures { Answers (to_all_rule kind (entries channels) message) out.old (sent_answer result) out.new }
+) -> Result<usize, Refusal>
+    ensures { Answers (to_all_rule kind (entries channels) message) out.old (outcome result) out.new }
 {
-    match check_message(message) {
-        Check::Passed => send_to_all(kind, channels, message, out),
-        Check::Refused(number) => Sent::Refused(number),
-    }
+    check_message(message)?;
+    send_to_all(kind, channels, message, out)
 }
 
 // Writes a message to every channel of a list to the buffer's start, unless the tuner keeps such messages to itself. Refuses 10.
@@ -167,49 +154,26 @@ pub(crate) fn send_to_all(
     channels: ChannelList,
     message: ChannelMessageType,
     out: &mut [u8],
-) -> Sent
+) -> Result<usize, Refusal>
     requires { Valid (meant 0 message) }
-    ensures { Answers (sent (bytes_of (to_all kind (entries channels) message))) out.old (sent_answer result) out.new }
+    ensures { Answers (sent (bytes_of (to_all kind (entries channels) message))) out.old (outcome result) out.new }
 {
     if is_kept(kind, message) {
-        return Sent::Written(0);
+        return Ok(0);
     }
     let count = channels.len() as usize;
     if out.len() < count * message_len(message) {
-        return Sent::Refused(BUFFER_TOO_SHORT);
+        return Err(Refusal::BufferTooShort);
     }
     let end = put_to_all(out, channels, message);
-    Sent::Written(end)
+    Ok(end)
 }
 
 // Whether a tuner keeps a message to itself: it tunes by bends, and the message is one.
 fn is_kept(kind: TuningKind, message: ChannelMessageType) -> bool
     ensures { result ≡ is_kept kind message }
 {
-    match kind {
-        TuningKind::FineTuning => false,
-        TuningKind::Bend => match message {
-            ChannelMessageType::PitchBendChange { value: _ } => true,
-            ChannelMessageType::NoteOff {
-                key: _,
-                velocity: _,
-            } => false,
-            ChannelMessageType::NoteOn {
-                key: _,
-                velocity: _,
-            } => false,
-            ChannelMessageType::PolyphonicKeyPressure {
-                key: _,
-                pressure: _,
-            } => false,
-            ChannelMessageType::ControlChange {
-                controller: _,
-                value: _,
-            } => false,
-            ChannelMessageType::ProgramChange { program: _ } => false,
-            ChannelMessageType::ChannelPressure { pressure: _ } => false,
-        },
-    }
+    kind == TuningKind::Bend && matches!(message, ChannelMessageType::PitchBendChange { .. })
 }
 
 // Puts a message on every channel of a list, in its order, and answers the place behind.
@@ -221,7 +185,7 @@ fn put_to_all(out: &mut [u8], channels: ChannelList, message: ChannelMessageType
     let mut i: u8 = 0;
     while i < channels.len() {
         // The list has that entry.
-        let EntryAnswer::Channel(channel) = channels.entry(i) else {
+        let Some(channel) = channels.entry(i) else {
             return at;
         };
         at = put_message(out, at, channel, message);
@@ -235,15 +199,11 @@ pub(crate) fn sent_as(kind: TuningKind, detuning: f64) -> Tuning
     requires { positive detuning ≡ true }
     ensures { result ≡ sent_as kind detuning }
 {
-    match tuning_of(kind, Ratio::from_float(detuning)) {
-        TuningAnswer::Value(tuning) => tuning,
-        // It can be measured.
-        TuningAnswer::Refused(_) => Tuning::Bend(0),
-    }
+    tuning_of(kind, Ratio::from_float(detuning)).unwrap()
 }
 
 // How many bytes a press takes, on any channel.
-pub(crate) fn press_len(stopped: StoppedNote, tuning: Tuning, note: i32) -> usize
+pub(crate) fn press_len(stopped: Option<Note>, tuning: Tuning, note: i32) -> usize
     ensures { result ≡ length (bytes_of (press_messages 0 (stopped_note stopped) tuning note 0)) }
 {
     stop_len(stopped) + tuning_len(tuning) + note_len(NoteMessage::On, note)
@@ -254,7 +214,7 @@ pub(crate) fn put_press(
     out: &mut [u8],
     at: usize,
     channel: u8,
-    stopped: StoppedNote,
+    stopped: Option<Note>,
     tuning: Tuning,
     note: i32,
     velocity: u8,
@@ -267,22 +227,22 @@ pub(crate) fn put_press(
     put_note(out, at, NoteMessage::On, channel, note, velocity)
 }
 
-fn stop_len(stopped: StoppedNote) -> usize
+fn stop_len(stopped: Option<Note>) -> usize
     ensures { result ≡ length (bytes_of (stop_messages 0 (stopped_note stopped) 0)) }
 {
     match stopped {
-        StoppedNote::Nothing => 0,
-        StoppedNote::Note(note) => note_len(NoteMessage::Off, note),
+        None => 0,
+        Some(note) => note_len(NoteMessage::Off, note.number()),
     }
 }
 
-fn put_stop(out: &mut [u8], at: usize, channel: u8, stopped: StoppedNote, velocity: u8) -> usize
+fn put_stop(out: &mut [u8], at: usize, channel: u8, stopped: Option<Note>, velocity: u8) -> usize
     requires { (channel < 16) × (velocity < 128) × (at + length (bytes_of (stop_messages channel (stopped_note stopped) velocity)) ≤ length out.old) }
     ensures { Put at (bytes_of (stop_messages channel (stopped_note stopped) velocity)) result out.old out.new }
 {
     match stopped {
-        StoppedNote::Nothing => at,
-        StoppedNote::Note(note) => put_note(out, at, NoteMessage::Off, channel, note, velocity),
+        None => at,
+        Some(note) => put_note(out, at, NoteMessage::Off, channel, note.number(), velocity),
     }
 }
 
@@ -290,9 +250,9 @@ fn put_stop(out: &mut [u8], at: usize, channel: u8, stopped: StoppedNote, veloci
 pub(crate) fn note_len(kind: NoteMessage, note: i32) -> usize
     ensures { result ≡ length (bytes_of (note_messages kind 0 note 0)) }
 {
-    match checked_midi_number(note) {
-        NoteNumber::Number(key) => message_len(note_message(kind, key, 0)),
-        NoteNumber::Unnumbered => 0,
+    match midi_number(note) {
+        Some(key) => message_len(note_message(kind, key, 0)),
+        None => 0,
     }
 }
 
@@ -308,9 +268,9 @@ pub(crate) fn put_note(
     requires { (channel < 16) × (value < 128) × (at + length (bytes_of (note_messages kind channel note value)) ≤ length out.old) }
     ensures { Put at (bytes_of (note_messages kind channel note value)) result out.old out.new }
 {
-    match checked_midi_number(note) {
-        NoteNumber::Number(key) => put_message(out, at, channel, note_message(kind, key, value)),
-        NoteNumber::Unnumbered => at,
+    match midi_number(note) {
+        Some(key) => put_message(out, at, channel, note_message(kind, key, value)),
+        None => at,
     }
 }
 
@@ -331,17 +291,4 @@ fn note_message(kind: NoteMessage, key: u8, value: u8) -> ChannelMessageType
             pressure: value,
         },
     }
-}
-
-fn checked_midi_number(note: i32) -> NoteNumber
-    ensures { number_answer result ≡ number_of note }
-{
-    if note < 0 {
-        return NoteNumber::Unnumbered;
-    }
-    if HIGHEST_NOTE_NUMBER < note {
-        return NoteNumber::Unnumbered;
-    }
-    let number = note as u8;
-    NoteNumber::Number(number)
 }

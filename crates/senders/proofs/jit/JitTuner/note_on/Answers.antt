@@ -1,6 +1,0 @@
--- `jit::JitTuner::note_on` meets its contract: that of the call in place. Assumes nothing.
-use Rattle.senders.proofs.Calls.{by_value}
-use Rattle.senders.proofs.jit.JitTuner.note_on.Goals as goal
-
-pub returns : goal.returns
-returns c = by_value c.args.self c.note_on-answer.new.cells c.note_on-answer.ensures
