@@ -1,21 +1,19 @@
 -- The plan tuner (document 01, "midi.rs under tuner" over "aot.rs"): the rule of each call, over what the tuner holds. `fitted` adds 10 to each.
 -- Assumes nothing.
-use Rattle.std.specs.Prelude.{◌≡◌, true, false, cond, List, [], ℕ, ◌≤◌, ◌<◌, ℤ, pos, Float, length, get_or}
+use Rattle.std.specs.Prelude.{◌≡◌, true, false, cond, List, [], ℕ, ◌≤◌, ◌<◌, ℤ, pos, Float, length, get_or, Result}
 use Rattle.std.proofs.Math.Option.{Option, some, none}
 use Rattle.std.specs.Float.{nan, binary64}
 use Rattle.std.specs.Float.Ieee.{of_bits, lt}
 use Rattle.std.specs.Float.Ieee.Positive.{positive}
 use Rattle.channels.specs.Outcome.{Outcome, value, refused}
 use Rattle.channels.specs.Refusal.{buffer_too_short}
-use Rattle.channels.specs.ChannelList.{channels_answer}
 use Rattle.channels.specs.Lists.{upward}
 use Rattle.plans.specs.Line.{Line}
 use Rattle.channels.specs.Places.{Place}
 use Rattle.plans.specs.Placing.{Placing, InOrder, Fits, Demand3}
-use Rattle.plans.specs.PlanBlock.{plan_kind_at}
-use Rattle.plans.specs.Plan.{Model, plan_at, open_rule, set_tuning, set_tuning_of_pitches}
+use Rattle.plans.specs.Plan.{Model, plan_of, open_rule, planned, set_tuning, set_tuning_of_pitches}
 use Rattle.plans.specs.Plan as M
-use Rattle.channels.specs.TuningValue.{sent_as}
+use Rattle.channels.specs.TuningValue.{sent_as, kind_of}
 use Rattle.channels.specs.declared.tuning_value.TuningKind.{TuningKind}
 use Rattle.plans.specs.declared.aot.GroupBy.{GroupBy}
 use Rattle.plans.specs.declared.aot.GroupBy.TheVariants.{Channel}
@@ -27,20 +25,19 @@ use Rattle.senders.specs.Tuner.{each, on_channel, key_rule, to_all_rule}
 use Rattle.senders.specs.declared.midi.ChannelMessageType.{ChannelMessageType}
 use Rattle.senders.specs.declared.tuner.NoteMessage.TheVariants.{Off, On, Pressure}
 use Rattle.plan_tuner.specs.declared.aot.AotTuner.{AotTuner}
-use Rattle.plan_tuner.specs.declared.aot.Opened.{Opened}
-use Rattle.plan_tuner.specs.declared.aot.PlanSent as S
+use Rattle.plan_tuner.specs.declared.aot.PlanSent.{PlanSent}
+use Rattle.plan_tuner.specs.declared.aot.PlanSent.TheVariants.{Tuned, Untuned}
+use Rattle.arithmetic.specs.declared.refusal.Refusal.{Refusal}
+use Rattle.arithmetic.specs.Answers.{outcome_by}
 
 -- the plan model, and how channels are tuned
 pub record Tuner : Type 0 where
   pub plan : Model
   pub kind : TuningKind
 
--- the tuner of a block
-abbrev pub view : List ℕ → Tuner
-view l = record { plan = plan_at l; kind = plan_kind_at l }
-
-abbrev pub tuner : AotTuner → Tuner
-tuner t = view t.cells
+-- the tuner of what lies in memory
+abbrev pub view : AotTuner → Tuner
+view t = record { plan = plan_of t.model; kind = kind_of t.kind }
 
 abbrev pub with_plan : Tuner → Model → Tuner
 with_plan t m = record { plan = m; kind = t.kind }
@@ -50,13 +47,10 @@ with_plan t m = record { plan = m; kind = t.kind }
 abbrev pub start_rule : List ℕ → TuningKind → Outcome (List ℕ) × Tuner
 start_rule channels kind = let o = open_rule channels Channel in (o.1, record { plan = o.0; kind = kind })
 
--- a block after a start in place: a refused list leaves it as it was
-abbrev pub Starts : Outcome (List ℕ) → Tuner → List ℕ → List ℕ → Type 0
+-- a tuner after a start in place: a refused list leaves it as it was
+abbrev pub Starts : Outcome (List ℕ) → Tuner → AotTuner → AotTuner → Type 0
 Starts (value cs) t old new = view new ≡ t
 Starts (refused n) t old new = new ≡ old
-
-abbrev pub opened : Opened → Outcome (List ℕ) × Tuner
-opened o = (channels_answer o.answer, tuner o.tuner)
 
 -- ---- "Order for a plan: 12; then line by line 1, 4, 3, 5 ..; then 10, unless untuned"
 
@@ -66,10 +60,12 @@ pub data Planned : Type 0 where
   cannot : (channels : ℕ) → Planned
 
 -- a plan was sent, or there are too few channels for it
-abbrev pub plan_sent : S.PlanSent → Outcome Planned
-plan_sent (S.TheVariants.Tuned channels written) = value (tunes channels written)
-plan_sent (S.TheVariants.Untuned channels) = value (cannot channels)
-plan_sent (S.TheVariants.Refused n) = refused n
+abbrev pub planned_sent : PlanSent → Planned
+planned_sent (Tuned channels written) = tunes channels written
+planned_sent (Untuned channels) = cannot channels
+
+abbrev pub plan_sent : Result PlanSent Refusal → Outcome Planned
+plan_sent r = outcome_by planned_sent r
 
 -- the tuning of channel i, by its detuning
 abbrev pub channel_messages : TuningKind → List ℕ → ℕ → Option Float → List Message
@@ -85,6 +81,10 @@ abbrev pub plan_effect : Tuner → Model × M.Answer → Outcome (Effect Planned
 plan_effect t (m, M.tuned n) = let bs = bytes_of (plan_messages t.kind m) in value (record { says = tunes n (length bs); bytes = bs; next = with_plan t m })
 plan_effect t (m, M.untuned n) = value (record { says = cannot n; bytes = []; next = with_plan t m })
 plan_effect t (m, M.refused n) = refused n
+
+-- of lists, by their lines
+abbrev pub tuning_rule : Tuner → Outcome (List Line) → Outcome (Effect Planned Tuner)
+tuning_rule t lines = plan_effect t (planned t.plan lines)
 
 abbrev pub set_tuning_rule : Tuner → List ℕ → List ℤ → List Float → Outcome (Effect Planned Tuner)
 set_tuning_rule t ks ns ds = plan_effect t (set_tuning t.plan ks ns ds)

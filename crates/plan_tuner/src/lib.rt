@@ -1,5 +1,4 @@
-// The plan tuner (document 01, "midi.rs under tuner" over "aot.rs"), in place (`block`) and by value (`aot`).
+// The plan tuner: plans whose tunings are sent, written into lent buffers.
 #![tactic(auto)]
 
 pub mod aot;
-pub mod block;
