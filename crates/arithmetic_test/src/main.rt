@@ -1,134 +1,79 @@
-// Document 01's numbers for notes, pitches and the measure, with the ends of each range and every refusal. Writes a line for each call.
+// Notes, pitches and the measure, with the ends of each range and every refusal. Writes a line for each call.
 #![tactic(auto)]
 
-use arithmetic::note::{LetterAnswer, MidiAnswer, NoteAnswer, OctaveAnswer, StepsAnswer};
-use arithmetic::pitch::{Measured, Pitch, Ratio};
-use arithmetic::tuning::{Approximation, PitchAnswer, RatioAnswer};
-use show::{float, long, number, refusal, signed, word};
+use arithmetic::note::{checked_midi_number, letter, num_semitones_before, octave, plus_semitones};
+use arithmetic::pitch::{Pitch, Ratio};
+use arithmetic::tuning::{detuning, find_by_pitch, pitch_of};
+use show::{Answer, Bits, OrDash};
 use std::io;
 use std::io::{BufWriter, Write};
 
-fn letter(out: &mut impl Write, note: i32) -> io::Result<()> {
-    match arithmetic::note::letter(note) {
-        LetterAnswer::Letter(letter) => number(out, letter as u64),
-        LetterAnswer::Refused(n) => refusal(out, n),
-    }
-}
-
-fn octave(out: &mut impl Write, note: i32) -> io::Result<()> {
-    match arithmetic::note::octave(note) {
-        OctaveAnswer::Octave(octave) => signed(out, octave),
-        OctaveAnswer::Refused(n) => refusal(out, n),
-    }
-}
-
-fn midi(out: &mut impl Write, note: i32) -> io::Result<()> {
-    match arithmetic::note::checked_midi_number(note) {
-        MidiAnswer::Number(n) => number(out, n as u64),
-        MidiAnswer::Unnumbered => word(out, b" -"),
-        MidiAnswer::Refused(n) => refusal(out, n),
-    }
-}
-
-fn pitch_of(out: &mut impl Write, note: i32) -> io::Result<()> {
-    match arithmetic::tuning::pitch_of(note) {
-        PitchAnswer::Hz(hz) => float(out, hz),
-        PitchAnswer::Refused(n) => refusal(out, n),
-    }
-}
-
 // Letter, octave, MIDI's number and pitch.
 fn note(out: &mut impl Write, note: i32) -> io::Result<()> {
-    word(out, b"note")?;
-    signed(out, note)?;
-    word(out, b":")?;
-    letter(out, note)?;
-    octave(out, note)?;
-    midi(out, note)?;
-    pitch_of(out, note)?;
-    word(out, b"\n")
+    writeln!(
+        out,
+        "note {note}: {} {} {} {}",
+        Answer(letter(note)),
+        Answer(octave(note)),
+        Answer(checked_midi_number(note).map(OrDash)),
+        Answer(pitch_of(note).map(Bits))
+    )
 }
 
-fn plus_semitones(out: &mut impl Write, note: i32, steps: i32) -> io::Result<()> {
-    word(out, b"note")?;
-    signed(out, note)?;
-    word(out, b" plus")?;
-    signed(out, steps)?;
-    word(out, b":")?;
-    match arithmetic::note::plus_semitones(note, steps) {
-        NoteAnswer::Note(higher) => signed(out, higher)?,
-        NoteAnswer::Refused(n) => refusal(out, n)?,
-    }
-    word(out, b"\n")
+fn plus(out: &mut impl Write, note: i32, steps: i32) -> io::Result<()> {
+    writeln!(
+        out,
+        "note {note} plus {steps}: {}",
+        Answer(plus_semitones(note, steps))
+    )
 }
 
-fn num_semitones_before(out: &mut impl Write, note: i32, other: i32) -> io::Result<()> {
-    word(out, b"note")?;
-    signed(out, note)?;
-    word(out, b" before")?;
-    signed(out, other)?;
-    word(out, b":")?;
-    match arithmetic::note::num_semitones_before(note, other) {
-        StepsAnswer::Steps(steps) => signed(out, steps)?,
-        StepsAnswer::Refused(n) => refusal(out, n)?,
-    }
-    word(out, b"\n")
+fn before(out: &mut impl Write, note: i32, other: i32) -> io::Result<()> {
+    writeln!(
+        out,
+        "note {note} before {other}: {}",
+        Answer(num_semitones_before(note, other))
+    )
 }
 
 // The nearest note and the detuning.
 fn nearest(out: &mut impl Write, hz: f64) -> io::Result<()> {
-    word(out, b"pitch")?;
-    float(out, hz)?;
-    word(out, b":")?;
-    match arithmetic::tuning::find_by_pitch(Pitch::from_hz(hz)) {
-        Approximation::Nearest(note, detuning) => {
-            signed(out, note)?;
-            float(out, detuning)?;
-        }
-        Approximation::Refused(n) => refusal(out, n)?,
+    write!(out, "pitch {}: ", Bits(hz))?;
+    match find_by_pitch(Pitch::from_hz(hz)) {
+        Ok(nearest) => writeln!(out, "{} {}", nearest.note.number(), Bits(nearest.detuning)),
+        Err(refusal) => writeln!(out, "R{}", refusal.number()),
     }
-    word(out, b"\n")
 }
 
-fn detuning(out: &mut impl Write, hz: f64, note: i32) -> io::Result<()> {
-    word(out, b"pitch")?;
-    float(out, hz)?;
-    word(out, b" note")?;
-    signed(out, note)?;
-    word(out, b":")?;
-    match arithmetic::tuning::detuning(Pitch::from_hz(hz), note) {
-        RatioAnswer::Value(detuning) => float(out, detuning)?,
-        RatioAnswer::Refused(n) => refusal(out, n)?,
-    }
-    word(out, b"\n")
+fn detuned(out: &mut impl Write, hz: f64, note: i32) -> io::Result<()> {
+    let detuning = detuning(Pitch::from_hz(hz), note);
+    writeln!(
+        out,
+        "pitch {} note {note}: {}",
+        Bits(hz),
+        Answer(detuning.map(Bits))
+    )
 }
 
 fn measure(out: &mut impl Write, ratio: f64) -> io::Result<()> {
-    word(out, b"ratio")?;
-    float(out, ratio)?;
-    word(out, b":")?;
-    match Ratio::from_float(ratio).measure() {
-        Measured::Measure(l) => long(out, l)?,
-        Measured::Refused(n) => refusal(out, n)?,
-    }
-    word(out, b"\n")
+    let measure = Ratio::from_float(ratio).measure();
+    writeln!(out, "ratio {}: {}", Bits(ratio), Answer(measure))
 }
 
 fn negligible(out: &mut impl Write, deviation: f64) -> io::Result<()> {
-    word(out, b"deviation")?;
-    float(out, deviation)?;
-    if Ratio::from_float(deviation).is_negligible() {
-        word(out, b": negligible\n")
+    let heard = if Ratio::from_float(deviation).is_negligible() {
+        "negligible"
     } else {
-        word(out, b": audible\n")
-    }
+        "audible"
+    };
+    writeln!(out, "deviation {}: {heard}", Bits(deviation))
 }
 
 // Steps from note 69 and from note -300, and the distance from note 69.
 fn steps(out: &mut impl Write, steps: i32) -> io::Result<()> {
-    plus_semitones(out, 69, steps)?;
-    plus_semitones(out, -300, steps)?;
-    num_semitones_before(out, 69, steps)
+    plus(out, 69, steps)?;
+    plus(out, -300, steps)?;
+    before(out, 69, steps)
 }
 
 // The ends of an i32, the notes beside the ends of the range and of MIDI's numbers, and some between: note -1 is B of octave -2.
@@ -154,8 +99,8 @@ fn notes(out: &mut impl Write) -> io::Result<()> {
     for n in [-2147483648, -370, -369, -1, 0, 431, 432, 800, 2147483647] {
         steps(out, n)?;
     }
-    plus_semitones(out, -301, 1)?;
-    num_semitones_before(out, 501, 69)
+    plus(out, -301, 1)?;
+    before(out, 501, 69)
 }
 
 // Examples 6 to 8, the neighbours of the range's ends, the last pitch nearest to 69 and the first to 70, and what is no pitch.
@@ -187,13 +132,13 @@ fn pitches(out: &mut impl Write, nan: f64, infinite: f64) -> io::Result<()> {
 
 // The ends of both ranges, and refusal 1 before 4.
 fn detunings(out: &mut impl Write, nan: f64) -> io::Result<()> {
-    detuning(out, 440.0, 69)?;
-    detuning(out, 440.0, 70)?;
-    detuning(out, 9.5367431640625e-7, 500)?;
-    detuning(out, 1099511627776.0, -300)?;
-    detuning(out, 440.0, 501)?;
-    detuning(out, 0.0, 501)?;
-    detuning(out, nan, 69)
+    detuned(out, 440.0, 69)?;
+    detuned(out, 440.0, 70)?;
+    detuned(out, 9.5367431640625e-7, 500)?;
+    detuned(out, 1099511627776.0, -300)?;
+    detuned(out, 440.0, 501)?;
+    detuned(out, 0.0, 501)?;
+    detuned(out, nan, 69)
 }
 
 // The ratios of examples 1 to 5, the smallest and the largest values, and what has no measure.

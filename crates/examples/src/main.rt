@@ -2,7 +2,6 @@
 // there, without the first word; calls before the last one are separated by semicolons. `tests/doc_examples/run` compares the two.
 #![tactic(auto)]
 
-mod blocks;
 mod messages;
 mod notes;
 mod pitches;
@@ -11,18 +10,16 @@ mod plan_tuners;
 mod pool_models;
 mod pool_tuners;
 
-use show::word;
-use std::io;
 use std::io::{BufWriter, Write};
+use std::{fmt, io};
 
-// What is asked, up to the answer.
-fn ask(out: &mut impl Write, question: &[u8]) -> io::Result<()> {
-    word(out, question)?;
-    word(out, b" is")
-}
-
-fn end(out: &mut impl Write) -> io::Result<()> {
-    word(out, b"\n")
+// What is asked, and the answer.
+fn example(
+    out: &mut impl Write,
+    question: &str,
+    answer: impl fmt::Display + Drop,
+) -> io::Result<()> {
+    writeln!(out, "{question} is {answer}")
 }
 
 fn main(rt: HostRuntime) -> io::Result<()> {
@@ -34,6 +31,5 @@ fn main(rt: HostRuntime) -> io::Result<()> {
     messages::all(&mut out)?;
     pool_tuners::all(&mut out)?;
     plan_tuners::all(&mut out)?;
-    blocks::all(&mut out)?;
     out.flush()
 }

@@ -1,106 +1,119 @@
-// A plan by value, SPEC 6.
-use crate::{ask, end};
-use models::aot::{AotTuningModel, SetTuning};
-use plans::block::GroupBy;
-use printing::answers;
+// A plan model, SPEC 6.
+use crate::example;
+use plans::aot::{AotTuningModel, GroupBy};
+use plans::lists::{NoteLists, PitchLists, TuningLists};
+use printing::answers::{Answer, At, Entry, Listed, Or, Plan};
+use printing::decimal::Decimal;
 use std::io;
 use std::io::Write;
 
 pub fn all(out: &mut impl Write) -> io::Result<()> {
     open(out)?;
     set_tuning(out)?;
-    set_tuning_of_pitches(out)?;
     lookups(out)?;
     entries(out)
 }
 
 // A model of two channels.
 fn of_two() -> AotTuningModel {
-    let opened = AotTuningModel::open(&[0, 1], GroupBy::Channel);
-    opened.model
+    AotTuningModel::open(&[0, 1], GroupBy::Channel).0
 }
 
 // Two keys for note 69, the second 33/32 higher.
-fn two_keys() -> SetTuning {
-    of_two().set_tuning(&[1, 2], &[69, 69], &[1.0, 1.03125])
+const TWO_KEYS: NoteLists<'static> = NoteLists {
+    keys: &[1, 2],
+    notes: &[69, 69],
+    detunings: &[1.0, 1.03125],
+};
+
+fn planned() -> AotTuningModel {
+    let mut model = of_two();
+    let _ = model.set_tuning(&TWO_KEYS);
+    model
 }
 
-fn planned(out: &mut impl Write, planned: SetTuning) -> io::Result<()> {
-    let answer = planned.answer;
-    answers::planned(out, answer)?;
-    end(out)
+// What a model of two channels answers to lists.
+fn plan<L: TuningLists>(out: &mut impl Write, question: &str, lists: &L) -> io::Result<()> {
+    let mut model = of_two();
+    let answer = model.set_tuning(lists).map(Plan);
+    example(out, question, Answer(answer))
 }
 
 fn open(out: &mut impl Write) -> io::Result<()> {
-    ask(out, b"AotTuningModel::open([0, 1], Channel)")?;
-    let opened = AotTuningModel::open(&[0, 1], GroupBy::Channel);
-    let answer = opened.answer;
-    answers::channels(out, answer)?;
-    end(out)
+    let (_, answer) = AotTuningModel::open(&[0, 1], GroupBy::Channel);
+    example(
+        out,
+        "AotTuningModel::open([0, 1], Channel)",
+        Answer(answer.map(Listed)),
+    )
 }
 
 fn set_tuning(out: &mut impl Write) -> io::Result<()> {
-    ask(
+    plan(
         out,
-        b"open([0, 1], Channel); set_tuning([1, 2], [69, 69], [1, 33/32])",
+        "open([0, 1], Channel); set_tuning([1, 2], [69, 69], [1, 33/32])",
+        &TWO_KEYS,
     )?;
-    planned(out, two_keys())?;
-    ask(
+    plan(
         out,
-        b"open([0, 1], Channel); set_tuning([1, 2, 3], [69, 69, 69], [1, 33/32, 31/32])",
+        "open([0, 1], Channel); set_tuning([1, 2, 3], [69, 69, 69], [1, 33/32, 31/32])",
+        &NoteLists {
+            keys: &[1, 2, 3],
+            notes: &[69, 69, 69],
+            detunings: &[1.0, 1.03125, 0.96875],
+        },
     )?;
-    planned(
+    plan(
         out,
-        of_two().set_tuning(&[1, 2, 3], &[69, 69, 69], &[1.0, 1.03125, 0.96875]),
+        "open([0, 1], Channel); set_tuning([1, 1], [69, 69], [1, 1])",
+        &NoteLists {
+            keys: &[1, 1],
+            notes: &[69, 69],
+            detunings: &[1.0, 1.0],
+        },
     )?;
-    ask(
+    plan(
         out,
-        b"open([0, 1], Channel); set_tuning([1, 1], [69, 69], [1, 1])",
+        "open([0, 1], Channel); set_tuning(pitches [1, 2, 3], [440, 445, 880])",
+        &PitchLists {
+            keys: &[1, 2, 3],
+            pitches: &[440.0, 445.0, 880.0],
+        },
     )?;
-    planned(out, of_two().set_tuning(&[1, 1], &[69, 69], &[1.0, 1.0]))
-}
-
-fn set_tuning_of_pitches(out: &mut impl Write) -> io::Result<()> {
-    ask(
+    plan(
         out,
-        b"open([0, 1], Channel); set_tuning_of_pitches([1, 2, 3], [440, 445, 880])",
-    )?;
-    planned(
-        out,
-        of_two().set_tuning_of_pitches(&[1, 2, 3], &[440.0, 445.0, 880.0]),
+        "open([0, 1], Channel); set_tuning(pitches [1, 2], [440, 445])",
+        &PitchLists {
+            keys: &[1, 2],
+            pitches: &[440.0, 445.0],
+        },
     )
 }
 
 fn lookups(out: &mut impl Write) -> io::Result<()> {
-    let tuned = two_keys();
-    let model = tuned.model;
-    ask(
+    let model = planned();
+    example(
         out,
-        b"open([0, 1], Channel); set_tuning([1, 2], [69, 69], [1, 33/32]); access_key(2)",
+        "open([0, 1], Channel); set_tuning([1, 2], [69, 69], [1, 33/32]); access_key(2)",
+        Or(model.access_key(2).map(At), "not found"),
     )?;
-    answers::place(out, model.access_key(2))?;
-    end(out)?;
-    ask(
+    example(
         out,
-        b"open([0, 1], Channel); set_tuning([1, 2], [69, 69], [1, 33/32]); access_key(3)",
-    )?;
-    answers::place(out, model.access_key(3))?;
-    end(out)
+        "open([0, 1], Channel); set_tuning([1, 2], [69, 69], [1, 33/32]); access_key(3)",
+        Or(model.access_key(3).map(At), "not found"),
+    )
 }
 
 fn entries(out: &mut impl Write) -> io::Result<()> {
-    let tuned = two_keys();
-    let model = tuned.model;
-    ask(
+    let model = planned();
+    example(
         out,
-        b"open([0, 1], Channel); set_tuning([1, 2], [69, 69], [1, 33/32]); detuning(1, 0)",
+        "open([0, 1], Channel); set_tuning([1, 2], [69, 69], [1, 33/32]); detuning(1, 0)",
+        Or(model.detuning(1, 0).map(Decimal), "no entry"),
     )?;
-    answers::detuning(out, model.detuning(1, 0))?;
-    end(out)?;
-    ask(
+    example(
         out,
-        b"open([0, 1], Channel); set_tuning([1, 2], [69, 69], [1, 33/32]); next_detuning(1, -300)",
-    )?;
-    answers::next_detuning(out, model.next_detuning(1, -300))?;
-    end(out)
+        "open([0, 1], Channel); set_tuning([1, 2], [69, 69], [1, 33/32]); next_detuning(1, -300)",
+        Or(model.next_detuning(1, -300).map(Entry), "no entry"),
+    )
 }

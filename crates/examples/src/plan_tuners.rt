@@ -1,8 +1,9 @@
-// The plan tuner by value, SPEC 9.3.
-use crate::{ask, end};
+// The plan tuner, SPEC 9.3.
+use crate::example;
 use channels::tuning_value::TuningKind;
-use plan_tuner::aot::{AotTuner, Tuned};
-use printing::answers;
+use plan_tuner::aot::AotTuner;
+use plans::lists::{NoteLists, PitchLists, TuningLists};
+use printing::answers::{Answer, PlanTuned, Sent};
 use std::io;
 use std::io::Write;
 
@@ -10,56 +11,62 @@ use std::io::Write;
 const ROOM: usize = 16;
 
 pub fn all(out: &mut impl Write) -> io::Result<()> {
-    set_tuning(out)?;
-    note_on(out)?;
-    unknown_key(out)
-}
-
-// A tuner of two channels, by bends.
-fn by_bends() -> AotTuner {
-    let opened = AotTuner::start(&[0, 1], TuningKind::Bend);
-    opened.tuner
+    set_tuning(
+        out,
+        "AotTuner::start([0, 1], Bend); set_tuning([1, 2], [69, 69], [1, 33/32])",
+        &TWO_KEYS,
+    )?;
+    note_on(
+        out,
+        "AotTuner::start([0, 1], Bend); set_tuning([1, 2], [69, 69], [1, 33/32]); note_on(2, 100)",
+        2,
+    )?;
+    note_on(
+        out,
+        "AotTuner::start([0, 1], Bend); set_tuning([1, 2], [69, 69], [1, 33/32]); note_on(3, 100)",
+        3,
+    )?;
+    set_tuning(
+        out,
+        "AotTuner::start([0, 1], Bend); set_tuning(pitches [1, 2], [440, 445])",
+        &PitchLists {
+            keys: &[1, 2],
+            pitches: &[440.0, 445.0],
+        },
+    )
 }
 
 // Two keys for note 69, the second 33/32 higher.
-fn two_keys(buffer: &mut [u8]) -> Tuned {
-    by_bends().set_tuning(&[1, 2], &[69, 69], &[1.0, 1.03125], buffer)
+const TWO_KEYS: NoteLists<'static> = NoteLists {
+    keys: &[1, 2],
+    notes: &[69, 69],
+    detunings: &[1.0, 1.03125],
+};
+
+// A tuner of two channels, by bends.
+fn by_bends() -> AotTuner {
+    AotTuner::start(&[0, 1], TuningKind::Bend).0
 }
 
-fn planned() -> AotTuner {
+fn set_tuning<L: TuningLists>(out: &mut impl Write, question: &str, lists: &L) -> io::Result<()> {
     let mut buffer = [0u8; ROOM];
-    let tuned = two_keys(&mut buffer);
-    tuned.tuner
+    let mut tuner = by_bends();
+    let answer = tuner.set_tuning(lists, &mut buffer);
+    let tuned = answer.map(|planned| PlanTuned {
+        planned,
+        buffer: &buffer,
+    });
+    example(out, question, Answer(tuned))
 }
 
-fn set_tuning(out: &mut impl Write) -> io::Result<()> {
+fn note_on(out: &mut impl Write, question: &str, key: u8) -> io::Result<()> {
     let mut buffer = [0u8; ROOM];
-    ask(
-        out,
-        b"AotTuner::start([0, 1], Bend); set_tuning([1, 2], [69, 69], [1, 33/32])",
-    )?;
-    let tuned = two_keys(&mut buffer);
-    let answer = tuned.answer;
-    answers::plan_sent(out, answer, &buffer)?;
-    end(out)
-}
-
-fn note_on(out: &mut impl Write) -> io::Result<()> {
-    let mut buffer = [0u8; ROOM];
-    ask(
-        out,
-        b"AotTuner::start([0, 1], Bend); set_tuning([1, 2], [69, 69], [1, 33/32]); note_on(2, 100)",
-    )?;
-    answers::sent(out, planned().note_on(2, 100, &mut buffer), &buffer)?;
-    end(out)
-}
-
-fn unknown_key(out: &mut impl Write) -> io::Result<()> {
-    let mut buffer = [0u8; ROOM];
-    ask(
-        out,
-        b"AotTuner::start([0, 1], Bend); set_tuning([1, 2], [69, 69], [1, 33/32]); note_on(3, 100)",
-    )?;
-    answers::sent(out, planned().note_on(3, 100, &mut buffer), &buffer)?;
-    end(out)
+    let mut tuner = by_bends();
+    let _ = tuner.set_tuning(&TWO_KEYS, &mut buffer);
+    let answer = tuner.note_on(key, 100, &mut buffer);
+    let sent = answer.map(|count| Sent {
+        count,
+        buffer: &buffer,
+    });
+    example(out, question, Answer(sent))
 }

@@ -1,9 +1,8 @@
-// A pool by value, SPEC 7.
-use crate::{ask, end};
+// A pool model, SPEC 7.
+use crate::example;
 use arithmetic::pitch::Pitch;
-use models::jit::{Deregistered, JitTuningModel, Registered};
-use pools::block::{PoolGroupBy, PoolingMode};
-use printing::answers;
+use pools::jit::{JitTuningModel, PoolGroupBy, PoolingMode};
+use printing::answers::{Answer, At, Held, Listed, Or, Pressed, Retuned};
 use std::io;
 use std::io::Write;
 
@@ -13,105 +12,132 @@ pub fn all(out: &mut impl Write) -> io::Result<()> {
     none_free(out)?;
     lookups(out)?;
     releases(out)?;
-    repitch(out)
+    repitch(out)?;
+    of_two_channels(out)
 }
 
-// A model of one channel.
-fn of_one(pooling_mode: PoolingMode) -> JitTuningModel {
-    let opened = JitTuningModel::open(&[0], PoolGroupBy::Channel, pooling_mode);
-    opened.model
+fn of(channels: &[u8], pooling_mode: PoolingMode) -> JitTuningModel {
+    JitTuningModel::open(channels, PoolGroupBy::Channel, pooling_mode).0
 }
 
-fn press(model: JitTuningModel, key: u8, hz: f64) -> Registered {
-    model.register_key(key, Pitch::from_hz(hz))
-}
-
-// A model in which key 1 is held for 440 Hz.
+// A model of one channel in which key 1 is held for 440 Hz.
 fn held(pooling_mode: PoolingMode) -> JitTuningModel {
-    let registered = press(of_one(pooling_mode), 1, 440.0);
-    registered.model
+    of(&[0], pooling_mode).pressed(1, Pitch::from_hz(440.0)).0
 }
 
-fn pressed(out: &mut impl Write, registered: Registered) -> io::Result<()> {
-    let result = registered.result;
-    answers::pressed(out, result)?;
-    end(out)
+// What a press of a key answers.
+fn press(
+    out: &mut impl Write,
+    question: &str,
+    model: JitTuningModel,
+    key: u8,
+    hz: f64,
+) -> io::Result<()> {
+    let (_, answer) = model.pressed(key, Pitch::from_hz(hz));
+    let press = answer.map(|press| Or(press.map(Pressed), "rejected"));
+    example(out, question, Answer(press))
 }
 
 fn open(out: &mut impl Write) -> io::Result<()> {
-    ask(out, b"JitTuningModel::open([0, 16], Channel, Stop)")?;
-    let opened = JitTuningModel::open(&[0, 16], PoolGroupBy::Channel, PoolingMode::Stop);
-    let answer = opened.answer;
-    answers::channels(out, answer)?;
-    end(out)
+    let (_, answer) = JitTuningModel::open(&[0, 16], PoolGroupBy::Channel, PoolingMode::Stop);
+    example(
+        out,
+        "JitTuningModel::open([0, 16], Channel, Stop)",
+        Answer(answer.map(Listed)),
+    )
 }
 
 fn presses(out: &mut impl Write) -> io::Result<()> {
-    ask(out, b"open([0], Channel, Stop); register_key(1, 445 Hz)")?;
-    pressed(out, press(of_one(PoolingMode::Stop), 1, 445.0))?;
-    ask(
+    press(
         out,
-        b"open([0], Channel, Stop); register_key(1, 440 Hz); register_key(1, 440 Hz)",
+        "open([0], Channel, Stop); register_key(1, 445 Hz)",
+        of(&[0], PoolingMode::Stop),
+        1,
+        445.0,
     )?;
-    pressed(out, press(held(PoolingMode::Stop), 1, 440.0))
+    press(
+        out,
+        "open([0], Channel, Stop); register_key(1, 440 Hz); register_key(1, 440 Hz)",
+        held(PoolingMode::Stop),
+        1,
+        440.0,
+    )
 }
 
 fn none_free(out: &mut impl Write) -> io::Result<()> {
-    ask(
+    press(
         out,
-        b"open([0], Channel, Stop); register_key(1, 440 Hz); register_key(2, 880 Hz)",
+        "open([0], Channel, Stop); register_key(1, 440 Hz); register_key(2, 880 Hz)",
+        held(PoolingMode::Stop),
+        2,
+        880.0,
     )?;
-    pressed(out, press(held(PoolingMode::Stop), 2, 880.0))?;
-    ask(
+    press(
         out,
-        b"open([0], Channel, Block); register_key(1, 440 Hz); register_key(2, 880 Hz)",
-    )?;
-    pressed(out, press(held(PoolingMode::Block), 2, 880.0))
+        "open([0], Channel, Block); register_key(1, 440 Hz); register_key(2, 880 Hz)",
+        held(PoolingMode::Block),
+        2,
+        880.0,
+    )
 }
 
 fn lookups(out: &mut impl Write) -> io::Result<()> {
-    let model = held(PoolingMode::Stop);
-    ask(
+    let mut model = held(PoolingMode::Stop);
+    example(
         out,
-        b"open([0], Channel, Stop); register_key(1, 440 Hz); access_key(1)",
+        "open([0], Channel, Stop); register_key(1, 440 Hz); access_key(1)",
+        Or(model.access_key(1).map(At), "not found"),
     )?;
-    answers::place(out, model.access_key(1))?;
-    end(out)?;
-    ask(
+    example(
         out,
-        b"open([0], Channel, Stop); register_key(1, 440 Hz); next_key(0)",
+        "open([0], Channel, Stop); register_key(1, 440 Hz); next_key(0)",
+        Or(model.next_key(0).map(Held), "no key"),
     )?;
-    answers::next_key(out, model.next_key(0))?;
-    end(out)?;
-    ask(
+    model.stop();
+    example(
         out,
-        b"open([0], Channel, Stop); register_key(1, 440 Hz); stop(); access_key(1)",
-    )?;
-    answers::place(out, model.stop().access_key(1))?;
-    end(out)
-}
-
-fn released(out: &mut impl Write, deregistered: Deregistered) -> io::Result<()> {
-    let result = deregistered.result;
-    answers::place(out, result)?;
-    end(out)
+        "open([0], Channel, Stop); register_key(1, 440 Hz); stop(); access_key(1)",
+        Or(model.access_key(1).map(At), "not found"),
+    )
 }
 
 fn releases(out: &mut impl Write) -> io::Result<()> {
-    let model = held(PoolingMode::Stop);
-    ask(
+    let mut model = held(PoolingMode::Stop);
+    example(
         out,
-        b"open([0], Channel, Stop); register_key(1, 440 Hz); deregister_key(1)",
-    )?;
-    released(out, model.deregister_key(1))
+        "open([0], Channel, Stop); register_key(1, 440 Hz); deregister_key(1)",
+        Or(model.deregister_key(1).map(At), "not found"),
+    )
 }
 
 fn repitch(out: &mut impl Write) -> io::Result<()> {
     let model = held(PoolingMode::Stop);
-    ask(
+    let repitched = model
+        .repitch_key(1, Pitch::from_hz(445.0))
+        .map(|repitched| Or(repitched.map(Retuned), "not found"));
+    example(
         out,
-        b"open([0], Channel, Stop); register_key(1, 440 Hz); repitch_key(1, 445 Hz)",
+        "open([0], Channel, Stop); register_key(1, 440 Hz); repitch_key(1, 445 Hz)",
+        Answer(repitched),
+    )
+}
+
+// What a press would answer, and what it answers.
+fn of_two_channels(out: &mut impl Write) -> io::Result<()> {
+    let model = of(&[0, 1], PoolingMode::Stop);
+    let would = model
+        .allocate_key(1, Pitch::from_hz(445.0))
+        .map(|press| Or(press.map(Pressed), "rejected"));
+    example(
+        out,
+        "open([0, 1], Channel, Stop); allocate_key(1, 445 Hz)",
+        Answer(would),
     )?;
-    answers::repitched(out, model.repitch_key(1, Pitch::from_hz(445.0)))?;
-    end(out)
+    press(
+        out,
+        "open([0, 1], Channel, Stop); register_key(1, 445 Hz)",
+        model,
+        1,
+        445.0,
+    )
 }

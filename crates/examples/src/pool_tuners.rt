@@ -1,9 +1,10 @@
-// The pool tuner by value, SPEC 9.2 and 9.4.
-use crate::{ask, end};
+// The pool tuner, SPEC 9.2 and 9.4.
+use crate::example;
 use arithmetic::pitch::Pitch;
+use arithmetic::refusal::Refusal;
 use channels::tuning_value::TuningKind;
-use pools::block::PoolingMode;
-use printing::answers;
+use pools::jit::PoolingMode;
+use printing::answers::{Answer, Listed, Or, Sent};
 use senders::jit::JitTuner;
 use senders::midi::ChannelMessageType;
 use std::io;
@@ -14,70 +15,88 @@ const ROOM: usize = 16;
 
 pub fn all(out: &mut impl Write) -> io::Result<()> {
     start(out)?;
-    note_on(out)?;
+    note_on(
+        out,
+        "JitTuner::start([0, 1], Bend, Stop); note_on(1, 445 Hz, 100)",
+        445.0,
+    )?;
     note_off(out)?;
     note_pitch(out)?;
     global_attr(out)?;
-    stop(out)
+    stop(out)?;
+    note_on(
+        out,
+        "JitTuner::start([0, 1], Bend, Stop); note_on(1, 440 Hz, 100)",
+        440.0,
+    )
 }
 
 // A tuner of two channels, by bends.
 fn by_bends() -> JitTuner {
-    let opened = JitTuner::start(&[0, 1], TuningKind::Bend, PoolingMode::Stop);
-    opened.tuner
+    JitTuner::start(&[0, 1], TuningKind::Bend, PoolingMode::Stop).0
 }
 
 // The same with key 1 held for 440 Hz.
 fn held() -> JitTuner {
     let mut buffer = [0u8; ROOM];
-    let pressed = by_bends().note_on(1, Pitch::from_hz(440.0), 100, &mut buffer);
-    pressed.tuner
+    by_bends()
+        .pressed(1, Pitch::from_hz(440.0), 100, &mut buffer)
+        .0
+}
+
+// What a call sent.
+fn sent(
+    out: &mut impl Write,
+    question: &str,
+    answer: Result<usize, Refusal>,
+    buffer: &[u8],
+) -> io::Result<()> {
+    let sent = answer.map(|count| Sent { count, buffer });
+    example(out, question, Answer(sent))
 }
 
 fn start(out: &mut impl Write) -> io::Result<()> {
-    ask(out, b"JitTuner::start([0, 1], Bend, Stop)")?;
-    let opened = JitTuner::start(&[0, 1], TuningKind::Bend, PoolingMode::Stop);
-    let answer = opened.answer;
-    answers::channels(out, answer)?;
-    end(out)
+    let (_, answer) = JitTuner::start(&[0, 1], TuningKind::Bend, PoolingMode::Stop);
+    example(
+        out,
+        "JitTuner::start([0, 1], Bend, Stop)",
+        Answer(answer.map(Listed)),
+    )
 }
 
-fn note_on(out: &mut impl Write) -> io::Result<()> {
+fn note_on(out: &mut impl Write, question: &str, hz: f64) -> io::Result<()> {
     let mut buffer = [0u8; ROOM];
-    ask(
-        out,
-        b"JitTuner::start([0, 1], Bend, Stop); note_on(1, 445 Hz, 100)",
-    )?;
-    let pressed = by_bends().note_on(1, Pitch::from_hz(445.0), 100, &mut buffer);
-    let answer = pressed.answer;
-    answers::press_sent(out, answer, &buffer)?;
-    end(out)
+    let answer = by_bends().note_on(1, Pitch::from_hz(hz), 100, &mut buffer);
+    let press = answer.map(|count| {
+        let sent = count.map(|count| Sent {
+            count,
+            buffer: &buffer,
+        });
+        Or(sent, "rejected")
+    });
+    example(out, question, Answer(press))
 }
 
 fn note_off(out: &mut impl Write) -> io::Result<()> {
     let mut buffer = [0u8; ROOM];
-    ask(
+    let answer = held().note_off(1, 64, &mut buffer);
+    sent(
         out,
-        b"JitTuner::start([0, 1], Bend, Stop); note_on(1, 440 Hz, 100); note_off(1, 64)",
-    )?;
-    let released = held().note_off(1, 64, &mut buffer);
-    let answer = released.answer;
-    answers::sent(out, answer, &buffer)?;
-    end(out)
+        "JitTuner::start([0, 1], Bend, Stop); note_on(1, 440 Hz, 100); note_off(1, 64)",
+        answer,
+        &buffer,
+    )
 }
 
 fn note_pitch(out: &mut impl Write) -> io::Result<()> {
     let mut buffer = [0u8; ROOM];
-    ask(
+    let answer = held().note_pitch(1, Pitch::from_hz(445.0), &mut buffer);
+    sent(
         out,
-        b"JitTuner::start([0, 1], Bend, Stop); note_on(1, 440 Hz, 100); note_pitch(1, 445 Hz)",
-    )?;
-    answers::sent(
-        out,
-        held().note_pitch(1, Pitch::from_hz(445.0), &mut buffer),
+        "JitTuner::start([0, 1], Bend, Stop); note_on(1, 440 Hz, 100); note_pitch(1, 445 Hz)",
+        answer,
         &buffer,
-    )?;
-    end(out)
+    )
 }
 
 fn global_attr(out: &mut impl Write) -> io::Result<()> {
@@ -86,22 +105,22 @@ fn global_attr(out: &mut impl Write) -> io::Result<()> {
         controller: 7,
         value: 90,
     };
-    ask(
+    let answer = by_bends().global_attr(volume, &mut buffer);
+    sent(
         out,
-        b"JitTuner::start([0, 1], Bend, Stop); global_attr(ControlChange(7, 90))",
-    )?;
-    answers::sent(out, by_bends().global_attr(volume, &mut buffer), &buffer)?;
-    end(out)
+        "JitTuner::start([0, 1], Bend, Stop); global_attr(ControlChange(7, 90))",
+        answer,
+        &buffer,
+    )
 }
 
 fn stop(out: &mut impl Write) -> io::Result<()> {
     let mut buffer = [0u8; ROOM];
-    ask(
+    let answer = held().stop(&mut buffer);
+    sent(
         out,
-        b"JitTuner::start([0, 1], Bend, Stop); note_on(1, 440 Hz, 100); stop()",
-    )?;
-    let released = held().stop(&mut buffer);
-    let answer = released.answer;
-    answers::sent(out, answer, &buffer)?;
-    end(out)
+        "JitTuner::start([0, 1], Bend, Stop); note_on(1, 440 Hz, 100); stop()",
+        answer,
+        &buffer,
+    )
 }

@@ -4,7 +4,7 @@
 
 ghost use Rattle.std.specs.Prelude.{◌≤◌};
 
-use senders::midi::{ChannelMessageType, Sent};
+use senders::midi::ChannelMessageType;
 use std::io;
 use std::io::{BufWriter, Write};
 
@@ -134,23 +134,11 @@ fn show(
 {
     let mut buffer = [0xaau8; ROOM];
     match message.to_raw_message(channel, &mut buffer[..room]) {
-        Sent::Written(count) => print_count(out, count)?,
-        Sent::Refused(number) => print_refusal(out, number)?,
+        Ok(count) => write!(out, "{count}")?,
+        Err(refusal) => write!(out, "R{}", refusal.number())?,
     }
     for byte in buffer {
-        print_byte(out, byte)?;
+        write!(out, " {byte:02x}")?;
     }
     writeln!(out)
-}
-
-fn print_count(out: &mut impl Write, count: usize) -> io::Result<()> {
-    write!(out, "{count}")
-}
-
-fn print_refusal(out: &mut impl Write, number: u8) -> io::Result<()> {
-    write!(out, "R{number}")
-}
-
-fn print_byte(out: &mut impl Write, byte: u8) -> io::Result<()> {
-    write!(out, " {byte:02x}")
 }

@@ -1,301 +1,277 @@
-// Plans: document 01's examples 9 and 10, every kind of group, both kinds of list, each refusal, full lists, and the detuning entries of the channels.
-// Writes a line for each call.
+// Plans: every kind of group, both kinds of list, each refusal, full lists, and the detuning entries of the channels. Writes a line for each call.
 #![tactic(auto)]
 
 ghost use Rattle.std.specs.Prelude.{◌≤◌};
 
-use channels::keys::AccessKeyResult;
-use channels::list::ChannelsAnswer;
-use models::aot::{AotTuningModel, SetTuning};
-use plans::block::{DetuningAnswer, GroupBy, NextAnswer, PlanAnswer};
-use show::{float, number, refusal, signed, word};
+use plans::aot::{AotTuningModel, GroupBy, Planned};
+use plans::lists::{NoteLists, PitchLists, TuningLists};
+use show::{Bits, OrDash};
 use std::io;
 use std::io::{BufWriter, Write};
 
-fn flag(out: &mut impl Write, on: bool) -> io::Result<()> {
-    if on {
-        word(out, b" yes")
-    } else {
-        word(out, b" no")
-    }
+fn yes_or_no(on: bool) -> &'static str {
+    if on { "yes" } else { "no" }
 }
 
-// The answer to a plan, and the model's count of channels and whether it is tuned.
-fn done(out: &mut impl Write, name: &[u8], planned: SetTuning) -> io::Result<AotTuningModel> {
-    word(out, name)?;
-    let answer = planned.answer;
-    match answer {
-        PlanAnswer::Tuned(n) => {
-            word(out, b" tuned")?;
-            number(out, n as u64)?;
-        }
-        PlanAnswer::Untuned(n) => {
-            word(out, b" untuned")?;
-            number(out, n as u64)?;
-        }
-        PlanAnswer::Refused(n) => refusal(out, n)?,
+// Plans from a model: writes the answer, and the new model's count of channels and whether it is tuned.
+fn plan<L: TuningLists>(
+    out: &mut impl Write,
+    name: &str,
+    from: &AotTuningModel,
+    lists: &L,
+) -> io::Result<AotTuningModel> {
+    let mut model = *from;
+    match model.set_tuning(lists) {
+        Ok(Planned::Tuned(n)) => write!(out, "{name} tuned {n}")?,
+        Ok(Planned::Untuned(n)) => write!(out, "{name} untuned {n}")?,
+        Err(refusal) => write!(out, "{name} R{}", refusal.number())?,
     }
-    let model = planned.model;
-    word(out, b", model")?;
-    number(out, model.num_channels() as u64)?;
-    flag(out, model.tuned())?;
-    word(out, b"\n")?;
+    let n = model.num_channels();
+    writeln!(out, ", model {n} {}", yes_or_no(model.tuned()))?;
     Ok(model)
+}
+
+fn notes(
+    out: &mut impl Write,
+    name: &str,
+    from: &AotTuningModel,
+    keys: &[u8],
+    notes: &[i32],
+    detunings: &[f64],
+) -> io::Result<AotTuningModel> {
+    let lists = NoteLists {
+        keys,
+        notes,
+        detunings,
+    };
+    plan(out, name, from, &lists)
+}
+
+fn pitches(
+    out: &mut impl Write,
+    name: &str,
+    from: &AotTuningModel,
+    keys: &[u8],
+    pitches: &[f64],
+) -> io::Result<AotTuningModel> {
+    plan(out, name, from, &PitchLists { keys, pitches })
 }
 
 fn opened(
     out: &mut impl Write,
-    name: &[u8],
+    name: &str,
     channels: &[u8],
     group_by: GroupBy,
 ) -> io::Result<AotTuningModel> {
-    word(out, name)?;
-    let o = AotTuningModel::open(channels, group_by);
-    let answer = o.answer;
+    let (model, answer) = AotTuningModel::open(channels, group_by);
     match answer {
-        ChannelsAnswer::Listed(list) => number(out, list.len() as u64)?,
-        ChannelsAnswer::Refused(n) => refusal(out, n)?,
+        Ok(list) => write!(out, "{name} {}", list.len())?,
+        Err(refusal) => write!(out, "{name} R{}", refusal.number())?,
     }
-    let model = o.model;
-    word(out, b", model")?;
-    number(out, model.num_channels() as u64)?;
-    flag(out, model.tuned())?;
-    number(out, model.channels().len() as u64)?;
-    word(out, b"\n")?;
+    let n = model.num_channels();
+    let listed = model.channels().len();
+    writeln!(out, ", model {n} {} {listed}", yes_or_no(model.tuned()))?;
     Ok(model)
 }
 
-fn key(out: &mut impl Write, model: AotTuningModel, key: u8) -> io::Result<()> {
-    word(out, b"  key")?;
-    number(out, key as u64)?;
+fn key(out: &mut impl Write, model: &AotTuningModel, key: u8) -> io::Result<()> {
     match model.access_key(key) {
-        AccessKeyResult::Found {
-            channel,
-            found_note,
-        } => {
-            number(out, channel as u64)?;
-            signed(out, found_note)?;
-        }
-        AccessKeyResult::NotFound => word(out, b" -")?,
+        Some(place) => writeln!(out, "  key {key} {} {}", place.channel, place.note.number()),
+        None => writeln!(out, "  key {key} -"),
     }
-    word(out, b"\n")
 }
 
 // The first entry of a channel from a group on.
-fn entry(out: &mut impl Write, model: AotTuningModel, channel: u16, from: i32) -> io::Result<()> {
+fn entry(out: &mut impl Write, model: &AotTuningModel, channel: u16, from: i32) -> io::Result<()> {
     match model.next_detuning(channel, from) {
-        NextAnswer::Entry(group, detuning) => {
-            signed(out, group)?;
-            float(out, detuning)
-        }
-        NextAnswer::NoEntry => word(out, b" -"),
+        Some((group, detuning)) => write!(out, " {group} {}", Bits(detuning)),
+        None => write!(out, " -"),
     }
 }
 
 // One entry of a channel.
-fn at(out: &mut impl Write, model: AotTuningModel, channel: u16, group: i32) -> io::Result<()> {
-    word(out, b"  at")?;
-    number(out, channel as u64)?;
-    signed(out, group)?;
-    match model.detuning(channel, group) {
-        DetuningAnswer::Detuning(detuning) => float(out, detuning)?,
-        DetuningAnswer::NoEntry => word(out, b" -")?,
-    }
-    word(out, b"\n")
+fn at(out: &mut impl Write, model: &AotTuningModel, channel: u16, group: i32) -> io::Result<()> {
+    let detuning = model.detuning(channel, group).map(Bits);
+    writeln!(out, "  at {channel} {group} {}", OrDash(detuning))
 }
 
 // Entries of a channel: the first, and those from 1, 61, 62 and 73 on.
-fn entries(out: &mut impl Write, model: AotTuningModel, channel: u16) -> io::Result<()> {
-    word(out, b"  channel")?;
-    number(out, channel as u64)?;
+fn entries(out: &mut impl Write, model: &AotTuningModel, channel: u16) -> io::Result<()> {
+    write!(out, "  channel {channel}")?;
     for from in [-300, 1, 61, 62, 73] {
         entry(out, model, channel, from)?;
     }
-    word(out, b"\n")
+    writeln!(out)
 }
 
 // The first `n` of 257 lines: keys 0 to 255 and 0 again, on one note, each detuning `step` times the one before.
 fn full(
     out: &mut impl Write,
-    name: &[u8],
-    model: AotTuningModel,
+    name: &str,
+    from: &AotTuningModel,
     n: usize,
     step: f64,
 ) -> io::Result<AotTuningModel>
     requires { n ≤ 257 }
 {
     let mut keys = [0u8; 257];
-    let notes = [69i32; 257];
     let mut detunings = [1.0; 257];
     let mut detuning = 1.0;
-    for i in 0..257 {
-        keys[i] = (i % 256) as u8;
-        detunings[i] = detuning;
+    for (i, (key, d)) in keys.iter_mut().zip(detunings.iter_mut()).enumerate() {
+        *key = (i % 256) as u8;
+        *d = detuning;
         detuning = detuning * step;
     }
-    done(
+    notes(
         out,
         name,
-        model.set_tuning(&keys[..n], &notes[..n], &detunings[..n]),
+        from,
+        &keys[..n],
+        &[69; 257][..n],
+        &detunings[..n],
     )
 }
 
-fn examples(out: &mut impl Write, model: AotTuningModel) -> io::Result<()> {
-    let nine = done(
+fn examples(out: &mut impl Write, model: &AotTuningModel) -> io::Result<()> {
+    let nine = notes(
         out,
-        b"example 9",
-        model.set_tuning(&[1, 2], &[69, 69], &[1.0, 1.000001]),
+        "example 9",
+        model,
+        &[1, 2],
+        &[69, 69],
+        &[1.0, 1.000001],
     )?;
-    key(out, nine, 1)?;
-    key(out, nine, 2)?;
-    entries(out, nine, 0)?;
-    entries(out, nine, 1)?;
-    let ten = done(
+    key(out, &nine, 1)?;
+    key(out, &nine, 2)?;
+    entries(out, &nine, 0)?;
+    entries(out, &nine, 1)?;
+    let ten = notes(
         out,
-        b"example 10",
-        nine.set_tuning(&[1, 2, 3], &[69, 69, 69], &[1.0, 1.0000005, 1.0000015]),
+        "example 10",
+        &nine,
+        &[1, 2, 3],
+        &[69, 69, 69],
+        &[1.0, 1.0000005, 1.0000015],
     )?;
-    key(out, ten, 1)?;
-    key(out, ten, 2)?;
-    key(out, ten, 3)?;
-    entries(out, ten, 0)?;
-    entries(out, ten, 1)?;
-    let none = done(out, b"no keys", ten.set_tuning(&[], &[], &[]))?;
-    key(out, none, 1)?;
-    entries(out, none, 0)
+    key(out, &ten, 1)?;
+    key(out, &ten, 2)?;
+    key(out, &ten, 3)?;
+    entries(out, &ten, 0)?;
+    entries(out, &ten, 1)?;
+    let none = notes(out, "no keys", &ten, &[], &[], &[])?;
+    key(out, &none, 1)?;
+    entries(out, &none, 0)
 }
 
 // Two notes an octave apart and a third one, each at two detunings that do not join.
-fn kinds(out: &mut impl Write, model: AotTuningModel) -> io::Result<()> {
-    let m = done(
+fn kinds(out: &mut impl Write, model: &AotTuningModel) -> io::Result<()> {
+    let m = notes(
         out,
-        b"six keys",
-        model.set_tuning(
-            &[9, 8, 7, 6, 5, 4],
-            &[60, 72, 61, 60, 72, 61],
-            &[1.0, 1.01, 1.02, 1.03, 1.0, 1.01],
-        ),
+        "six keys",
+        model,
+        &[9, 8, 7, 6, 5, 4],
+        &[60, 72, 61, 60, 72, 61],
+        &[1.0, 1.01, 1.02, 1.03, 1.0, 1.01],
     )?;
     for k in [9, 8, 7, 6, 5, 4, 3] {
-        key(out, m, k)?;
+        key(out, &m, k)?;
     }
     for channel in [0, 1, 2] {
-        entries(out, m, channel)?;
+        entries(out, &m, channel)?;
     }
-    at(out, m, 1, 72)?;
-    at(out, m, 2, 0)?;
-    at(out, m, 0, 1)?;
-    at(out, m, 0, -2147483648)?;
-    let p = done(
-        out,
-        b"pitches",
-        m.set_tuning_of_pitches(&[10, 11, 12], &[440.0, 445.0, 880.0]),
-    )?;
-    key(out, p, 10)?;
-    key(out, p, 11)?;
-    key(out, p, 12)?;
-    entries(out, p, 0)?;
-    entries(out, p, 1)
+    at(out, &m, 1, 72)?;
+    at(out, &m, 2, 0)?;
+    at(out, &m, 0, 1)?;
+    at(out, &m, 0, -2147483648)?;
+    let p = pitches(out, "pitches", &m, &[10, 11, 12], &[440.0, 445.0, 880.0])?;
+    key(out, &p, 10)?;
+    key(out, &p, 11)?;
+    key(out, &p, 12)?;
+    entries(out, &p, 0)?;
+    entries(out, &p, 1)
 }
 
-fn refusals(out: &mut impl Write, model: AotTuningModel) -> io::Result<()> {
-    let held = done(out, b"one key", model.set_tuning(&[1], &[69], &[1.0]))?;
+fn refusals(out: &mut impl Write, model: &AotTuningModel) -> io::Result<()> {
+    let held = notes(out, "one key", model, &[1], &[69], &[1.0])?;
     let nan = 0.0 / 0.0;
-    done(
+    notes(out, "notes too few", &held, &[1, 2], &[69], &[1.0, 1.0])?;
+    notes(out, "detunings too many", &held, &[1], &[69], &[1.0, 1.0])?;
+    notes(
         out,
-        b"notes too few",
-        held.set_tuning(&[1, 2], &[69], &[1.0, 1.0]),
+        "note 501 first",
+        &held,
+        &[1, 1],
+        &[501, 69],
+        &[nan, 1.0],
     )?;
-    done(
+    notes(out, "note -301", &held, &[1], &[-301], &[1.0])?;
+    notes(
         out,
-        b"detunings too many",
-        held.set_tuning(&[1], &[69], &[1.0, 1.0]),
+        "detuning first",
+        &held,
+        &[1, 1],
+        &[69, 501],
+        &[nan, 1.0],
     )?;
-    done(
+    notes(out, "below 0.5", &held, &[1], &[69], &[0.49999999999999994])?;
+    notes(out, "above 2", &held, &[1], &[69], &[2.0000000000000004])?;
+    notes(out, "0.5 and 2", &held, &[1, 2], &[-300, 500], &[0.5, 2.0])?;
+    notes(
         out,
-        b"note 501 first",
-        held.set_tuning(&[1, 1], &[501, 69], &[nan, 1.0]),
+        "key twice",
+        &held,
+        &[1, 2, 1, 3],
+        &[69, 69, 69, 501],
+        &[1.0, 1.0, 1.0, 1.0],
     )?;
-    done(out, b"note -301", held.set_tuning(&[1], &[-301], &[1.0]))?;
-    done(
+    pitches(out, "pitches too few", &held, &[1, 2], &[440.0])?;
+    pitches(out, "pitch first", &held, &[1, 1, 2], &[440.0, 0.0, 440.0])?;
+    let still = pitches(
         out,
-        b"detuning first",
-        held.set_tuning(&[1, 1], &[69, 501], &[nan, 1.0]),
+        "pitch twice",
+        &held,
+        &[1, 2, 2],
+        &[440.0, 440.0, 440.0],
     )?;
-    done(
-        out,
-        b"below 0.5",
-        held.set_tuning(&[1], &[69], &[0.49999999999999994]),
-    )?;
-    done(
-        out,
-        b"above 2",
-        held.set_tuning(&[1], &[69], &[2.0000000000000004]),
-    )?;
-    done(
-        out,
-        b"0.5 and 2",
-        held.set_tuning(&[1, 2], &[-300, 500], &[0.5, 2.0]),
-    )?;
-    done(
-        out,
-        b"key twice",
-        held.set_tuning(&[1, 2, 1, 3], &[69, 69, 69, 501], &[1.0, 1.0, 1.0, 1.0]),
-    )?;
-    done(
-        out,
-        b"pitches too few",
-        held.set_tuning_of_pitches(&[1, 2], &[440.0]),
-    )?;
-    done(
-        out,
-        b"pitch first",
-        held.set_tuning_of_pitches(&[1, 1, 2], &[440.0, 0.0, 440.0]),
-    )?;
-    let still = done(
-        out,
-        b"pitch twice",
-        held.set_tuning_of_pitches(&[1, 2, 2], &[440.0, 440.0, 440.0]),
-    )?;
-    key(out, still, 1)?;
-    key(out, still, 2)
+    key(out, &still, 1)?;
+    key(out, &still, 2)
 }
 
 // What fits sixteen channels, by its count of lines.
-fn full_lists(out: &mut impl Write, all: AotTuningModel) -> io::Result<()> {
-    full(out, b"0 lines", all, 0, 1.0)?;
-    full(out, b"1 line", all, 1, 1.0)?;
-    full(out, b"16 channels", all, 16, 1.00001)?;
-    full(out, b"17 channels", all, 17, 1.00001)?;
-    full(out, b"255 lines", all, 255, 1.0)?;
-    let m = full(out, b"256 lines", all, 256, 1.0)?;
-    key(out, m, 255)?;
-    full(out, b"257 lines", m, 257, 1.0)?;
-    full(out, b"256 channels", m, 256, 1.00001)?;
+fn full_lists(out: &mut impl Write, all: &AotTuningModel) -> io::Result<()> {
+    full(out, "0 lines", all, 0, 1.0)?;
+    full(out, "1 line", all, 1, 1.0)?;
+    full(out, "16 channels", all, 16, 1.00001)?;
+    full(out, "17 channels", all, 17, 1.00001)?;
+    full(out, "255 lines", all, 255, 1.0)?;
+    let m = full(out, "256 lines", all, 256, 1.0)?;
+    key(out, &m, 255)?;
+    full(out, "257 lines", &m, 257, 1.0)?;
+    full(out, "256 channels", &m, 256, 1.00001)?;
     Ok(())
 }
 
 // Every kind of list, what is planned for its channels, and full lists for sixteen.
 fn plans(out: &mut impl Write) -> io::Result<()> {
-    let note = opened(out, b"note groups", &[3, 4], GroupBy::Note)?;
-    let letter = opened(out, b"letter groups", &[5, 6, 7], GroupBy::NoteLetter)?;
-    let channel = opened(out, b"channel groups", &[0, 9, 2, 15], GroupBy::Channel)?;
-    let none = opened(out, b"no channels", &[], GroupBy::Channel)?;
-    opened(out, b"channel 16", &[0, 16, 0], GroupBy::Channel)?;
-    opened(out, b"channel twice", &[0, 1, 0, 16], GroupBy::Channel)?;
+    let note = opened(out, "note groups", &[3, 4], GroupBy::Note)?;
+    let letter = opened(out, "letter groups", &[5, 6, 7], GroupBy::NoteLetter)?;
+    let channel = opened(out, "channel groups", &[0, 9, 2, 15], GroupBy::Channel)?;
+    let none = opened(out, "no channels", &[], GroupBy::Channel)?;
+    opened(out, "channel 16", &[0, 16, 0], GroupBy::Channel)?;
+    opened(out, "channel twice", &[0, 1, 0, 16], GroupBy::Channel)?;
     let all = opened(
         out,
-        b"all channels",
+        "all channels",
         &[0, 1, 2, 3, 4, 5, 6, 7, 8, 9, 10, 11, 12, 13, 14, 15],
         GroupBy::Channel,
     )?;
-    examples(out, channel)?;
-    kinds(out, note)?;
-    kinds(out, letter)?;
-    kinds(out, channel)?;
-    refusals(out, none)?;
-    refusals(out, channel)?;
-    full_lists(out, all)
+    examples(out, &channel)?;
+    kinds(out, &note)?;
+    kinds(out, &letter)?;
+    kinds(out, &channel)?;
+    refusals(out, &none)?;
+    refusals(out, &channel)?;
+    full_lists(out, &all)
 }
 
 fn main(rt: HostRuntime) -> io::Result<()> {

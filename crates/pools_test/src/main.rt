@@ -1,368 +1,279 @@
-// Replays document 01's examples 11 and 12, every pooling mode, letter pools, zero channels and the refusals, and writes what it found.
+// Plays pools: a channel freed and taken again, one stolen, every pooling mode, letter pools, zero channels, the refusals, calls by value, and a model of no sense.
+// Writes what each call answers.
 #![tactic(auto)]
 
 use arithmetic::pitch::Pitch;
-use channels::keys::{AccessKeyResult, NextKey};
-use channels::list::{ChannelList, ChannelsAnswer, EntryAnswer, present};
-use channels::tuning_value::TuningKind;
-use models::jit::JitTuningModel;
-use pools::block::{
-    PoolGroupBy, PoolingMode, RegisterKeyResult, RepitchKeyResult, StoppedNote, access_key,
-    allocate_key, deregister_all, deregister_key, register_key, register_note,
-};
-use pools::cells::CELLS;
+use arithmetic::refusal::Refusal;
+use channels::keys::{HeldKey, Place};
+use pools::jit::{JitTuningModel, PoolGroupBy, PoolingMode, Registered};
+use show::Bits;
 use std::io;
 use std::io::{BufWriter, Write};
 
-fn place(out: &mut impl Write, channel: u8, note: i32) -> io::Result<()> {
-    show::word(out, b": channel")?;
-    show::number(out, channel as u64)?;
-    show::word(out, b", note")?;
-    show::signed(out, note)
+fn found(out: &mut impl Write, place: Place) -> io::Result<()> {
+    write!(
+        out,
+        ": channel {}, note {}",
+        place.channel,
+        place.note.number()
+    )
 }
 
-fn stopped(out: &mut impl Write, note: StoppedNote) -> io::Result<()> {
-    match note {
-        StoppedNote::Note(note) => {
-            show::word(out, b", stops note")?;
-            show::signed(out, note)
-        }
-        StoppedNote::Nothing => Ok(()),
+fn accessed(out: &mut impl Write, place: Option<Place>) -> io::Result<()> {
+    match place {
+        Some(place) => found(out, place)?,
+        None => write!(out, ": not found")?,
     }
+    writeln!(out)
 }
 
-fn ratio(out: &mut impl Write, detuning: f64) -> io::Result<()> {
-    show::word(out, b", detuning")?;
-    show::float(out, detuning)
-}
-
-fn refused(out: &mut impl Write, n: u8) -> io::Result<()> {
-    show::word(out, b":")?;
-    show::refusal(out, n)
-}
-
-fn access(out: &mut impl Write, res: AccessKeyResult) -> io::Result<()> {
-    match res {
-        AccessKeyResult::Found {
-            channel,
-            found_note,
-        } => place(out, channel, found_note),
-        AccessKeyResult::NotFound => show::word(out, b": not found"),
-    }
-}
-
-// What is done with a key.
-fn action(out: &mut impl Write, what: &[u8], key: u8) -> io::Result<()> {
-    show::word(out, what)?;
-    show::number(out, key as u64)
-}
-
-fn press(
+fn pressed(
     out: &mut impl Write,
-    model: JitTuningModel,
-    key: u8,
-    hz: f64,
-) -> io::Result<JitTuningModel> {
-    action(out, b"  press", key)?;
-    let registered = model.register_key(key, Pitch::from_hz(hz));
-    let result = registered.result;
-    pressed(out, result)?;
-    Ok(registered.model)
-}
-
-fn pressed(out: &mut impl Write, res: RegisterKeyResult) -> io::Result<()> {
-    match res {
-        RegisterKeyResult::Accepted {
-            channel,
-            stopped_note,
-            started_note,
-            detuning,
-        } => {
-            place(out, channel, started_note)?;
-            stopped(out, stopped_note)?;
-            ratio(out, detuning)?;
-        }
-        RegisterKeyResult::Rejected => show::word(out, b": rejected")?,
-        RegisterKeyResult::Refused(n) => refused(out, n)?,
+    answer: Result<Option<Registered>, Refusal>,
+) -> io::Result<()> {
+    match answer {
+        Ok(Some(press)) => accepted(out, press),
+        Ok(None) => writeln!(out, ": rejected"),
+        Err(refusal) => writeln!(out, ": R{}", refusal.number()),
     }
-    show::word(out, b"\n")
 }
 
-fn release(out: &mut impl Write, model: JitTuningModel, key: u8) -> io::Result<JitTuningModel> {
-    action(out, b"  release", key)?;
-    let deregistered = model.deregister_key(key);
-    let result = deregistered.result;
-    access(out, result)?;
-    show::word(out, b"\n")?;
-    Ok(deregistered.model)
+fn accepted(out: &mut impl Write, press: Registered) -> io::Result<()> {
+    let place = Place {
+        channel: press.channel,
+        note: press.started_note,
+    };
+    found(out, place)?;
+    if let Some(note) = press.stopped_note {
+        write!(out, ", stops note {}", note.number())?;
+    }
+    writeln!(out, ", detuning {}", Bits(press.detuning))
 }
 
-fn look(out: &mut impl Write, model: JitTuningModel, key: u8) -> io::Result<()> {
-    action(out, b"  lookup", key)?;
-    let result = model.access_key(key);
-    access(out, result)?;
-    show::word(out, b"\n")
+fn press(out: &mut impl Write, model: &mut JitTuningModel, key: u8, hz: f64) -> io::Result<()> {
+    write!(out, "  press {key}")?;
+    pressed(out, model.register_key(key, Pitch::from_hz(hz)))
 }
 
-fn repitch(out: &mut impl Write, model: JitTuningModel, key: u8, hz: f64) -> io::Result<()> {
-    action(out, b"  repitch", key)?;
+fn release(out: &mut impl Write, model: &mut JitTuningModel, key: u8) -> io::Result<()> {
+    write!(out, "  release {key}")?;
+    accessed(out, model.deregister_key(key))
+}
+
+fn look(out: &mut impl Write, model: &JitTuningModel, key: u8) -> io::Result<()> {
+    write!(out, "  lookup {key}")?;
+    accessed(out, model.access_key(key))
+}
+
+fn repitch(out: &mut impl Write, model: &JitTuningModel, key: u8, hz: f64) -> io::Result<()> {
+    write!(out, "  repitch {key}")?;
     match model.repitch_key(key, Pitch::from_hz(hz)) {
-        RepitchKeyResult::Found {
-            channel,
-            found_note,
-            detuning,
-        } => {
-            place(out, channel, found_note)?;
-            ratio(out, detuning)?;
+        Ok(Some(repitched)) => {
+            found(out, repitched.place)?;
+            writeln!(out, ", detuning {}", Bits(repitched.detuning))
         }
-        RepitchKeyResult::NotFound => show::word(out, b": not found")?,
-        RepitchKeyResult::Refused(n) => refused(out, n)?,
+        Ok(None) => writeln!(out, ": not found"),
+        Err(refusal) => writeln!(out, ": R{}", refusal.number()),
     }
-    show::word(out, b"\n")
 }
 
-fn found(out: &mut impl Write, what: &[u8], key: u16) -> io::Result<()> {
-    show::word(out, what)?;
-    show::number(out, key as u64)
+fn held(out: &mut impl Write, key: HeldKey) -> io::Result<()> {
+    write!(out, " {}", key.key)?;
+    found(out, key.place)
 }
 
-// The first two found keys, and the model after all are released.
-fn stop(out: &mut impl Write, model: JitTuningModel) -> io::Result<JitTuningModel> {
-    show::word(out, b"  found")?;
+// The first two found keys, and then all are released.
+fn stop(out: &mut impl Write, model: &mut JitTuningModel) -> io::Result<()> {
+    write!(out, "  found")?;
     match model.next_key(0) {
-        NextKey::Held { key, channel, note } => {
-            found(out, b"", key)?;
-            place(out, channel, note)?;
-            match model.next_key(key as usize + 1) {
-                NextKey::Held { key, channel, note } => {
-                    found(out, b";", key)?;
-                    place(out, channel, note)?;
-                }
-                NextKey::NoMore => show::word(out, b"; no more")?,
+        Some(first) => {
+            held(out, first)?;
+            write!(out, ";")?;
+            match model.next_key(first.key as usize + 1) {
+                Some(second) => held(out, second)?,
+                None => write!(out, " no more")?,
             }
         }
-        NextKey::NoMore => show::word(out, b" none")?,
+        None => write!(out, " none")?,
     }
-    show::word(out, b"; all stopped\n")?;
-    Ok(model.stop())
+    writeln!(out, "; all stopped")?;
+    model.stop();
+    Ok(())
 }
 
 fn open(
     out: &mut impl Write,
-    name: &[u8],
+    name: &str,
     channels: &[u8],
     group_by: PoolGroupBy,
     pooling_mode: PoolingMode,
 ) -> io::Result<JitTuningModel> {
-    show::word(out, name)?;
-    let opened = JitTuningModel::open(channels, group_by, pooling_mode);
-    let answer = opened.answer;
+    let (model, answer) = JitTuningModel::open(channels, group_by, pooling_mode);
     match answer {
-        ChannelsAnswer::Listed(list) => {
-            action(out, b": channels", list.len())?;
+        Ok(list) => {
+            write!(out, "{name}: channels {}", list.len())?;
             match list.entry(1) {
-                EntryAnswer::Channel(c) => action(out, b", channel 1 is MIDI channel", c)?,
-                EntryAnswer::NoEntry => show::word(out, b", no channel 1")?,
+                Some(channel) => writeln!(out, ", channel 1 is MIDI channel {channel}")?,
+                None => writeln!(out, ", no channel 1")?,
             }
         }
-        ChannelsAnswer::Refused(n) => refused(out, n)?,
+        Err(refusal) => writeln!(out, "{name}: R{}", refusal.number())?,
     }
-    show::word(out, b"\n")?;
-    Ok(opened.model)
+    Ok(model)
+}
+
+// A pool of channels 0 and 1.
+fn of_two(
+    out: &mut impl Write,
+    name: &str,
+    pooling_mode: PoolingMode,
+) -> io::Result<JitTuningModel> {
+    open(out, name, &[0, 1], PoolGroupBy::Channel, pooling_mode)
 }
 
 fn examples(out: &mut impl Write) -> io::Result<()> {
-    let model = open(
+    let mut model = open(
         out,
-        b"example 11",
+        "example 11",
         &[4, 9],
         PoolGroupBy::Channel,
         PoolingMode::Block,
     )?;
-    let model = press(out, model, 1, 440.0)?;
-    let model = release(out, model, 1)?;
-    press(out, model, 2, 440.0)?;
-    let model = open(
-        out,
-        b"example 12",
-        &[0, 1],
-        PoolGroupBy::Channel,
-        PoolingMode::Stop,
-    )?;
-    let model = press(out, model, 1, 440.0)?;
-    let model = press(out, model, 2, 455.0)?;
-    let model = press(out, model, 3, 880.0)?;
-    look(out, model, 1)?;
-    release(out, model, 1)?;
-    Ok(())
+    press(out, &mut model, 1, 440.0)?;
+    release(out, &mut model, 1)?;
+    press(out, &mut model, 2, 440.0)?;
+    let mut model = of_two(out, "example 12", PoolingMode::Stop)?;
+    press(out, &mut model, 1, 440.0)?;
+    press(out, &mut model, 2, 455.0)?;
+    press(out, &mut model, 3, 880.0)?;
+    look(out, &model, 1)?;
+    release(out, &mut model, 1)
 }
 
 fn block(out: &mut impl Write) -> io::Result<()> {
-    let model = open(
-        out,
-        b"block",
-        &[0, 1],
-        PoolGroupBy::Channel,
-        PoolingMode::Block,
-    )?;
-    let model = press(out, model, 1, 440.0)?;
-    let model = press(out, model, 2, 450.0)?;
-    let model = press(out, model, 3, 460.0)?;
-    let model = release(out, model, 1)?;
-    let model = press(out, model, 3, 460.0)?;
-    let model = stop(out, model)?;
-    let model = press(out, model, 4, 440.0)?;
-    look(out, model, 4)
+    let mut model = of_two(out, "block", PoolingMode::Block)?;
+    press(out, &mut model, 1, 440.0)?;
+    press(out, &mut model, 2, 450.0)?;
+    press(out, &mut model, 3, 460.0)?;
+    release(out, &mut model, 1)?;
+    press(out, &mut model, 3, 460.0)?;
+    stop(out, &mut model)?;
+    press(out, &mut model, 4, 440.0)?;
+    look(out, &model, 4)
 }
 
 fn ignore(out: &mut impl Write) -> io::Result<()> {
-    let model = open(
-        out,
-        b"ignore",
-        &[0, 1],
-        PoolGroupBy::Channel,
-        PoolingMode::Ignore,
-    )?;
-    let model = press(out, model, 1, 440.0)?;
-    let model = press(out, model, 2, 450.0)?;
-    let model = press(out, model, 3, 460.0)?;
-    let model = release(out, model, 1)?;
-    let model = press(out, model, 4, 470.0)?;
-    look(out, model, 2)?;
-    let model = release(out, model, 3)?;
-    press(out, model, 5, 480.0)?;
-    Ok(())
+    let mut model = of_two(out, "ignore", PoolingMode::Ignore)?;
+    press(out, &mut model, 1, 440.0)?;
+    press(out, &mut model, 2, 450.0)?;
+    press(out, &mut model, 3, 460.0)?;
+    release(out, &mut model, 1)?;
+    press(out, &mut model, 4, 470.0)?;
+    look(out, &model, 2)?;
+    release(out, &mut model, 3)?;
+    press(out, &mut model, 5, 480.0)
 }
 
 fn letters(out: &mut impl Write) -> io::Result<()> {
-    let model = open(
+    let mut model = open(
         out,
-        b"letters",
+        "letters",
         &[3],
         PoolGroupBy::NoteLetter,
         PoolingMode::Stop,
     )?;
-    let model = press(out, model, 200, 440.0)?;
-    let model = press(out, model, 201, 450.0)?;
-    let model = press(out, model, 202, 880.0)?;
-    look(out, model, 200)?;
-    let model = press(out, model, 203, 466.0)?;
-    let model = stop(out, model)?;
-    press(out, model, 203, 466.0)?;
-    Ok(())
+    press(out, &mut model, 200, 440.0)?;
+    press(out, &mut model, 201, 450.0)?;
+    press(out, &mut model, 202, 880.0)?;
+    look(out, &model, 200)?;
+    press(out, &mut model, 203, 466.0)?;
+    stop(out, &mut model)?;
+    press(out, &mut model, 203, 466.0)
+}
+
+// A press in a pool of such channels.
+fn one_press(
+    out: &mut impl Write,
+    name: &str,
+    channels: &[u8],
+    group_by: PoolGroupBy,
+    pooling_mode: PoolingMode,
+) -> io::Result<()> {
+    let mut model = open(out, name, channels, group_by, pooling_mode)?;
+    press(out, &mut model, 1, 440.0)
 }
 
 fn no_channels(out: &mut impl Write) -> io::Result<()> {
-    let model = open(
+    one_press(
         out,
-        b"no channels",
+        "no channels",
         &[],
         PoolGroupBy::Channel,
         PoolingMode::Stop,
     )?;
-    press(out, model, 1, 440.0)?;
-    let model = open(
+    one_press(
         out,
-        b"refused channels",
+        "refused channels",
         &[2, 16, 2],
         PoolGroupBy::NoteLetter,
         PoolingMode::Ignore,
     )?;
-    press(out, model, 1, 440.0)?;
-    let model = open(
+    one_press(
         out,
-        b"repeated channels",
+        "repeated channels",
         &[2, 3, 2, 16],
         PoolGroupBy::Channel,
         PoolingMode::Block,
-    )?;
-    press(out, model, 1, 440.0)?;
-    Ok(())
+    )
 }
 
 fn refusals(out: &mut impl Write) -> io::Result<()> {
-    let model = open(
-        out,
-        b"refusals",
-        &[0, 1],
-        PoolGroupBy::Channel,
-        PoolingMode::Stop,
-    )?;
-    let model = press(out, model, 1, 440.0)?;
-    let model = press(out, model, 1, 440.0)?;
-    let model = press(out, model, 1, 0.0)?;
-    let model = press(out, model, 2, -440.0)?;
-    repitch(out, model, 1, 220.0)?;
-    repitch(out, model, 1, 1.0e30)?;
-    repitch(out, model, 2, 440.0)?;
-    repitch(out, model, 2, 0.0)?;
-    look(out, model, 1)
+    let mut model = of_two(out, "refusals", PoolingMode::Stop)?;
+    press(out, &mut model, 1, 440.0)?;
+    press(out, &mut model, 1, 440.0)?;
+    press(out, &mut model, 1, 0.0)?;
+    press(out, &mut model, 2, -440.0)?;
+    repitch(out, &model, 1, 220.0)?;
+    repitch(out, &model, 1, 1.0e30)?;
+    repitch(out, &model, 2, 440.0)?;
+    repitch(out, &model, 2, 0.0)?;
+    look(out, &model, 1)
 }
 
-// What is done with a block that is held here.
-fn look_in(out: &mut impl Write, cells: &[u16; CELLS], key: u8) -> io::Result<()> {
-    action(out, b"  lookup", key)?;
-    access(out, access_key(cells, key))?;
-    show::word(out, b"\n")
-}
-
-fn would_press(out: &mut impl Write, cells: &[u16; CELLS], key: u8, hz: f64) -> io::Result<()> {
-    action(out, b"  would press", key)?;
-    pressed(out, allocate_key(cells, key, Pitch::from_hz(hz)))
-}
-
-fn press_in(out: &mut impl Write, cells: &mut [u16; CELLS], key: u8, hz: f64) -> io::Result<()> {
-    action(out, b"  press", key)?;
-    pressed(out, register_key(cells, key, Pitch::from_hz(hz)))
+fn would_press(out: &mut impl Write, model: &JitTuningModel, key: u8, hz: f64) -> io::Result<()> {
+    write!(out, "  would press {key}")?;
+    pressed(out, model.allocate_key(key, Pitch::from_hz(hz)))
 }
 
 fn press_note(
     out: &mut impl Write,
-    cells: &mut [u16; CELLS],
+    model: &mut JitTuningModel,
     key: u8,
     note: i32,
 ) -> io::Result<()> {
-    action(out, b"  press", key)?;
-    pressed(out, register_note(cells, key, note, 1.0))
+    write!(out, "  press {key}")?;
+    pressed(out, model.register_note(key, note, 1.0))
 }
 
-fn release_in(out: &mut impl Write, cells: &mut [u16; CELLS], key: u8) -> io::Result<()> {
-    action(out, b"  release", key)?;
-    access(out, deregister_key(cells, key))?;
-    show::word(out, b"\n")
-}
-
-// The same in a block that is held here: what a press would answer changes nothing, and a press for its note is that press. Then a block of no sense.
+// What a press would answer changes nothing, and a press for its note is that press.
 fn in_place(out: &mut impl Write) -> io::Result<()> {
-    show::word(out, b"in place\n")?;
-    let list = present(ChannelList::of(&[0, 1]));
-    let mut cells = [0u16; CELLS];
-    pools::block::open(
-        &mut cells,
-        list,
-        PoolGroupBy::Channel,
-        PoolingMode::Stop,
-        TuningKind::FineTuning,
-    );
-    would_press(out, &cells, 1, 440.0)?;
-    look_in(out, &cells, 1)?;
-    press_note(out, &mut cells, 1, 69)?;
-    look_in(out, &cells, 1)?;
-    would_press(out, &cells, 1, 440.0)?;
-    press_note(out, &mut cells, 1, 69)?;
-    press_note(out, &mut cells, 2, 501)?;
-    press_in(out, &mut cells, 2, 450.0)?;
-    would_press(out, &cells, 3, 460.0)?;
-    press_in(out, &mut cells, 3, 460.0)?;
-    look_in(out, &cells, 1)?;
-    release_in(out, &mut cells, 2)?;
-    deregister_all(&mut cells);
-    look_in(out, &cells, 3)?;
-    let mut noise = [65535u16; CELLS];
-    look_in(out, &noise, 255)?;
-    press_in(out, &mut noise, 255, 440.0)?;
-    deregister_all(&mut noise);
-    look_in(out, &noise, 255)
+    writeln!(out, "in place")?;
+    let (mut model, _) =
+        JitTuningModel::open(&[0, 1], PoolGroupBy::Channel, PoolingMode::Stop);
+    would_press(out, &model, 1, 440.0)?;
+    look(out, &model, 1)?;
+    press_note(out, &mut model, 1, 69)?;
+    look(out, &model, 1)?;
+    would_press(out, &model, 1, 440.0)?;
+    press_note(out, &mut model, 1, 69)?;
+    press_note(out, &mut model, 2, 501)?;
+    press(out, &mut model, 2, 450.0)?;
+    would_press(out, &model, 3, 460.0)?;
+    press(out, &mut model, 3, 460.0)?;
+    look(out, &model, 1)?;
+    release(out, &mut model, 2)?;
+    model.stop();
+    look(out, &model, 3)
 }
 
 fn main(rt: HostRuntime) -> io::Result<()> {

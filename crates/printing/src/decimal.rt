@@ -1,8 +1,6 @@
 // An f64 in decimal: exact where it ends within six digits behind the point, else cut off and followed by three points. A number that is no whole number of
 // 2^-60, or 2^64 or more, is written as a whole number times a power of two, which is exact.
-use show::word;
-use std::io;
-use std::io::Write;
+use std::fmt;
 use std::num::{f64_to_bits_with_nan, nearest_u64_to_f64, saturating_f64_to_u64};
 
 // How many digits are written behind the point.
@@ -17,90 +15,100 @@ const SIGN: u64 = 0x8000_0000_0000_0000;
 
 const FRACTION: u64 = 0x10_0000_0000_0000;
 
-// A number as whole units and 2^-60ths, fewer than 2^60 of these.
+// A number in decimal.
 #[derive(Clone, Copy)]
-enum Parts {
-    Decimal { whole: u64, parts: u64 },
-    // Not such a number.
-    Other,
-}
+pub struct Decimal(pub f64);
 
-pub fn float(out: &mut impl Write, x: f64) -> io::Result<()> {
-    if x == x {
+impl fmt::Display for Decimal {
+    fn fmt<W: fmt::Write>(&self, f: &mut fmt::Formatter<W>) -> fmt::Result {
+        let Decimal(x) = *self;
+        if x != x {
+            return write!(f, "NaN");
+        }
         if f64_to_bits_with_nan(x) < SIGN {
-            word(out, b" ")?;
-            unsigned(out, x)
-        } else {
-            word(out, b" -")?;
-            unsigned(out, -x)
+            return write!(f, "{}", Magnitude(x));
         }
-    } else {
-        word(out, b" NaN")
+        write!(f, "-{}", Magnitude(-x))
     }
 }
 
-fn unsigned(out: &mut impl Write, x: f64) -> io::Result<()> {
-    match parts_of(x) {
-        Parts::Decimal { whole, parts } => {
-            write!(out, "{whole}")?;
-            if 0 < parts {
-                word(out, b".")?;
-                fraction(out, parts)?;
-            }
-            Ok(())
+// A number that is not negative.
+#[derive(Clone, Copy)]
+struct Magnitude(f64);
+
+impl fmt::Display for Magnitude {
+    fn fmt<W: fmt::Write>(&self, f: &mut fmt::Formatter<W>) -> fmt::Result {
+        match parts_of(self.0) {
+            Some((whole, 0)) => write!(f, "{whole}"),
+            Some((whole, parts)) => write!(f, "{whole}.{}", Fraction(parts)),
+            None => write!(f, "{}", Scaled::of(self.0)),
         }
-        Parts::Other => binary(out, x),
     }
 }
 
-// Of a number that is not negative.
-fn parts_of(x: f64) -> Parts {
+// The whole units of a number that is not negative, and its 2^-60ths, fewer than 2^60; nothing where it is no such number.
+fn parts_of(x: f64) -> Option<(u64, u64)> {
     if x < TWO_TO_64 {
         let whole = saturating_f64_to_u64(x);
         let rest = (x - nearest_u64_to_f64(whole)) * TWO_TO_60;
         let parts = saturating_f64_to_u64(rest);
         if nearest_u64_to_f64(parts) == rest {
-            return Parts::Decimal { whole, parts };
+            return Some((whole, parts));
         }
     }
-    Parts::Other
+    None
 }
 
 // The digits of so many 2^-60ths, less than a whole.
-fn fraction(out: &mut impl Write, parts: u64) -> io::Result<()> {
-    let mut rest = parts % 0x1000_0000_0000_0000;
-    let mut i: u64 = 0;
-    while i < DIGITS && 0 < rest {
-        let next = rest * 10;
-        write!(out, "{}", next / 0x1000_0000_0000_0000)?;
-        rest = next % 0x1000_0000_0000_0000;
-        i += 1;
-    }
-    if 0 < rest {
-        word(out, b"...")?;
-    }
-    Ok(())
-}
+#[derive(Clone, Copy)]
+struct Fraction(u64);
 
-// A number that is not negative, as a whole number times a power of two.
-fn binary(out: &mut impl Write, x: f64) -> io::Result<()> {
-    let bits = f64_to_bits_with_nan(x);
-    let exponent = bits / FRACTION % 2048;
-    let fraction = bits % FRACTION;
-    if exponent == 2047 {
-        word(out, b"infinity")
-    } else if exponent == 0 {
-        scaled(out, fraction, 1)
-    } else {
-        scaled(out, fraction + FRACTION, exponent)
+impl fmt::Display for Fraction {
+    fn fmt<W: fmt::Write>(&self, f: &mut fmt::Formatter<W>) -> fmt::Result {
+        let mut rest = self.0 % 0x1000_0000_0000_0000;
+        for _ in 0..DIGITS {
+            if rest == 0 {
+                break;
+            }
+            let next = rest * 10;
+            write!(f, "{}", next / 0x1000_0000_0000_0000)?;
+            rest = next % 0x1000_0000_0000_0000;
+        }
+        if 0 < rest {
+            write!(f, "...")?;
+        }
+        Ok(())
     }
 }
 
-// A whole number times 2^(exponent - 1075).
-fn scaled(out: &mut impl Write, whole: u64, exponent: u64) -> io::Result<()> {
-    if exponent < 1075 {
-        write!(out, "{whole} x 2^-{}", 1075 - exponent)
-    } else {
-        write!(out, "{whole} x 2^{}", exponent - 1075)
+// A number that is not negative, as a whole number times 2^(exponent - 1075); nothing for infinity.
+#[derive(Clone, Copy)]
+struct Scaled(Option<(u64, u64)>);
+
+impl Scaled {
+    fn of(x: f64) -> Scaled {
+        let bits = f64_to_bits_with_nan(x);
+        let exponent = bits / FRACTION % 2048;
+        let fraction = bits % FRACTION;
+        match exponent {
+            2047 => Scaled(None),
+            0 => Scaled(Some((fraction, 1))),
+            _ => Scaled(Some((fraction + FRACTION, exponent))),
+        }
+    }
+}
+
+impl fmt::Display for Scaled {
+    fn fmt<W: fmt::Write>(&self, f: &mut fmt::Formatter<W>) -> fmt::Result {
+        match self.0 {
+            Some((whole, exponent)) => {
+                if exponent < 1075 {
+                    write!(f, "{whole} x 2^-{}", 1075 - exponent)
+                } else {
+                    write!(f, "{whole} x 2^{}", exponent - 1075)
+                }
+            }
+            None => write!(f, "infinity"),
+        }
     }
 }

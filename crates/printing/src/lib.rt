@@ -1,5 +1,4 @@
-// What the program `examples` prints with, over `show`: the engine's answers in words, and an f64 in decimal. Each function takes what it writes to, and its
-// error is that a write failed.
+// What the program `examples` prints with: the engine's answers in words, and an f64 in decimal.
 #![tactic(auto)]
 
 pub mod answers;

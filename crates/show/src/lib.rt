@@ -1,54 +1,46 @@
-// What the test programs write: words, numbers, refusals and the bits of an f64, each number behind a space. Each function takes what it writes to, and
-// its error is that a write failed.
+// What the test programs print with: an f64 by its bits, a call's answer or its refusal by its number, what there is or a dash.
 #![tactic(auto)]
 
-ghost use Rattle.std.specs.Prelude.{◌≡◌, nat_abs};
+use arithmetic::refusal::Refusal;
+use std::fmt;
 
-use std::io;
-use std::io::Write;
+// An f64 by its sixteen hexadecimal digits, or NaN.
+#[derive(Clone, Copy)]
+pub struct Bits(pub f64);
 
-pub fn word<W: Write>(out: &mut W, text: &[u8]) -> io::Result<()> {
-    out.write_all(text)
-}
-
-pub fn number<W: Write>(out: &mut W, n: u64) -> io::Result<()> {
-    write!(out, " {n}")
-}
-
-pub fn signed<W: Write>(out: &mut W, n: i32) -> io::Result<()> {
-    long(out, n as i64)
-}
-
-pub fn long<W: Write>(out: &mut W, n: i64) -> io::Result<()> {
-    if n < 0 {
-        write!(out, " -{}", magnitude(n))
-    } else {
-        number(out, magnitude(n))
+impl fmt::Display for Bits {
+    fn fmt<W: fmt::Write>(&self, f: &mut fmt::Formatter<W>) -> fmt::Result {
+        let Bits(x) = *self;
+        if x == x {
+            write!(f, "{:016x}", x.to_bits())
+        } else {
+            write!(f, "NaN")
+        }
     }
 }
 
-// The number without its sign.
-fn magnitude(n: i64) -> u64
-    ensures { result ≡ nat_abs n }
-{
-    n.unsigned_abs()
+// What a call answers, or its refusal by its number, as R4.
+#[derive(Clone, Copy)]
+pub struct Answer<T>(pub Result<T, Refusal>);
+
+impl<T: fmt::Display> fmt::Display for Answer<T> {
+    fn fmt<W: fmt::Write>(&self, f: &mut fmt::Formatter<W>) -> fmt::Result {
+        match &self.0 {
+            Ok(answer) => write!(f, "{answer}"),
+            Err(refusal) => write!(f, "R{}", refusal.number()),
+        }
+    }
 }
 
-// Two hexadecimal digits.
-pub fn byte<W: Write>(out: &mut W, n: u8) -> io::Result<()> {
-    write!(out, " {n:02x}")
-}
+// What there is, or a dash.
+#[derive(Clone, Copy)]
+pub struct OrDash<T>(pub Option<T>);
 
-// A refusal by its number, as R4.
-pub fn refusal<W: Write>(out: &mut W, n: u8) -> io::Result<()> {
-    write!(out, " R{n}")
-}
-
-// The sixteen hexadecimal digits of an f64, or NaN.
-pub fn float<W: Write>(out: &mut W, x: f64) -> io::Result<()> {
-    if x == x {
-        write!(out, " {:016x}", x.to_bits())
-    } else {
-        word(out, b" NaN")
+impl<T: fmt::Display> fmt::Display for OrDash<T> {
+    fn fmt<W: fmt::Write>(&self, f: &mut fmt::Formatter<W>) -> fmt::Result {
+        match &self.0 {
+            Some(x) => write!(f, "{x}"),
+            None => write!(f, "-"),
+        }
     }
 }

@@ -1,24 +1,20 @@
 // Whole passages on the plan tuner: both tuning kinds, both kinds of list, notes without a number, keys that are not in the plan, messages to all, `stop`,
-// and every refusal. Each call that sends bytes is first made with a buffer one byte short, and the tuner looked at that it then hands back.
+// and every refusal. Each call that sends bytes is first made with a buffer one byte short, and the tuner looked at thereafter.
 
-ghost use Rattle.std.specs.Prelude.{◌≤◌};
-
-use crate::shown::{action, refused, written};
-use channels::keys::AccessKeyResult;
-use channels::list::ChannelsAnswer;
+use crate::shown::{Played, play, sent, written};
+use arithmetic::refusal::Refusal;
+use channels::keys::Place;
 use channels::tuning_value::TuningKind;
-use plan_tuner::aot::{AotTuner, PlanSent, Tuned};
-use senders::midi::{ChannelMessageType, Sent};
+use plan_tuner::aot::{AotTuner, PlanSent};
+use plans::lists::{NoteLists, PitchLists};
+use senders::midi::ChannelMessageType;
 use std::io;
 use std::io::Write;
-
-// Sixteen channels take 192 bytes.
-const ROOM: usize = 200;
 
 // ---- the calls
 
 #[derive(Clone, Copy)]
-enum Call {
+pub enum Call {
     // A list by its number.
     Set(u8),
     On { key: u8, velocity: u8 },
@@ -29,254 +25,192 @@ enum Call {
 }
 
 #[derive(Clone, Copy)]
-enum Answer {
-    Planned(PlanSent),
-    Other(Sent),
+pub enum Answer {
+    Planned(Result<PlanSent, Refusal>),
+    Other(Result<usize, Refusal>),
 }
 
-#[derive(Clone, Copy)]
-struct Played {
-    answer: Answer,
-    tuner: AotTuner,
-}
+impl Played for AotTuner {
+    type Call = Call;
 
-fn perform(tuner: AotTuner, call: Call, out: &mut [u8]) -> Played {
-    match call {
-        Call::Set(list) => planned(set(tuner, list, out)),
-        Call::On { key, velocity } => kept(tuner, tuner.note_on(key, velocity, out)),
-        Call::Off { key, velocity } => kept(tuner, tuner.note_off(key, velocity, out)),
-        Call::Attr { key, pressure } => kept(tuner, tuner.note_attr(key, pressure, out)),
-        Call::All(message) => kept(tuner, tuner.global_attr(message, out)),
-        Call::Stop => kept(tuner, tuner.stop(out)),
+    type Answer = Answer;
+
+    fn perform(&mut self, call: Call, out: &mut [u8]) -> Answer {
+        match call {
+            Call::Set(list) => Answer::Planned(set(self, list, out)),
+            Call::On { key, velocity } => Answer::Other(self.note_on(key, velocity, out)),
+            Call::Off { key, velocity } => Answer::Other(self.note_off(key, velocity, out)),
+            Call::Attr { key, pressure } => Answer::Other(self.note_attr(key, pressure, out)),
+            Call::All(message) => Answer::Other(self.global_attr(message, out)),
+            Call::Stop => Answer::Other(self.stop(out)),
+        }
+    }
+
+    fn count(answer: Answer) -> usize {
+        match answer {
+            Answer::Planned(
+                Ok(
+                    PlanSent::Tuned {
+                        channels: _,
+                        written,
+                    },
+                ),
+            ) => written,
+            Answer::Planned(_) => 0,
+            Answer::Other(sent) => sent.unwrap_or(0),
+        }
+    }
+
+    fn show(answer: Answer, out: &mut impl Write, buffer: &[u8]) -> io::Result<()> {
+        match answer {
+            Answer::Planned(
+                Ok(
+                    PlanSent::Tuned {
+                        channels,
+                        written: count,
+                    },
+                ),
+            ) => {
+                write!(out, " tuned {channels}")?;
+                written(out, count, buffer)
+            }
+            Answer::Planned(Ok(PlanSent::Untuned(channels))) => {
+                write!(out, " untuned {channels}")?;
+                written(out, 0, buffer)
+            }
+            Answer::Planned(Err(refusal)) => sent(out, Err(refusal), buffer),
+            Answer::Other(answer) => sent(out, answer, buffer),
+        }
+    }
+
+    // Whether there is a plan, and where key 5 is.
+    fn show_state(&self, out: &mut impl Write) -> io::Result<()> {
+        let plan = if self.tuned() { "tuned" } else { "no plan" };
+        write!(out, " ({plan}")?;
+        found(out, self.access_key(5))?;
+        write!(out, ")")
     }
 }
 
-fn planned(set: Tuned) -> Played {
-    let answer = set.answer;
-    let tuner = set.tuner;
-    Played {
-        answer: Answer::Planned(answer),
-        tuner,
+fn found(out: &mut impl Write, place: Option<Place>) -> io::Result<()> {
+    match place {
+        Some(place) => write!(out, " {} {}", place.channel, place.note.number()),
+        None => write!(out, " not found"),
     }
 }
 
-fn kept(tuner: AotTuner, sent: Sent) -> Played {
-    Played {
-        answer: Answer::Other(sent),
-        tuner,
-    }
+fn notes(
+    tuner: &mut AotTuner,
+    keys: &[u8],
+    notes: &[i32],
+    detunings: &[f64],
+    out: &mut [u8],
+) -> Result<PlanSent, Refusal> {
+    let lists = NoteLists {
+        keys,
+        notes,
+        detunings,
+    };
+    tuner.set_tuning(&lists, out)
+}
+
+fn pitches(
+    tuner: &mut AotTuner,
+    keys: &[u8],
+    pitches: &[f64],
+    out: &mut [u8],
+) -> Result<PlanSent, Refusal> {
+    tuner.set_tuning(&PitchLists { keys, pitches }, out)
 }
 
 // The lists, those of notes and then those of pitches.
-fn set(tuner: AotTuner, list: u8, out: &mut [u8]) -> Tuned {
-    if list == 0 {
-        return tuner.set_tuning(
+fn set(tuner: &mut AotTuner, list: u8, out: &mut [u8]) -> Result<PlanSent, Refusal> {
+    match list {
+        0 => notes(
+            tuner,
             &[5, 9, 200, 1, 77],
             &[69, 60, -1, 128, 127],
             &[1.0, 1.02, 0.98, 1.0000005, 1.02],
             out,
-        );
-    }
-    // Too many for three channels.
-    if list == 1 {
-        return tuner.set_tuning(
+        ),
+        // Too many for three channels.
+        1 => notes(
+            tuner,
             &[1, 2, 3, 4],
             &[60, 61, 62, 63],
             &[1.0, 1.01, 0.99, 1.02],
             out,
-        );
-    }
-    if list == 2 {
-        return tuner.set_tuning(&[1, 2], &[60], &[1.0, 1.01], out);
-    }
-    if list == 3 {
-        return tuner.set_tuning(&[1, 2, 2], &[60, 501, 60], &[1.0, 3.0, 1.0], out);
-    }
-    if list == 4 {
-        return tuner.set_tuning(&[1, 2, 2], &[60, 500, 60], &[1.0, 3.0, 1.0], out);
-    }
-    if list == 5 {
-        return tuner.set_tuning(&[1, 2, 2], &[60, 500, 60], &[1.0, 2.0, 1.0], out);
-    }
-    if list == 6 {
-        return tuner.set_tuning(&[], &[], &[], out);
-    }
-    if list == 7 {
-        return tuner.set_tuning_of_pitches(&[10, 20, 30], &[440.0, 441.0, 880.0], out);
-    }
-    if list == 8 {
-        return tuner.set_tuning_of_pitches(&[10, 20, 30], &[440.0, 441.0], out);
-    }
-    if list == 9 {
-        return tuner.set_tuning_of_pitches(&[10, 20, 10], &[440.0, 0.0, 880.0], out);
-    }
-    if list == 10 {
-        return tuner.set_tuning_of_pitches(&[10, 20, 10], &[440.0, 441.0, 880.0], out);
-    }
-    // Sixteen detunings of one note.
-    tuner.set_tuning_of_pitches(
-        &[0, 1, 2, 3, 4, 5, 6, 7, 8, 9, 10, 11, 12, 13, 14, 15],
-        &[
-            440.0, 441.0, 442.0, 443.0, 444.0, 445.0, 446.0, 447.0, 448.0, 449.0, 439.0, 438.0,
-            437.0, 436.0, 435.0, 434.0,
-        ],
-        out,
-    )
-}
-
-// Makes a call first one byte short and then with room, and shows both answers, and of the first the tuner that it left.
-fn play(out: &mut impl Write, tuner: AotTuner, call: Call) -> io::Result<AotTuner> {
-    let mut buffer = [0xaau8; ROOM];
-    let played = perform(tuner, call, &mut buffer);
-    let answer = played.answer;
-    let short = short_of(answer);
-    if short < ROOM {
-        try_short(out, tuner, call, short)?;
-    }
-    answered(out, answer, &buffer)?;
-    show::word(out, b"\n")?;
-    Ok(played.tuner)
-}
-
-fn try_short(out: &mut impl Write, tuner: AotTuner, call: Call, room: usize) -> io::Result<()>
-    requires { room ≤ 200 }
-{
-    let mut buffer = [0xaau8; ROOM];
-    try_with(out, tuner, call, &mut buffer[..room])
-}
-
-fn try_with(
-    out: &mut impl Write,
-    tuner: AotTuner,
-    call: Call,
-    buffer: &mut [u8],
-) -> io::Result<()> {
-    let played = perform(tuner, call, buffer);
-    let answer = played.answer;
-    answered(out, answer, buffer)?;
-    state(out, played.tuner)
-}
-
-// Whether there is a plan, and where key 5 is.
-fn state(out: &mut impl Write, tuner: AotTuner) -> io::Result<()> {
-    if tuner.tuned() {
-        show::word(out, b" (tuned")?;
-    } else {
-        show::word(out, b" (no plan")?;
-    }
-    place(out, tuner.access_key(5))?;
-    show::word(out, b")")
-}
-
-fn place(out: &mut impl Write, access: AccessKeyResult) -> io::Result<()> {
-    match access {
-        AccessKeyResult::Found {
-            channel,
-            found_note,
-        } => {
-            show::number(out, channel as u64)?;
-            show::signed(out, found_note)
-        }
-        AccessKeyResult::NotFound => show::word(out, b" not found"),
+        ),
+        2 => notes(tuner, &[1, 2], &[60], &[1.0, 1.01], out),
+        3 => notes(tuner, &[1, 2, 2], &[60, 501, 60], &[1.0, 3.0, 1.0], out),
+        4 => notes(tuner, &[1, 2, 2], &[60, 500, 60], &[1.0, 3.0, 1.0], out),
+        5 => notes(tuner, &[1, 2, 2], &[60, 500, 60], &[1.0, 2.0, 1.0], out),
+        6 => notes(tuner, &[], &[], &[], out),
+        7 => pitches(tuner, &[10, 20, 30], &[440.0, 441.0, 880.0], out),
+        8 => pitches(tuner, &[10, 20, 30], &[440.0, 441.0], out),
+        9 => pitches(tuner, &[10, 20, 10], &[440.0, 0.0, 880.0], out),
+        10 => pitches(tuner, &[10, 20, 10], &[440.0, 441.0, 880.0], out),
+        // Sixteen detunings of one note.
+        _ => pitches(
+            tuner,
+            &[0, 1, 2, 3, 4, 5, 6, 7, 8, 9, 10, 11, 12, 13, 14, 15],
+            &[
+                440.0, 441.0, 442.0, 443.0, 444.0, 445.0, 446.0, 447.0, 448.0, 449.0, 439.0, 438.0,
+                437.0, 436.0, 435.0, 434.0,
+            ],
+            out,
+        ),
     }
 }
 
-// One byte less than a call needs.
-fn short_of(answer: Answer) -> usize {
-    match answer {
-        Answer::Planned(plan) => match plan {
-            PlanSent::Tuned {
-                channels: _,
-                written,
-            } => less(written),
-            PlanSent::Untuned(_) => 0,
-            PlanSent::Refused(_) => 0,
-        },
-        Answer::Other(sent) => match sent {
-            Sent::Written(count) => less(count),
-            Sent::Refused(_) => 0,
-        },
-    }
-}
-
-fn less(count: usize) -> usize {
-    if 0 < count {
-        return count - 1;
-    }
-    0
-}
-
-fn answered(out: &mut impl Write, answer: Answer, buffer: &[u8]) -> io::Result<()> {
-    match answer {
-        Answer::Planned(plan) => match plan {
-            PlanSent::Tuned { channels, written } => {
-                show::word(out, b" tuned")?;
-                show::number(out, channels as u64)?;
-                crate::shown::written(out, written, buffer)
-            }
-            PlanSent::Untuned(channels) => {
-                show::word(out, b" untuned")?;
-                show::number(out, channels as u64)?;
-                written(out, 0, buffer)
-            }
-            PlanSent::Refused(n) => refused(out, n, buffer),
-        },
-        Answer::Other(sent) => match sent {
-            Sent::Written(count) => written(out, count, buffer),
-            Sent::Refused(n) => refused(out, n, buffer),
-        },
-    }
-}
-
-fn tune(out: &mut impl Write, tuner: AotTuner, list: u8) -> io::Result<AotTuner> {
-    action(out, b"  list", list)?;
+fn tune(out: &mut impl Write, tuner: &mut AotTuner, list: u8) -> io::Result<()> {
+    write!(out, "  list {list}:")?;
     play(out, tuner, Call::Set(list))
 }
 
-fn press(out: &mut impl Write, tuner: AotTuner, key: u8, velocity: u8) -> io::Result<()> {
-    action(out, b"  on", key)?;
-    play(out, tuner, Call::On { key, velocity })?;
-    Ok(())
+fn press(out: &mut impl Write, tuner: &mut AotTuner, key: u8, velocity: u8) -> io::Result<()> {
+    write!(out, "  on {key}:")?;
+    play(out, tuner, Call::On { key, velocity })
 }
 
-fn release(out: &mut impl Write, tuner: AotTuner, key: u8, velocity: u8) -> io::Result<()> {
-    action(out, b"  off", key)?;
-    play(out, tuner, Call::Off { key, velocity })?;
-    Ok(())
+fn release(out: &mut impl Write, tuner: &mut AotTuner, key: u8, velocity: u8) -> io::Result<()> {
+    write!(out, "  off {key}:")?;
+    play(out, tuner, Call::Off { key, velocity })
 }
 
-fn pressure(out: &mut impl Write, tuner: AotTuner, key: u8, pressure: u8) -> io::Result<()> {
-    action(out, b"  attr", key)?;
-    play(out, tuner, Call::Attr { key, pressure })?;
-    Ok(())
+fn pressure(out: &mut impl Write, tuner: &mut AotTuner, key: u8, pressure: u8) -> io::Result<()> {
+    write!(out, "  attr {key}:")?;
+    play(out, tuner, Call::Attr { key, pressure })
 }
 
-fn to_all(out: &mut impl Write, tuner: AotTuner, message: ChannelMessageType) -> io::Result<()> {
-    show::word(out, b"  all:")?;
-    play(out, tuner, Call::All(message))?;
-    Ok(())
+fn to_all(
+    out: &mut impl Write,
+    tuner: &mut AotTuner,
+    message: ChannelMessageType,
+) -> io::Result<()> {
+    write!(out, "  all:")?;
+    play(out, tuner, Call::All(message))
 }
 
-fn stop(out: &mut impl Write, tuner: AotTuner) -> io::Result<()> {
-    show::word(out, b"  stop:")?;
-    play(out, tuner, Call::Stop)?;
-    Ok(())
+fn stop(out: &mut impl Write, tuner: &mut AotTuner) -> io::Result<()> {
+    write!(out, "  stop:")?;
+    play(out, tuner, Call::Stop)
 }
 
-fn lookup(out: &mut impl Write, tuner: AotTuner, key: u8) -> io::Result<()> {
-    action(out, b"  key", key)?;
-    place(out, tuner.access_key(key))?;
-    show::word(out, b"\n")
+fn lookup(out: &mut impl Write, tuner: &AotTuner, key: u8) -> io::Result<()> {
+    write!(out, "  key {key}:")?;
+    found(out, tuner.access_key(key))?;
+    writeln!(out)
 }
 
 // ---- the passages
 
 pub fn all(out: &mut impl Write) -> io::Result<()> {
-    show::word(out, b"plan, fine tuning\n")?;
+    writeln!(out, "plan, fine tuning")?;
     passage(out, TuningKind::FineTuning)?;
-    show::word(out, b"plan, bend\n")?;
+    writeln!(out, "plan, bend")?;
     passage(out, TuningKind::Bend)?;
-    show::word(out, b"plan, lists\n")?;
+    writeln!(out, "plan, lists")?;
     started(out, &[])?;
     started(out, &[15, 16])?;
     started(out, &[4, 4, 16])?;
@@ -284,27 +218,28 @@ pub fn all(out: &mut impl Write) -> io::Result<()> {
 }
 
 fn passage(out: &mut impl Write, kind: TuningKind) -> io::Result<()> {
-    let tuner = AotTuner::start(&[3, 15, 0], kind).tuner;
+    let (mut tuner, _) = AotTuner::start(&[3, 15, 0], kind);
+    let tuner = &mut tuner;
     keys(out, tuner)?;
-    let tuner = tune(out, tuner, 0)?;
+    tune(out, tuner, 0)?;
     keys(out, tuner)?;
     messages(out, tuner)?;
     stop(out, tuner)?;
-    let tuner = refusals(out, tuner)?;
+    refusals(out, tuner)?;
     keys(out, tuner)?;
-    let tuner = tune(out, tuner, 1)?;
+    tune(out, tuner, 1)?;
     keys(out, tuner)?;
-    let tuner = tune(out, tuner, 7)?;
+    tune(out, tuner, 7)?;
     lookup(out, tuner, 10)?;
     lookup(out, tuner, 20)?;
     lookup(out, tuner, 30)?;
     press(out, tuner, 20, 1)?;
-    let tuner = tune(out, tuner, 6)?;
+    tune(out, tuner, 6)?;
     lookup(out, tuner, 10)
 }
 
 // Keys of the first list and one that is in none.
-fn keys(out: &mut impl Write, tuner: AotTuner) -> io::Result<()> {
+fn keys(out: &mut impl Write, tuner: &mut AotTuner) -> io::Result<()> {
     lookup(out, tuner, 5)?;
     lookup(out, tuner, 99)?;
     press(out, tuner, 5, 100)?;
@@ -324,18 +259,18 @@ fn keys(out: &mut impl Write, tuner: AotTuner) -> io::Result<()> {
 }
 
 // 12, 4, 3, 5; of pitches 12, 1, 5.
-fn refusals(out: &mut impl Write, tuner: AotTuner) -> io::Result<AotTuner> {
-    let tuner = tune(out, tuner, 2)?;
-    let tuner = tune(out, tuner, 3)?;
-    let tuner = tune(out, tuner, 4)?;
-    let tuner = tune(out, tuner, 5)?;
-    let tuner = tune(out, tuner, 8)?;
-    let tuner = tune(out, tuner, 9)?;
+fn refusals(out: &mut impl Write, tuner: &mut AotTuner) -> io::Result<()> {
+    tune(out, tuner, 2)?;
+    tune(out, tuner, 3)?;
+    tune(out, tuner, 4)?;
+    tune(out, tuner, 5)?;
+    tune(out, tuner, 8)?;
+    tune(out, tuner, 9)?;
     tune(out, tuner, 10)
 }
 
 // Messages to all, of kinds with and without a padding, a bend, and refused ones.
-fn messages(out: &mut impl Write, tuner: AotTuner) -> io::Result<()> {
+fn messages(out: &mut impl Write, tuner: &mut AotTuner) -> io::Result<()> {
     to_all(
         out,
         tuner,
@@ -365,18 +300,12 @@ fn messages(out: &mut impl Write, tuner: AotTuner) -> io::Result<()> {
 // ---- channel lists
 
 fn started(out: &mut impl Write, channels: &[u8]) -> io::Result<()> {
-    show::word(out, b"  start:")?;
-    let opened = AotTuner::start(channels, TuningKind::FineTuning);
-    let answer = opened.answer;
-    match answer {
-        ChannelsAnswer::Listed(list) => show::number(out, list.len() as u64)?,
-        ChannelsAnswer::Refused(n) => show::refusal(out, n)?,
-    }
-    show::word(out, b"\n")?;
-    let tuner = opened.tuner;
-    let tuner = tune(out, tuner, 6)?;
-    let tuner = tune(out, tuner, 7)?;
-    let tuner = tune(out, tuner, 11)?;
-    press(out, tuner, 5, 9)?;
-    lookup(out, tuner, 5)
+    let (mut tuner, answer) = AotTuner::start(channels, TuningKind::FineTuning);
+    let listed = answer.map(|list| list.len());
+    writeln!(out, "  start: {}", show::Answer(listed))?;
+    tune(out, &mut tuner, 6)?;
+    tune(out, &mut tuner, 7)?;
+    tune(out, &mut tuner, 11)?;
+    press(out, &mut tuner, 5, 9)?;
+    lookup(out, &tuner, 5)
 }
