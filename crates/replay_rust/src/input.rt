@@ -3,6 +3,7 @@
 use std::alloc::{AllocError, Global};
 
 // What is still to be read.
+#[derive(Drop)]
 pub struct Input<'a> {
     rest: &'a [u8],
 }
