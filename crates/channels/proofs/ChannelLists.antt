@@ -1,21 +1,23 @@
--- Channel lists: which lists are listed and which are refused, by which number; that what is stored is the list that was given; and that every
--- stored list, however it came about, has at most sixteen entries below 16. Assumes nothing.
+-- Channel lists: which lists are listed and which are refused, by which number; what a stored list has as entries, at most sixteen below 16; and what one
+-- more channel does to it. Assumes nothing.
 use mathlib.Core.Path.{◌≡◌, refl, sym, ap, ◌∙◌}
-use mathlib.Core.Bool.{Bool, true, false}
-use mathlib.Core.List.{List, [], ◌∷◌, ◌++◌, append-nil, append_assoc}
+use mathlib.Core.Bool.{Bool, true, false, ◌||◌}
+use mathlib.Core.List.{List, [], ◌∷◌, ◌++◌, append-nil, append_assoc, map}
 use mathlib.Core.Option.{some, none}
-use Prim.Native.Nat.{ℕ, zero, suc, min, ◌+◌, ◌-◌, ◌*◌, ◌/◌, ◌%◌, ◌^◌, ◌<◌, ◌≤◌}
+use Prim.Native.Nat.{ℕ, zero, suc, min, ◌+◌, ◌%◌, ◌<◌, ◌≤◌}
+use native.Mathlib.Nat.{mod-eq_of_lt}
 use native.Mathlib.Numerals.{add-one}
-use native.Mathlib.Nat.{div-div-eq-div-mul, div-one, mul-suc, add_comm, lt_of_lt_of_le, pow-le-pow_right, pow-suc}
-use lib.Pow.{pow-add}
 use native.Mathlib.Omega.{arith}
 use borrow.Author.Tests.{le-leb, lt-leb, leb-true, leb-false}
-use lib.Dec.{leb}
-use lib.ListN.{length, get_or, get_elem?, take, drop, drop_of_length-le, length-drop}
-use lib.Seq.{drop-cons, take-suc, take_all, get_or-drop}
+use lib.Dec.{leb, eqb}
+use lib.ListN.{length, get_or, get_elem?, take, drop, set, length-append, length-map, length-take, drop_of_length-le}
+use lib.Seq.{drop-cons}
+use Rattle.std.specs.List.{list_any}
+use Rattle.std.proofs.lemmas.List.{take_min, take_more_set, map_push}
 use Rattle.arithmetic.specs.Outcome.{value, refused}
 use Rattle.channels.specs.Lists.{member}
-use Rattle.channels.specs.ChannelList.{list_from, list_rule, digits, entries}
+use Rattle.channels.specs.Places.{channel_of}
+use Rattle.channels.specs.ChannelList.{list_from, list_rule, entries}
 use Rattle.channels.specs.declared.list.ChannelList.{ChannelList}
 use Rattle.channels.proofs.Pigeonhole.{Fresh, pigeonhole}
 
@@ -116,7 +118,7 @@ listed_channels cs l e = go (verdict [] cs)
   where
     go : Verdict [] cs → (l ≡ cs) × Channels [] cs
     go (listed f) = let g = fine_listed [] cs f in (cc, f)
-    go (offended m o) = let g = offence_refused [] cs m o in absurd (let z : ◌≡◌ {A = ℕ} 0 1 = cc in omega arith)
+    go (offended m o) = let g = offence_refused [] cs m o in absurd (cc)
 
 -- ---- so a listed list is short: sixteen different numbers below 16
 
@@ -132,93 +134,90 @@ channels_low before (c ∷ cs) f (suc i) h = channels_low (before ++ (c ∷ []))
 pub channels_few : (cs : List ℕ) → Channels [] cs → length cs ≤ 16
 channels_few cs f = pigeonhole 16 cs (channels_fresh [] cs f) (channels_low [] cs f)
 
--- ---- the loop over the entries: before entry i the rule of all is that of those from i on
+-- ---- the loop over the entries, where the rule of all is that of those from i on behind `es`
 
-module _ (cs : List ℕ) (i : ℕ) (inv : list_rule cs ≡ list_from (take i cs) (drop i cs)) where
+module _ (es cs : List ℕ) (i : ℕ) (rule : list_rule cs ≡ list_from es (drop i cs)) where
   pub over_at : i < length cs → 15 < get_or cs i 0 → refused 6 ≡ list_rule cs
-  over_at h p = sym (inv ∙ rw (drop-cons cs i 0 h) (entry_over (take i cs) (get_or cs i 0) (drop (suc i) cs) p))
+  over_at h p = sym (rule ∙ rw (drop-cons cs i 0 h) (entry_over es (get_or cs i 0) (drop (suc i) cs) p))
 
-  pub twice_at : i < length cs → get_or cs i 0 ≤ 15 → member (get_or cs i 0) (take i cs) ≡ true → refused 7 ≡ list_rule cs
-  twice_at h p e = sym (inv ∙ rw (drop-cons cs i 0 h) (entry_twice (take i cs) (get_or cs i 0) (drop (suc i) cs) p e))
+  pub twice_at : i < length cs → get_or cs i 0 ≤ 15 → member (get_or cs i 0) es ≡ true → refused 7 ≡ list_rule cs
+  twice_at h p e = sym (rule ∙ rw (drop-cons cs i 0 h) (entry_twice es (get_or cs i 0) (drop (suc i) cs) p e))
 
-  pub fine_at : i < length cs → get_or cs i 0 ≤ 15 → member (get_or cs i 0) (take i cs) ≡ false → list_rule cs ≡ list_from (take (i + 1) cs) (drop (i + 1) cs)
-  fine_at h p e = inv ∙ rw (drop-cons cs i 0 h, add-one, take-suc cs i 0 h) (entry_fine (take i cs) (get_or cs i 0) (drop (suc i) cs) p e)
+  pub fine_at : i < length cs → get_or cs i 0 ≤ 15 → member (get_or cs i 0) es ≡ false → list_rule cs ≡ list_from (es ++ (get_or cs i 0 ∷ [])) (drop (i + 1) cs)
+  fine_at h p e = rule ∙ rw (drop-cons cs i 0 h, add-one) (entry_fine es (get_or cs i 0) (drop (suc i) cs) p e)
 
-  pub ended : length cs ≤ i → list_rule cs ≡ value cs
+  pub ended : length cs ≤ i → value es ≡ list_rule cs
   unfolding list_from
-  ended h = inv ∙ rw (drop_of_length-le cs {i = i} h, take_all i cs h)
+  ended h = sym (rule ∙ rw (drop_of_length-le cs {i = i} h))
 
--- ---- the digits
+-- ---- one more entry
 
-unfoldable pub number : List ℕ → ℕ
-number [] = 0
-number (x ∷ l) = number l * 16 + x
+-- to a list that is fine so far
+pub channels_more : (before cs : List ℕ) (c : ℕ) → Channels before cs → c ≤ 15 → member c (before ++ cs) ≡ false → Channels before (cs ++ (c ∷ []))
+channels_more before [] c f h e = (h, rw append-nil at e, tt)
+channels_more before (d ∷ cs) c f h e = (f.0, f.1, channels_more (before ++ (d ∷ [])) cs c f.2 h (rw (append_assoc before (d ∷ []) cs) e))
+
+-- so there is a place for it
+pub channels_room : (cs : List ℕ) (c : ℕ) → Channels [] cs → c ≤ 15 → member c cs ≡ false → length cs < 16
+channels_room cs c f h e = omega (arith, channels_few (cs ++ (c ∷ [])) (channels_more [] cs c f h e), length-append cs (c ∷ []))
+
+-- ---- what is stored
 
 abbrev pub Low : List ℕ → Type 0
 Low l = (i : ℕ) → i < length l → get_or l i 0 < 16
 
-pub number_small : (l : List ℕ) → Low l → number l < 16 ^ length l
-unfolding number
-number_small [] h = omega arith
-number_small (x ∷ l) h =
-    let rest = number_small l (λ i p. h (suc i) (omega arith)) in
-    let here : x < 16 = h 0 (omega arith) in
-    let power : 16 ^ suc (length l) ≡ 16 ^ length l * 16 = pow-suc 16 (length l) in
-    omega arith
+-- channels as they are read: each is below 16, and found and searched in the list as it is
+low_read : (xs : List ℕ) → Low (map channel_of xs)
+low_read [] i h = absurd (omega arith)
+low_read (x ∷ xs) zero h = omega arith
+low_read (x ∷ xs) (suc i) h = low_read xs i (omega arith)
 
--- sixteen digits fill a word
-pub number_word : (l : List ℕ) → Low l → length l ≤ 16 → number l < 2 ^ 64
-number_word l h k = lt_of_lt_of_le (number_small l h) (pow-le-pow_right {n = 16} (omega arith) k)
+read_at : (n : ℕ) (xs : List ℕ) (i : ℕ) → i < length (map channel_of (take n xs)) → some (get_or xs i 0 % 16) ≡ get_elem? (map channel_of (take n xs)) i
+read_at zero xs i h = absurd (omega arith)
+read_at (suc n) [] i h = absurd (omega arith)
+read_at (suc n) (x ∷ xs) zero h = refl
+read_at (suc n) (x ∷ xs) (suc i) h = read_at n xs i (omega arith)
 
-module _ (cs : List ℕ) (low : Low cs) (i : ℕ) where
-  pub low_drop : Low (drop i cs)
-  low_drop j h = rw get_or-drop (low (i + j) (omega (arith, length-drop i cs)))
+read_past : (xs : List ℕ) (i : ℕ) → length xs ≤ i → none ≡ get_elem? xs i
+read_past [] i h = refl
+read_past (x ∷ xs) zero h = absurd (omega arith)
+read_past (x ∷ xs) (suc i) h = read_past xs i (omega arith)
 
-  -- one digit more below those from i on
-  pub number_turn : 0 < i → i ≤ length cs → number (drop (i - 1) cs) ≡ number (drop i cs) * 16 + get_or cs (i - 1) 0
-  unfolding number
-  number_turn p h =
-      let e : suc (i - 1) ≡ i = omega arith in
-      ap number (drop-cons cs (i - 1) 0 (omega arith)) ∙ ap (λ (k : ℕ). number (drop k cs) * 16 + get_or cs (i - 1) 0) e
+read_any : (c : ℕ) (xs : List ℕ) → list_any (λ (n : ℕ). eqb (n % 16) c) xs ≡ member c (map channel_of xs)
+read_any c [] = refl
+read_any c (x ∷ xs) = ap (λ (b : Bool). eqb (x % 16) c || b) (read_any c xs)
 
-pub digits_number : (l : List ℕ) → Low l → digits (length l) (number l) ≡ l
-unfolding number digits
-digits_number [] h = refl
-digits_number (x ∷ l) h =
-    let here : x < 16 = h 0 (omega arith) in
-    let low : (number l * 16 + x) % 16 ≡ x = omega arith in
-    let high : (number l * 16 + x) / 16 ≡ number l = omega arith in
-    rw (low, high, digits_number l (λ i p. h (suc i) (omega arith)))
+module _ (l : ChannelList) where
+  -- Every stored list has at most sixteen entries, each below 16.
+  pub length_entries : length l.channels ≡ 16 → length (entries l) ≡ min l.count 16
+  unfolding entries
+  length_entries h = rw (length-map, length-take, h)
 
-pub length_digits : (n x : ℕ) → length (digits n x) ≡ n
-unfolding digits
-length_digits zero x = refl
-length_digits (suc n) x = ap suc (length_digits n (x / 16))
+  pub entries_few : length l.channels ≡ 16 → length (entries l) ≤ 16
+  entries_few h = omega (arith, length_entries h)
 
--- Every stored list has at most sixteen entries, each below 16.
-pub entries_few : (l : ChannelList) → length (entries l) ≤ 16
-unfolding entries
-entries_few l = omega (arith, length_digits (min l.count 16) l.digits)
+  pub entries_low : Low (entries l)
+  unfolding entries
+  entries_low = low_read (take l.count l.channels)
 
-digits_low : (n x : ℕ) → Low (digits n x)
-unfolding digits
-digits_low zero x i h = absurd (omega arith)
-digits_low (suc n) x zero h = omega arith
-digits_low (suc n) x (suc i) h = digits_low n (x / 16) i (omega arith)
+  pub entry_at : (i : ℕ) → i < length (entries l) → some (get_or l.channels i 0 % 16) ≡ get_elem? (entries l) i
+  unfolding entries
+  entry_at = read_at l.count l.channels
 
-pub entries_low : (l : ChannelList) → Low (entries l)
-unfolding entries
-entries_low l = digits_low (min l.count 16) l.digits
+  pub entry_past : (i : ℕ) → length (entries l) ≤ i → none ≡ get_elem? (entries l) i
+  entry_past = read_past (entries l)
 
-pub digit_at : (n x i : ℕ) → i < n → some (x / 2 ^ (4 * i) % 16) ≡ get_elem? (digits n x) i
-unfolding digits
-digit_at zero x i h = absurd (omega arith)
-digit_at (suc n) x zero h = rw div-one
-digit_at (suc n) x (suc i) h =
-    rw (mul-suc 4 i, add_comm (4 * i) 4, pow-add 2 4 (4 * i), ← (div-div-eq-div-mul x 16 (2 ^ (4 * i)))) (digit_at n (x / 16) i (omega arith))
+  -- a search of so many places
+  pub member_entries : (n c : ℕ) → n ≡ length (entries l) → list_any (λ (k : ℕ). eqb (k % 16) c) (take n l.channels) ≡ member c (entries l)
+  unfolding entries
+  member_entries n c e =
+      let m : n ≡ min l.count (length l.channels) = e ∙ length-map (take l.count l.channels) channel_of ∙ length-take l.count l.channels in
+      rw (m, take_min l.count l.channels) (read_any c (take l.count l.channels))
 
-pub digit_past : (n x i : ℕ) → n ≤ i → none ≡ get_elem? (digits n x) i
-unfolding digits
-digit_past zero x i h = refl
-digit_past (suc n) x zero h = absurd (omega arith)
-digit_past (suc n) x (suc i) h = digit_past n (x / 16) i (omega arith)
+  -- one more is stored behind the others
+  pub entries_more : (c : ℕ) → c ≤ 15 → l.count < length l.channels → entries (record { channels = set l.channels l.count c; count = l.count + 1 }) ≡ entries l ++ (c ∷ [])
+  unfolding entries
+  entries_more c h k =
+      ap (map channel_of) (take_more_set l.channels l.count c k)
+      ∙ map_push channel_of (take l.count l.channels) c
+      ∙ ap (λ (n : ℕ). map channel_of (take l.count l.channels) ++ (n ∷ [])) (mod-eq_of_lt (omega arith))

@@ -235,7 +235,7 @@ below_length (suc m) = ap suc (below_length m)
 
 pub below_member : (m n : ℕ) → n < m → T (member n (below m))
 unfolding below
-below_member zero n h = absurd (let z : ⊥ = omega arith in z)
+below_member zero n h = absurd (omega arith)
 below_member (suc m) n h = elim (outcome (eqb m n)) [
   | passed e ↦ rw e tt
   | failed e ↦ rw e (below_member m n (omega (arith, differ e)))
@@ -259,7 +259,7 @@ below_distinct (suc m) = (absent, below_distinct m)
   where
     absent : T (not (member m (below m)))
     absent = elim (outcome (member m (below m))) [
-      | passed e ↦ let h : m < m = member_below m m (true→T e) in absurd (let z : ⊥ = omega arith in z)
+      | passed e ↦ let h : m < m = member_below m m (true→T e) in absurd (omega arith)
       | failed e ↦ false→T e
     ]
 
@@ -286,10 +286,10 @@ once_exact l m small all =
 
 pub first_rest : (l : List ℕ) (x : ℕ) → first l ≡ some x → l ≡ x ∷ drop 1 l
 unfolding first
-first_rest [] x e = let z : ◌≡◌ {A = ℕ} 0 1 = cc in absurd (omega arith)
+first_rest [] x e = absurd (cc)
 first_rest (y ∷ l) x e = let z : y ≡ x = cc in ap (λ (k : ℕ). k ∷ l) z
 
 pub first_none : (l : List ℕ) → first l ≡ none → l ≡ []
 unfolding first
 first_none [] e = refl
-first_none (y ∷ l) e = let z : ◌≡◌ {A = ℕ} 0 1 = cc in absurd (omega arith)
+first_none (y ∷ l) e = absurd (cc)

@@ -1,23 +1,31 @@
--- A key's record as a number. Assumes nothing.
-use Prim.Native.Nat.{ℕ, ◌+◌, ◌*◌, ◌-◌, ◌/◌, ◌%◌, ◌<◌, ◌≤◌}
+-- Keys' records: the note and the channel that are read from a record, and that a place is read back from its own record. Assumes nothing.
+use Prim.Native.Nat.{ℕ, ◌+◌, ◌*◌, ◌/◌, ◌%◌, ◌<◌, ◌≤◌}
 use mathlib.Core.Path.{◌≡◌, refl, sym, ap, ◌∙◌}
 use mathlib.Core.Bool.{Bool, true, false, cond}
 use mathlib.Core.Option.{some, none}
 use native.Mathlib.Omega.{arith}
-use native.Mathlib.Nat.{add-mul-mod_self_left, mod-eq_of_lt, mod-lt}
-use lib.IntN.{ℤ, pos, ◌+ℤ◌, ◌-ℤ◌}
+use native.Mathlib.Nat.{mod-eq_of_lt, mod-lt}
+use lib.IntN.{ℤ, pos, nat_abs, ◌+ℤ◌, ◌-ℤ◌}
+use lib.Signed.{◌≤ℤ◌}
 use mir.Syntax.{w32}
 use mir.Val.{SFits, to_z, of_z}
-use mir.Facts.{to_z-of_z}
-use Rattle.arithmetic.specs.Note.{is_note}
-use Rattle.arithmetic.proofs.Integers.{plus, less, same, add_parts, sub_parts_ℤ, fits_by}
-use Rattle.arithmetic.proofs.Notes.{bounds}
+use Rattle.std.specs.Prelude.{Result, Ok, Err, Some, None}
+use Rattle.std.specs.Result.{result_ok}
+use Rattle.std.proofs.lemmas.Int.{ints}
+use Rattle.std.proofs.lemmas.Option.{none-some, same_Some}
+use Rattle.arithmetic.specs.Outcome.{value, refused, refuse◌unless◌then◌}
+use Rattle.arithmetic.specs.Answers.{outcome_by}
+use Rattle.arithmetic.specs.Refusal.{note_out_of_range}
+use Rattle.arithmetic.specs.declared.refusal.Refusal.{Refusal}
+use Rattle.arithmetic.specs.declared.note.Note.{Note}
+use Rattle.arithmetic.specs.Note.{is_note, note_rule}
 use Rattle.channels.specs.Places.{Place, is_held, note_of, channel_of, place_of, cell_of}
 
--- ---- a note from a record
+-- ---- a place from a record
 
-pub note_small : (n : ℕ) → SFits w32 (pos (n % 1024) -ℤ pos 301)
-note_small n = fits_by w32 (pos (n % 1024) -ℤ pos 301) (n % 1024) 301 (omega (arith, sub_parts_ℤ (pos (n % 1024)) (pos 301))) (omega (arith, mod-lt n {m = 1024} (omega arith))) (omega arith)
+pub note_read : (n : ℕ) → to_z w32 (of_z w32 (note_of n)) ≡ note_of n
+unfolding note_of
+note_read n = omega (arith, ints)
 
 pub place_found : (n : ℕ) → is_note (note_of n) ≡ true → some (record { channel = channel_of (n / 1024); note = note_of n }) ≡ place_of n
 unfolding place_of
@@ -45,54 +53,62 @@ place_parts n p = go (is_note (note_of n)) refl
     go true e h =
         let same : ◌≡◌ {A = Place} (record { channel = channel_of (n / 1024); note = note_of n }) p = cc in
         (ap (λ (q : Place). q.channel) same, ap (λ (q : Place). q.note) same, ap (λ (q : Place). is_note q.note) (sym same) ∙ e)
-    go false e h = absurd (let z : ◌≡◌ {A = ℕ} 0 1 = cc in omega arith)
+    go false e h = absurd (cc)
 
 -- a found key has a channel and a note
 pub place_sound : (n : ℕ) (p : Place) → place_of n ≡ some p → (p.channel < 16) × (is_note p.note ≡ true)
 place_sound n p e = let q = place_parts n p e in (omega (arith, q.0, mod-lt (n / 1024) {m = 16} (omega arith)), q.2)
 
+-- ---- what the conversion of a number into a note says of the number
+
+module _ (z : ℤ) where
+  pub no_note : {n : ℕ} → refused n ≡ note_rule z → is_note z ≡ false
+  unfolding note_rule
+  no_note {n} = go (is_note z)
+    where
+      go : (b : Bool) → refused n ≡ (refuse note_out_of_range unless b then value z) → b ≡ false
+      go true e = absurd (cc)
+      go false e = refl
+
+  pub the_note : {y : ℤ} → value y ≡ note_rule z → y ≡ z
+  unfolding note_rule
+  the_note {y} = go (is_note z)
+    where
+      go : (b : Bool) → value y ≡ (refuse note_out_of_range unless b then value z) → y ≡ z
+      go true e = cc
+      go false e = absurd (cc)
+
+  -- and as an `Option`
+  pub no_note_tried : (r : Result Note Refusal) → outcome_by (λ (n : Note). n.number) r ≡ note_rule z → None ≡ result_ok r → is_note z ≡ false
+  no_note_tried (Ok n) e h = absurd (none-some n h)
+  no_note_tried (Err d) e h = no_note e
+
+  pub note_tried : (n : Note) (r : Result Note Refusal) → outcome_by (λ (m : Note). m.number) r ≡ note_rule z → Some n ≡ result_ok r → n.number ≡ z
+  note_tried n (Err d) e h = absurd (none-some n (sym h))
+  note_tried n (Ok m) e h = ap (λ (k : Note). k.number) (same_Some n m h) ∙ the_note e
+
 -- ---- a record from a note
 
-abbrev pub raised : ℤ → ℕ
-raised z = plus z + 301 - less z
-
 module _ (z : ℤ) (h : is_note z ≡ true) where
-  pub raised_parts : (raised z + less z ≡ plus z + 301) × (1 ≤ raised z) × (raised z ≤ 801)
-  raised_parts = let b = bounds z h in (omega arith, omega arith, omega arith)
-
-  pub raised_is : z +ℤ pos 301 ≡ pos (raised z)
-  raised_is = same (z +ℤ pos 301) (pos (raised z)) (omega (arith, add_parts z (pos 301), raised_parts))
+  raised : (pos 1 ≤ℤ (z +ℤ pos 301)) × (z ≤ℤ pos 500)
+  raised = (grind (arith, ints), grind (arith, ints))
 
   pub raised_fits : SFits w32 (z +ℤ pos 301)
-  raised_fits = fits_by w32 (z +ℤ pos 301) (plus z + 301) (less z) (omega (arith, add_parts z (pos 301))) (omega (arith, bounds z h)) (omega (arith, bounds z h))
+  raised_fits = let b = raised in omega (arith, ints)
 
-  lowered : pos (raised z) -ℤ pos 301 ≡ z
-  lowered = same (pos (raised z) -ℤ pos 301) z (omega (arith, sub_parts_ℤ (pos (raised z)) (pos 301), raised_parts))
+  -- the place is read back from the record
+  pub place_record : (c : ℕ) → place_of (cell_of z c) ≡ some (record { channel = channel_of c; note = z })
+  unfolding place_of cell_of note_of
+  place_record c =
+      let b = raised in
+      let n = nat_abs (z +ℤ pos 301) in
+      let k = c % 16 in
+      let is : z +ℤ pos 301 ≡ pos n = grind (arith, ints) in
+      let few : k < 16 = mod-lt c {m = 16} (omega arith) in
+      let most : n ≤ 801 = omega (arith, ints) in
+      let note : pos ((n + 1024 * k) % 1024) -ℤ pos 301 ≡ z = omega (arith, ints) in
+      let channel : (n + 1024 * k) / 1024 % 16 ≡ k = omega arith in
+      rw (h, note, h, channel)
 
-  pub cell_is : (c : ℕ) → cell_of z c ≡ raised z + 1024 * channel_of c
-  unfolding cell_of
-  cell_is c = rw (h, raised_is)
-
-  module _ (c : ℕ) (few : c < 16) where
-    note_back : note_of (raised z + 1024 * c) ≡ z
-    unfolding note_of
-    note_back = ap (λ (n : ℕ). pos n -ℤ pos 301) (add-mul-mod_self_left (raised z) 1024 c ∙ mod-eq_of_lt (omega (arith, raised_parts))) ∙ lowered
-
-    channel_back : channel_of ((raised z + 1024 * c) / 1024) ≡ c
-    channel_back = let q : (raised z + 1024 * c) / 1024 ≡ c = omega (arith, raised_parts) in ap channel_of q ∙ mod-eq_of_lt few
-
-    place_back : place_of (raised z + 1024 * c) ≡ some (record { channel = c; note = z })
-    unfolding place_of
-    place_back = rw (note_back, h, channel_back)
-
-    -- the place is read back from the record
-    pub place_cell : place_of (cell_of z c) ≡ some (record { channel = c; note = z })
-    place_cell = ap place_of (cell_is c ∙ ap (λ (k : ℕ). raised z + 1024 * k) (mod-eq_of_lt few)) ∙ place_back
-
-pub cell_none : (z : ℤ) (c : ℕ) → is_note z ≡ false → cell_of z c ≡ 0
-unfolding cell_of
-cell_none z c e = rw e
-
-pub note_read : (n : ℕ) → to_z w32 (of_z w32 (note_of n)) ≡ note_of n
-unfolding note_of
-note_read n = to_z-of_z (note_small n)
+  pub place_cell : (c : ℕ) → c < 16 → place_of (cell_of z c) ≡ some (record { channel = c; note = z })
+  place_cell c few = place_record c ∙ ap (λ (k : ℕ). some (record { channel = k; note = z })) (mod-eq_of_lt few)

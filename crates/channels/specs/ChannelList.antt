@@ -1,5 +1,5 @@
--- The channel list (document 01): "Channel list, on opening a tuner or a model: entry by entry 6, 7." "Channel i of a plan or pool is entry i of the
--- channel list given on opening, and the channels present are that list's entries." Assumes nothing.
+-- The channel list with which a tuner or a model is opened: it is refused with 6 or 7, entry by entry. Channel i of a plan or a pool is entry i, and the
+-- channels present are the entries. Assumes nothing.
 use Rattle.std.specs.Prelude.{ℕ, not, List, [], ◌∷◌, ◌++◌, map, take, leb}
 use Rattle.arithmetic.specs.Refusal.{channel_over15, channel_twice}
 use Rattle.arithmetic.specs.Outcome.{Outcome, value, refused, refuse◌unless◌then◌}
@@ -7,7 +7,7 @@ use Rattle.channels.specs.Lists.{member}
 use Rattle.channels.specs.Places.{channel_of}
 use Rattle.channels.specs.declared.list.ChannelList.{ChannelList}
 
--- The rule: "MIDI channel over 15", "MIDI channel twice in the channel list". `before` are the entries before.
+-- The rule: no MIDI channel over 15, and none twice. `before` are the entries before.
 unfoldable pub list_from : List ℕ → List ℕ → Outcome (List ℕ)
 list_from before [] = value before
 list_from before (c ∷ cs) =

@@ -1,4 +1,4 @@
--- "A key is a number 0 to 255" (document 01). Assumes nothing.
+-- A key is a number from 0 to 255. Assumes nothing.
 use Rattle.std.specs.Prelude.{ℕ}
 
 -- how many there are, as `KEYS` of the code; the size of every table by keys follows from it

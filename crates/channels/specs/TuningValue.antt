@@ -1,4 +1,4 @@
--- The values in which a detuning v is sent, from its measure L (document 01, "Fine value", "Bend value"). Assumes nothing.
+-- The values in which a detuning v is sent, from its measure L. Assumes nothing.
 use Rattle.std.specs.Prelude.{ℕ, ◌<◌, ◌≡◌, true, cond, ◌&&◌, eqb, ℤ, pos, negsuc, nat_abs, ◌+ℤ◌, ◌*ℤ◌, Float}
 use Rattle.std.specs.Int.Signed.{lt_z, le_z, quot_z}
 use Rattle.std.specs.Float.Ieee.Positive.{positive}
@@ -22,14 +22,14 @@ kind_of n = cond (eqb n 1) Bend FineTuning
 unfoldable pub clamp : ℤ → ℤ → ℤ → ℤ
 clamp lo hi z = cond (lt_z z lo) lo (cond (lt_z hi z) hi z)
 
--- "Fine value: 8192 + 3L/512 rounded down, clamped to 0..16383"
+-- The fine value: 8192 + 3L/512 rounded down, clamped to 0..16383.
 unfoldable pub fine_step : ℤ → ℤ
 fine_step l = pos 8192 +ℤ quotient (l *ℤ pos 3) 512
 
 unfoldable pub fine_value : ℤ → ℕ
 fine_value l = nat_abs (clamp (pos 0) (pos 16383) (fine_step l))
 
--- "Bend value: 3L/1024 truncated toward zero, clamped to -8192..8191"
+-- The bend value: 3L/1024 cut toward zero, clamped to -8192..8191.
 unfoldable pub bend_step : ℤ → ℤ
 bend_step l = quot_z (l *ℤ pos 3) (pos 1024)
 

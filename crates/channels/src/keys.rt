@@ -15,6 +15,15 @@ pub struct Place {
     pub note: Note,
 }
 
+impl Place {
+    // The record of the key that is found there. The channel is read by its remainder by 16.
+    pub fn record(self) -> u16
+        ensures { result ≡ cell_of self.note.number self.channel }
+    {
+        (self.note.number() + 301) as u16 + 1024 * (self.channel % 16) as u16
+    }
+}
+
 // A key that is found.
 #[derive(Clone, Copy)]
 pub struct HeldKey {
@@ -42,10 +51,10 @@ pub fn is_found(cell: u16) -> bool
 pub fn record_of(note: i32, channel: u8) -> u16
     ensures { result ≡ cell_of note channel }
 {
-    if is_note(note) {
-        return (note + 301) as u16 + 1024 * (channel % 16) as u16;
-    }
-    0
+    let Ok(note) = Note::try_from(note) else {
+        return 0;
+    };
+    Place { channel, note }.record()
 }
 
 // The note of a record, a number below all notes for 0.

@@ -1,6 +1,6 @@
 // The list of MIDI channels that a tuner or a model is opened with. Channel i of a plan or a pool is entry i.
 
-ghost use Rattle.std.specs.Prelude.{◌≡◌, [], length};
+ghost use Rattle.std.specs.Prelude.{◌≡◌, ◌==◌, [], length};
 ghost use Rattle.std.proofs.Math.ListN.{get_elem?};
 ghost use Rattle.arithmetic.specs.Answers.{optional, outcome_by};
 ghost use Rattle.channels.specs.ChannelList.{entries, list_rule};
@@ -15,12 +15,12 @@ const HIGHEST_CHANNEL: u8 = 15;
 const MOST_ENTRIES: usize = 16;
 
 // Entries, the first `count` places. Every content is some list: a count over sixteen is read as sixteen, a channel by its remainder by 16. It lies in the
-// memory of programs in C.
+// memory of programs in C, among numbers of two bytes, so its count has two.
 #[repr(C)]
 #[derive(Clone, Copy)]
 pub struct ChannelList {
     channels: [u8; MOST_ENTRIES],
-    count: u8,
+    count: u16,
 }
 
 impl ChannelList {
@@ -57,7 +57,14 @@ impl ChannelList {
     pub fn len(self) -> u8
         ensures { result ≡ length (entries self) }
     {
-        self.count.min(MOST_ENTRIES as u8)
+        self.count.min(MOST_ENTRIES as u16) as u8
+    }
+
+    // Whether there are none.
+    pub fn is_empty(self) -> bool
+        ensures { result ≡ (length (entries self) == 0) }
+    {
+        self.len() == 0
     }
 
     // The MIDI channel of channel i.
@@ -74,6 +81,7 @@ impl ChannelList {
     fn has(self, channel: u8) -> bool
         ensures { result ≡ member channel (entries self) }
     {
-        self.channels[..self.len() as usize].contains(&channel)
+        let entries = &self.channels[..self.len() as usize];
+        entries.iter().any(|entry| entry % 16 == channel)
     }
 }

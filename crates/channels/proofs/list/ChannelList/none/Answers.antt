@@ -1,0 +1,8 @@
+-- `list::ChannelList::none` meets its contract: no place is an entry. Assumes nothing.
+use Rattle.std.proofs.Common.{refl}
+use Rattle.channels.specs.ChannelList.{entries}
+use Rattle.channels.proofs.list.ChannelList.none.Goals as goal
+
+pub returns : goal.returns
+unfolding entries
+returns c = refl
