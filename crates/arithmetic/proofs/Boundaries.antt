@@ -1,17 +1,22 @@
 -- The boundaries between notes within an octave. The digits of a number grow with it, so the nearest note changes at twelve numbers only; that a table has
 -- them is computed at each entry and just below it, where this law is cited. Assumes nothing.
-use mathlib.Core.Path.{◌≡◌, refl}
+use mathlib.Core.Path.{◌≡◌, refl, ap, ◌∙◌}
 use mathlib.Core.Bool.{Bool, true, false, cond, ◌&&◌}
 use mathlib.Core.List.{List}
 use Prim.Native.Nat.{ℕ, zero, suc, ◌+◌, ◌-◌, ◌*◌, ◌/◌, ◌%◌, ◌^◌, ◌≤◌, ◌<◌, min}
 use native.Mathlib.Nat.{mul-le-mul}
 use native.Mathlib.Decide.{dec_le}
 use native.Mathlib.Omega.{arith}
-use borrow.Author.Tests.{leb-true, leb-false}
+use borrow.Author.Tests.{leb-true, leb-false, le-leb, lt-leb}
 use lib.Dec.{T, leb, leb→le}
 use lib.Ieee.Fits.{and_l, and_r}
 use lib.IntN.{pos, negsuc, ◌+ℤ◌, ◌-ℤ◌, ◌*ℤ◌}
-use lib.ListN.{get_or}
+use lib.ListN.{get_or, take, length}
+use mir.Val.{bool_byte}
+use Rattle.std.proofs.Common.{add-one}
+use Rattle.std.specs.List.{sum_by}
+use Rattle.std.proofs.lemmas.List.{take_all}
+use Rattle.std.proofs.lemmas.List.Sums.{sum_by_more}
 use Rattle.arithmetic.specs.Measure.{square, digit, next, digits}
 use Rattle.arithmetic.specs.Nearest.{semitones}
 use Rattle.arithmetic.specs.Inside.{within}
@@ -58,6 +63,10 @@ within_small y = omega (arith, digits_lt 24 y)
 abbrev pub boundary : List ℕ → ℕ → Bool
 boundary ts i = let t = get_or ts i 0 in leb (suc i) (within t) && (leb (within (t - 1)) i && leb t (2 ^ 32))
 
+-- 1 for an entry that y has come to, else 0
+abbrev pub come_to : ℕ → ℕ → ℕ
+come_to y t = bool_byte (leb t y)
+
 module _ (ts : List ℕ) (ok : T (all (boundary ts) 12)) (y : ℕ) (u : y < 2 ^ 32) (i : ℕ) (h : i < 12) where
   abbrev t : ℕ
   t = get_or ts i 0
@@ -76,18 +85,22 @@ module _ (ts : List ℕ) (ok : T (all (boundary ts) 12)) (y : ℕ) (u : y < 2 ^ 
       let rest = and_r (leb (suc i) (within t)) _ here in
       omega (arith, small, leb→le (within (t - 1)) i (and_l (leb (within (t - 1)) i) (leb t (2 ^ 32)) rest), within_mono y (t - 1) (omega arith) (omega (arith, small)))
 
-  -- the quotient that says whether entry i is passed, and the count of those before it
-  pub counted : (t ≤ 2 ^ 33) × ((y + (2 ^ 33 - t)) / 2 ^ 33 ≤ 1) × (min i (within y) + (y + (2 ^ 33 - t)) / 2 ^ 33 ≡ min (i + 1) (within y))
+  -- those before entry i and the entry itself
+  counted : min i (within y) + come_to y t ≡ min (suc i) (within y)
   counted = go (dec_le t y)
     where
-      go : Dec (t ≤ y) → (t ≤ 2 ^ 33) × ((y + (2 ^ 33 - t)) / 2 ^ 33 ≤ 1) × (min i (within y) + (y + (2 ^ 33 - t)) / 2 ^ 33 ≡ min (i + 1) (within y))
-      go (yes l) =
-          let q : (y + (2 ^ 33 - t)) / 2 ^ 33 ≡ 1 = omega (arith, small) in
-          (omega (arith, small), omega arith, rw q (omega (arith, passed l)))
-      go (no n) =
-          let l : y < t = omega arith in
-          let q : (y + (2 ^ 33 - t)) / 2 ^ 33 ≡ 0 = omega (arith, small) in
-          (omega (arith, small), omega arith, rw q (omega (arith, not_passed l)))
+      go : Dec (t ≤ y) → min i (within y) + come_to y t ≡ min (suc i) (within y)
+      go (yes l) = rw (le-leb t y l) (omega (arith, passed l))
+      go (no n) = let l : y < t = omega arith in rw (lt-leb t y l) (omega (arith, not_passed l))
+
+-- so as many are passed as semitones lie within the octave
+module _ (ts : List ℕ) (twelve : length ts ≡ 12) (ok : T (all (boundary ts) 12)) (y : ℕ) (u : y < 2 ^ 32) where
+  up_to : (i : ℕ) → i ≤ 12 → sum_by (come_to y) (take i ts) ≡ min i (within y)
+  up_to zero h = omega arith
+  up_to (suc i) h = (rw add-one at (sum_by_more (come_to y) ts i 0 (omega arith))) ∙ ap (λ (n : ℕ). n + come_to y (get_or ts i 0)) (up_to i (omega arith)) ∙ counted ts ok y u i (omega arith)
+
+  pub all_counted : sum_by (come_to y) ts ≡ within y
+  all_counted = let l : length ts ≤ 12 = omega arith in (rw take_all at (up_to 12 (omega arith))) ∙ omega (arith, within_small y)
 
 -- ---- octaves and what is within one
 

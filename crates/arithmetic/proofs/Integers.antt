@@ -1,6 +1,6 @@
 -- Integers by their two parts, whole numbers of which one is 0: k = plus k - less k. What is linear in integers is linear in their parts, for `omega`.
 -- Assumes nothing.
-use mathlib.Core.Path.{◌≡◌, refl, ap, ◌∙◌}
+use mathlib.Core.Path.{◌≡◌, refl, ap}
 use Prim.Native.Nat.{ℕ, zero, suc, ◌+◌, ◌*◌, ◌-◌, ◌^◌, ◌≤◌, ◌<◌, zero-le, suc-le-suc}
 use native.Mathlib.Nat.{zero-mul, lt_of_le_of_lt, le_of_suc-le-suc}
 use native.Mathlib.Omega.{arith}
@@ -9,10 +9,8 @@ use lib.Dec.{T, ltb, ltb→lt, nltb→le, leb→le, le→leb}
 use lib.IntN.{ℤ, pos, negsuc, neg_ℤ, sub_ℕ, ◌+ℤ◌, ◌-ℤ◌, ◌*ℤ◌}
 use lib.Signed.{mag, ◌≤ℤ◌, le_z_yes}
 use lib.Ieee.{up, down}
-use mir.Syntax.{Width, w32, w64}
-use mir.Val.{SFits, hbits, to_z, of_z}
-use mir.ValLaws.{to_z-of_z}
-use mir.Facts.{sfits_widen}
+use mir.Syntax.{Width}
+use mir.Val.{SFits, hbits}
 
 abbrev pub plus : ℤ → ℕ
 plus (pos n) = n
@@ -36,14 +34,6 @@ sub_parts a b = go (ltb a b) (ltb→lt a b) (nltb→le a b)
         → plus (cond t (negsuc (b - suc a)) (pos (a - b))) + b ≡ less (cond t (negsuc (b - suc a)) (pos (a - b))) + a
     go true h k = let l : a < b = h tt in omega arith
     go false h k = let l : b ≤ a = k tt in omega arith
-
--- a difference of two numbers in range is in range
-pub mag_sub : (a b h : ℕ) → a < h → b ≤ h → mag (sub_ℕ a b) < h
-mag_sub a b h l m = go (ltb a b) (ltb→lt a b)
-  where
-    go : (t : Bool) → (T t → a < b) → mag (cond t (negsuc (b - suc a)) (pos (a - b))) < h
-    go true k = let i : a < b = k tt in omega arith
-    go false k = omega arith
 
 pub neg_parts : (a : ℤ) → plus (neg_ℤ a) + plus a ≡ less (neg_ℤ a) + less a
 neg_parts (pos zero) = refl
@@ -71,19 +61,6 @@ fits_by w z a b e k l = record { sfits = small_by (2 ^ hbits w) z a b e k l }
 pub fits_parts : (w : Width) (z : ℤ) → SFits w z → (plus z < 2 ^ hbits w) × (less z ≤ 2 ^ hbits w)
 fits_parts w (pos n) f = (f.sfits, zero-le)
 fits_parts w (negsuc n) f = (lt_of_le_of_lt zero-le f.sfits, f.sfits)
-
--- so a sum of two i32 fits an i64
-pub sum_fits : (a b : ℤ) → SFits w32 a → SFits w32 b → SFits w64 (a +ℤ b)
-sum_fits a b f g =
-    fits_by w64 (a +ℤ b) (plus a + plus b) (less a + less b) (add_parts a b)
-    (omega (arith, fits_parts w32 a f, fits_parts w32 b g)) (omega (arith, fits_parts w32 a f, fits_parts w32 b g))
-
--- a signed number that the code holds, and one that it widened, as it is read back
-pub wide : (z : ℤ) → SFits w32 z → to_z w64 (of_z w64 (to_z w32 (of_z w32 z))) ≡ z
-wide z f = ap (λ (y : ℤ). to_z w64 (of_z w64 y)) (to_z-of_z w32 z f) ∙ to_z-of_z w64 z (sfits_widen {w = w32} {w' = w64} tt f)
-
-pub widens : (z : ℤ) → SFits w32 z → SFits w64 (to_z w32 (of_z w32 z))
-widens z f = rw (to_z-of_z w32 z f) (sfits_widen {w = w32} {w' = w64} tt f)
 
 -- times a whole number
 pub mul_parts : (a : ℤ) (n : ℕ) → plus (a *ℤ pos n) + less a * n ≡ less (a *ℤ pos n) + plus a * n

@@ -8,6 +8,7 @@ pub mod Pitches
 pub mod FloatDivision
 pub mod Boundaries
 pub mod Bounds
+pub mod Order
 pub mod Measure
 pub mod Scaled
 pub mod Fields

@@ -11,13 +11,24 @@ use lib.Ieee.Fits.{and_l, and_r}
 use lib.Ieee.Bits.{is_true}
 use lib.Ieee.Positive.{num, den, den_pos, positive, le→cross, cross→le, through, between}
 use lib.IntN.{ℤ, pos, negsuc, ◌+ℤ◌, ◌-ℤ◌, ◌*ℤ◌}
-use Rattle.arithmetic.specs.Outcome.{value, refused}
+use mir.Syntax.{w32}
+use mir.Val.{to_z, of_z}
+use Rattle.std.specs.Prelude.{Option, Some, None}
+use Rattle.std.specs.Option.{IsSome}
+use Rattle.std.proofs.lemmas.Int.{ints}
+use Rattle.arithmetic.specs.Outcome.{value}
+use Rattle.arithmetic.specs.Refusal.{not_measurable}
 use Rattle.arithmetic.specs.Division.{quotient}
-use Rattle.arithmetic.specs.Measure.{measure, measure_rule}
+use Rattle.arithmetic.specs.Measure.{digits, measure, measure_rule}
 use Rattle.arithmetic.specs.Powers.{AtLeast, Below}
 use Rattle.arithmetic.specs.Pitch.{lowest_pitch, highest_pitch, is_pitch, a4_pitch, detuning_of}
 use Rattle.arithmetic.specs.Nearest.{semitones, over_a4, nearest_note}
-use Rattle.arithmetic.specs.Note.{is_note}
+use Rattle.arithmetic.specs.Note.{is_note, a4}
+use Rattle.arithmetic.specs.Inside.{WritesOut, Writes, note_at}
+use Rattle.arithmetic.specs.Inside.{within as within12}
+use Rattle.arithmetic.specs.declared.pitch.Binary.{Binary}
+use Rattle.arithmetic.proofs.Outcomes.{no_value}
+use Rattle.arithmetic.proofs.Boundaries.{split}
 use Rattle.arithmetic.proofs.Notes.{within}
 use Rattle.arithmetic.proofs.Powers.{mul_pow, ne_zero, two_side, value_side}
 use Rattle.arithmetic.proofs.Measure.{measure_law}
@@ -123,19 +134,27 @@ nearest_parts x h =
 pub nearest_is_note : (x : Float) → T (is_pitch x) → is_note (nearest_note x) ≡ true
 nearest_is_note x h = let r = nearest_parts x h in within (nearest_note x) (omega arith) (omega arith)
 
--- what the measure's call answers at a pitch over 440
-answered : (x v : Float) → T (is_pitch x) → v ≡ over_a4 x → measure_rule v ≡ value (measure (over_a4 x))
-unfolding measure_rule
-answered x v h e = rw (e, is_true (positive (over_a4 x)) (ratio_positive x h))
+-- ---- what the code reads off the first digits of a pitch over 440
 
-pub the_measure : (x v : Float) (l : ℤ) → T (is_pitch x) → v ≡ over_a4 x → value l ≡ measure_rule v → l ≡ measure (over_a4 x)
-the_measure x v l h e m = let q : value l ≡ value (measure (over_a4 x)) = m ∙ answered x v h e in cc
+module _ (x v : Float) (h : T (is_pitch x)) (e : v ≡ over_a4 x) where
+  measured : measure_rule v ≡ value (measure (over_a4 x))
+  unfolding measure_rule
+  measured = rw (e, is_true (positive (over_a4 x)) (ratio_positive x h))
 
-pub no_refusal : (x v : Float) (n : ℕ) → T (is_pitch x) → v ≡ over_a4 x → refused n ≡ measure_rule v → ⊥
-no_refusal x v n h e m =
-    let q : refused n ≡ value (measure (over_a4 x)) = m ∙ answered x v h e in
-    let z : ◌≡◌ {A = ℕ} 0 1 = cc in
-    omega arith
+  -- it has them
+  pub has_digits : (o : Option Binary) → Writes o (measure_rule v) → IsSome o
+  has_digits (Some b) w = refl
+  has_digits None w = no_value (measure (over_a4 x)) not_measurable (sym measured ∙ w)
+
+  -- and they say where the nearest note stands
+  pub stands_at : (b : Binary) (k : ℕ) → WritesOut b (measure_rule v) → k ≡ within12 b.first
+      → note_at (to_z w32 (of_z w32 (to_z w32 b.octave -ℤ pos 1074))) k ≡ nearest_note x
+  unfolding note_at nearest_note
+  stands_at b k w f =
+      let j : to_z w32 (of_z w32 (to_z w32 b.octave -ℤ pos 1074)) ≡ pos b.octave -ℤ pos 1074 = omega (arith, ints, w.0) in
+      let q : value (pos (b.octave * 2 ^ 24 + digits 24 b.first) -ℤ pos (1074 * 2 ^ 24)) ≡ value (measure (over_a4 x)) = sym w.2 ∙ measured in
+      let l : pos (b.octave * 2 ^ 24 + digits 24 b.first) -ℤ pos (1074 * 2 ^ 24) ≡ measure (over_a4 x) = cc in
+      rw (j, f) (ap (λ (z : ℤ). a4 +ℤ z) (sym (split b.octave b.first) ∙ ap semitones l))
 
 -- the detuning from the nearest note is finite and above zero, so sending it meets no refusal 2
 pub nearest_detuning : (x : Float) → T (is_pitch x) → T (positive (detuning_of x (nearest_note x)))

@@ -1,18 +1,23 @@
 -- Notes by the bounds of their two parts, which `omega` reads, and what the code's tests say of them. Assumes nothing.
-use mathlib.Core.Path.{◌≡◌, refl, sym, ◌∙◌}
-use mathlib.Core.Bool.{Bool, true, false, not, ◌&&◌, true≢false}
+use mathlib.Core.Path.{◌≡◌, refl}
+use mathlib.Core.Bool.{Bool, true, false, cond, ◌&&◌}
 use mathlib.Core.Option.{some, none}
-use Prim.Native.Nat.{ℕ, ◌+◌, ◌≤◌, ◌<◌}
+use Prim.Native.Nat.{ℕ, ◌+◌, ◌≤◌, ◌<◌, zero-le, min}
+use native.Mathlib.Decide.{dec_le}
 use native.Mathlib.Omega.{arith}
 use lib.Dec.{leb}
 use lib.IntN.{ℤ, pos, negsuc, nat_abs, ◌-ℤ◌}
-use lib.Signed.{lt_z}
+use lib.Signed.{le_z}
 use mir.Syntax.{w32}
 use mir.Val.{SFits, to_z, of_z}
 use mir.ValLaws.{to_z-of_z}
-use borrow.Author.Tests.{leb-true, ltb-true, ltb-false, le-leb, lt-leb, not-true, not-false}
+use borrow.Author.Tests.{leb-true, le-leb, lt-leb}
+use Rattle.std.specs.Int.{saturate_signed}
+use Rattle.arithmetic.specs.Outcome.{Outcome, value, refused, refuse◌unless◌then◌}
+use Rattle.arithmetic.specs.Refusal.{note_out_of_range}
 use Rattle.arithmetic.specs.Division.{quotient}
-use Rattle.arithmetic.specs.Note.{is_note, letter_of, octave_of, midi_number}
+use Rattle.arithmetic.specs.Note.{is_note, letter_of, octave_of, midi_number, note_rule}
+use Rattle.arithmetic.proofs.Outcomes.{refused_at, value_at}
 use Rattle.arithmetic.proofs.Integers.{plus, less, sub_parts_ℤ, fits_by}
 use Rattle.arithmetic.proofs.Quotients.{remainder_below}
 
@@ -30,12 +35,31 @@ pub within : (z : ℤ) → plus z ≤ 500 → less z ≤ 300 → is_note z ≡ t
 within (pos n) h k = le-leb n 500 h
 within (negsuc n) h k = rw (le-leb n 299 (omega arith))
 
--- the test of an i32, as a caller has it
-pub no_note : (z : ℤ) → SFits w32 z → {r : Bool} → r ≡ is_note (to_z w32 (of_z w32 z)) → not r ≡ true → is_note z ≡ false
-no_note z f {r} e t = rw (to_z-of_z w32 z f) at (sym e ∙ not-true r t)
+-- what `Note::try_from` answers, as a caller has it at a `?`
+module _ {A : Type 0} (z : ℤ) (f : SFits w32 z) where
+  -- where it refuses, a rule that asks for a note refuses too
+  pub at_no_note : {k : ℕ} → refused k ≡ note_rule (to_z w32 (of_z w32 z)) → (o : Outcome A) → refused k ≡ (refuse note_out_of_range unless is_note z then o)
+  unfolding note_rule
+  at_no_note h o = refused_at note_out_of_range (is_note z) z (rw (to_z-of_z w32 z f) at h) o
 
-pub a_note : (z : ℤ) → SFits w32 z → {r : Bool} → r ≡ is_note (to_z w32 (of_z w32 z)) → not r ≡ false → is_note z ≡ true
-a_note z f {r} e t = rw (to_z-of_z w32 z f) at (sym e ∙ not-false r t)
+  -- and where it gives one, the rule goes on with it
+  pub at_note : {n : ℤ} → value n ≡ note_rule (to_z w32 (of_z w32 z)) → (rest : ℤ → Outcome A) (o : Outcome A) → o ≡ rest n → o ≡ (refuse note_out_of_range unless is_note z then rest z)
+  unfolding note_rule
+  at_note h rest o i = value_at note_out_of_range (is_note z) z (rw (to_z-of_z w32 z f) at h) rest o i
+
+-- a number that is cut off where no note is refused alike
+pub note_rule-saturated : (z : ℤ) → note_rule (saturate_signed w32 z) ≡ note_rule z
+unfolding note_rule
+note_rule-saturated (pos n) = go (dec_le n 2147483647)
+  where
+    go : Dec (n ≤ 2147483647) → note_rule (pos (min n 2147483647)) ≡ note_rule (pos n)
+    go (yes l) = let e : min n 2147483647 ≡ n = omega arith in rw e
+    go (no l) = let e : min n 2147483647 ≡ 2147483647 = omega arith in rw (e, lt-leb n 500 (omega arith))
+note_rule-saturated (negsuc n) = go (dec_le n 2147483647)
+  where
+    go : Dec (n ≤ 2147483647) → note_rule (negsuc (min n 2147483647)) ≡ note_rule (negsuc n)
+    go (yes l) = let e : min n 2147483647 ≡ n = omega arith in rw e
+    go (no l) = let e : min n 2147483647 ≡ 2147483647 = omega arith in rw (e, lt-leb n 299 (omega arith))
 
 pub note_fits : (z : ℤ) → is_note z ≡ true → SFits w32 z
 note_fits z e = fits_by w32 z (plus z) (less z) (omega arith) (omega (arith, bounds z e)) (omega (arith, bounds z e))
@@ -59,28 +83,11 @@ octave_fits z e =
 
 -- ---- the number that MIDI has
 
-pub midi_below : (z : ℤ) → lt_z z (pos 0) ≡ true → none ≡ midi_number z
+-- the code's two tests tell the numbers that have one
+pub midi_tested : (z : ℤ) → midi_number z ≡ cond (le_z (pos 0) z && le_z z (pos 127)) (some (nat_abs z)) none
 unfolding midi_number
-midi_below (pos n) t = absurd (let l : n < 0 = ltb-true n 0 t in let f : ⊥ = omega arith in f)
-midi_below (negsuc n) t = refl
-
-pub midi_above : (z : ℤ) → lt_z (pos 127) z ≡ true → none ≡ midi_number z
-unfolding midi_number
-midi_above (pos n) t = rw (lt-leb n 127 (ltb-true 127 n t))
-midi_above (negsuc n) t = absurd (true≢false (sym t))
-
--- what is left is a whole number up to 127
-pub record Numbered (z : ℤ) (n : ℕ) : Type 0 where
-  pub is : z ≡ pos n
-  pub small : n ≤ 127
-
-pub midi_between : (z : ℤ) → lt_z z (pos 0) ≡ false → lt_z (pos 127) z ≡ false → Numbered z (nat_abs z)
-midi_between (pos n) l h = record { is = refl; small = ltb-false 127 n h }
-midi_between (negsuc n) l h = absurd (true≢false l)
-
-pub midi_number_lem : (z : ℤ) (n : ℕ) → Numbered z n → some n ≡ midi_number z
-unfolding midi_number
-midi_number_lem z n b = rw (b.is, le-leb n 127 b.small)
+midi_tested (pos n) = rw (le-leb 0 n zero-le)
+midi_tested (negsuc n) = refl
 
 pub letter_below : (z : ℤ) → letter_of z < 12
 letter_below z = remainder_below z 12 (omega arith)

@@ -62,18 +62,6 @@ module _ (j : ℤ) (k : ℕ) (e : is_note (note_at j k) ≡ true) (h : k < 13) w
   pub place_octaves : (negsuc 30 ≤ℤ j) × (j ≤ℤ pos 35)
   place_octaves = between_parts 35 30 j place_range.0 place_range.1
 
-  -- what the code computes on the way to the note fits
-  pub octaves_fit : SFits w32 j
-  octaves_fit = let r = place_range in fits_by w32 j (plus j) (less j) (omega arith) (omega arith) (omega arith)
-
-  pub twelves_fit : SFits w32 (j *ℤ pos 12)
-  twelves_fit = let r = place_range in fits_by w32 (j *ℤ pos 12) (plus j * 12) (less j * 12) (omega (arith, mul_parts j 12)) (omega arith) (omega arith)
-
-  pub steps_fit : SFits w32 (j *ℤ pos 12 +ℤ pos k)
-  steps_fit =
-      let r = place_range in
-      fits_by w32 (j *ℤ pos 12 +ℤ pos k) (plus j * 12 + k) (less j * 12) (omega (arith, mul_parts j 12, add_parts (j *ℤ pos 12) (pos k))) (omega arith) (omega arith)
-
 -- below 12 semitones the octave and the semitone are those of the rule
 factor_is : (k : ℕ) → k < 12 → factor_to12 k ≡ factor k
 unfolding factor_to12 factor significands

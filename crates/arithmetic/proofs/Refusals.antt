@@ -1,4 +1,4 @@
--- Demand 1 for this crate: each rule that a contract cites refuses with these numbers and no other, exactly where document 01 says, in its order.
+-- Each rule that a contract cites refuses with these numbers and no other, exactly where one of its tests fails, in their order.
 -- Every other input has a value. Assumes nothing.
 use mathlib.Core.Path.{◌≡◌}
 use mathlib.Core.Logic.{◌⊎◌, ◌↔◌}

@@ -2,12 +2,16 @@
 use Rattle.std.specs.Prelude.{◌≡◌, ℕ, ◌+◌, ◌*◌, ◌/◌, ◌^◌, ◌<◌, ℤ, pos, ◌+ℤ◌, ◌-ℤ◌, ◌*ℤ◌, get_or, false, Float, Option, Some, None}
 use Rattle.std.specs.Float.{binary64}
 use Rattle.std.specs.Float.Ieee.{round}
-use Rattle.arithmetic.specs.Refusal.{not_measurable}
-use Rattle.arithmetic.specs.Outcome.{Outcome, value, refused}
+use Rattle.arithmetic.specs.Refusal.{pitch_out_of_range, not_measurable}
+use Rattle.arithmetic.specs.Outcome.{Outcome, value, refused, refuse◌unless◌then◌}
 use Rattle.arithmetic.specs.Measure.{digits}
 use Rattle.arithmetic.specs.Note.{a4}
-use Rattle.arithmetic.specs.Pitch.{significands}
+use Rattle.arithmetic.specs.Pitch.{is_pitch, significands}
 use Rattle.arithmetic.specs.declared.pitch.Binary.{Binary}
+
+-- a pitch in range
+abbrev pub range_rule : Float → Outcome Float
+range_rule hz = refuse pitch_out_of_range unless is_pitch hz then value hz
 
 -- The octave, counted from 2 ^ -1074 on, and the first 32 digits write a measure, and no more is said of them.
 abbrev pub WritesOut : Binary → Outcome ℤ → Type 0
@@ -29,8 +33,3 @@ factor_to12 k = round binary64 false (get_or significands k (2 ^ 53)) (2 ^ 52)
 -- the note j octaves and k semitones above A4
 unfoldable pub note_at : ℤ → ℕ → ℤ
 note_at j k = a4 +ℤ (j *ℤ pos 12 +ℤ pos k)
-
--- a note stands there, at most an octave above the last whole one
-pub record Stands (j : ℤ) (k : ℕ) (z : ℤ) : Type 0 where
-  pub few : k < 13
-  pub is : note_at j k ≡ z

@@ -1,4 +1,4 @@
--- What the crate's contracts cite, each file a rule of document 01; `Inside` is for its private functions.
+-- What the crate's contracts cite, a file for each rule; `Inside` is for its private functions.
 pub mod Refusal
 pub mod Outcome
 pub mod Division

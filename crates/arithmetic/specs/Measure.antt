@@ -1,4 +1,4 @@
--- The measure of a positive finite f64 (document 01, "Measure"): its base-2 logarithm in steps of 2 ^ -24, cut off. Assumes nothing.
+-- The measure of a positive finite f64: its base-2 logarithm in steps of 2 ^ -24, cut off. Assumes nothing.
 use Rattle.std.specs.Prelude.{ℕ, zero, suc, ◌+◌, ◌*◌, ◌/◌, ◌^◌, cond, leb, ℤ, pos, ◌+ℤ◌, ◌-ℤ◌, ◌*ℤ◌, Float}
 use Rattle.std.specs.Float.{nan, inf, fin}
 use Rattle.std.specs.Float.Ieee.{size}

@@ -1,4 +1,4 @@
--- The note nearest to a pitch (document 01, "Nearest note"). Assumes nothing.
+-- The note nearest to a pitch. Assumes nothing.
 use Rattle.std.specs.Prelude.{◌^◌, ℤ, pos, ◌+ℤ◌, ◌-ℤ◌, ◌*ℤ◌, Float}
 use Rattle.std.specs.Float.{binary64}
 use Rattle.std.specs.Float.Ieee.{div}

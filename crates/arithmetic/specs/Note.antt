@@ -1,4 +1,4 @@
--- Notes (document 01, "note.rs"): whole numbers from -300 to 500, of which 69 is A4. Every function of a note refuses (4) one outside.
+-- Notes: whole numbers from -300 to 500, of which 69 is A4. Every function of a note refuses (4) one outside.
 -- Assumes nothing.
 use Rattle.std.specs.Prelude.{ℕ, Bool, cond, ◌&&◌, ℤ, pos, negsuc, ◌+ℤ◌, ◌-ℤ◌, leb}
 use Rattle.std.proofs.Math.Option.{Option, some, none}

@@ -6,6 +6,6 @@ pub data Outcome (A : Type 0) : Type 0 where
   refused : ℕ → Outcome A
 
 infixr 5 refuse◌unless◌then◌
--- A rule's tests stand in document 01's order: the first that fails decides.
+-- A rule's tests, in their order: the first that fails decides.
 abbrev pub refuse◌unless◌then◌ : {A : Type 0} → ℕ → Bool → Outcome A → Outcome A
 refuse n unless test then o = cond test o (refused n)

@@ -1,4 +1,4 @@
--- Pitches and their ratios (document 01, "pitch.rs"): the range, note pitches, detunings and what is negligible. Assumes nothing.
+-- Pitches and their ratios: the range, note pitches, detunings and what is negligible. Assumes nothing.
 use Rattle.std.specs.Prelude.{ℕ, ◌^◌, Bool, false, ◌&&◌, List, [], ◌∷◌, ℤ, pos, negsuc, ◌+ℤ◌, ◌-ℤ◌, get_or, Float}
 use Rattle.std.specs.Float.{fin, binary64}
 use Rattle.std.specs.Float.Ieee.{round, mul, div, le, lt}
@@ -28,7 +28,7 @@ a4_pitch = fin false 55 (pos 3)
 unfoldable pub octave_pitch : ℤ → Float
 octave_pitch j = fin false 55 (j +ℤ pos 3)
 
--- The whole numbers m behind R[k] = m / 2 ^ 52, one for each k below 12. `IsSignificand` of `theorems` is what document 01 asks of them.
+-- The whole numbers m behind R[k] = m / 2 ^ 52, one for each k below 12. `IsSignificand` of `theorems` is what is asked of them.
 unfoldable pub significands : List ℕ
 significands =
     4503599627370496 ∷

@@ -1,7 +1,6 @@
-// Whole numbers and f64 (document 01): notes, pitches, ratios, the measure and the nearest note. Models and senders are crates above.
+// Whole numbers and f64: notes, pitches, ratios, the measure and the nearest note. Models and senders are crates above.
 #![tactic(auto)]
 
-mod math;
 pub mod note;
 pub mod pitch;
 pub mod refusal;

@@ -4,7 +4,6 @@ ghost use Rattle.std.specs.Prelude.{◌≡◌, true};
 ghost use Rattle.arithmetic.specs.Note.{is_note, letter_of, midi_number, note_rule, letter_rule, octave_rule, plus_rule, before_rule, midi_rule};
 ghost use Rattle.arithmetic.specs.Answers.{optional, outcome, outcome_by};
 
-use crate::math::{i32_div_u, i32_rem_u};
 use crate::refusal::Refusal;
 
 pub const LOWEST_NOTE: i32 = -300;
@@ -34,7 +33,7 @@ impl Note {
     pub fn letter(self) -> u8
         ensures { result ≡ letter_of self.number }
     {
-        i32_rem_u(self.number, 12) as u8
+        self.number.rem_euclid(12) as u8
     }
 }
 
@@ -56,14 +55,7 @@ impl TryFrom<i32> for Note {
 pub fn is_note(number: i32) -> bool
     ensures { result ≡ is_note number }
 {
-    in_range(number as i64)
-}
-
-// The same of a sum of two i32, which an i32 may not hold.
-fn in_range(number: i64) -> bool
-    ensures { result ≡ is_note number }
-{
-    LOWEST_NOTE as i64 <= number && number <= HIGHEST_NOTE as i64
+    LOWEST_NOTE <= number && number <= HIGHEST_NOTE
 }
 
 // The letter: the remainder by 12. Refuses 4.
@@ -81,7 +73,7 @@ pub fn octave(note: i32) -> Result<i32, Refusal>
     ensures { outcome result ≡ octave_rule note }
 {
     let note = Note::try_from(note)?;
-    Ok(i32_div_u(note.number, 12) - 1)
+    Ok(note.number.div_euclid(12) - 1)
 }
 
 // The note so many semitones higher, for any step. Refuses 4: the note, or the sum.
@@ -91,11 +83,9 @@ pub fn plus_semitones(note: i32, num_semitones: i32) -> Result<i32, Refusal>
     ensures { outcome result ≡ plus_rule note num_semitones }
 {
     let note = Note::try_from(note)?;
-    let sum = note.number as i64 + num_semitones as i64;
-    if !in_range(sum) {
-        return Err(Refusal::NoteOutOfRange);
-    }
-    Ok(sum as i32)
+    // A sum that no i32 holds is cut off, and is no note either.
+    let sum = Note::try_from(note.number.saturating_add(num_semitones))?;
+    Ok(sum.number)
 }
 
 // How many semitones the note lies before the other one. Refuses 4: the note, or the other.

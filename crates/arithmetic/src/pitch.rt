@@ -2,17 +2,17 @@
 
 ghost use Rattle.std.specs.Prelude.{◌≡◌, false, ◌^◌, ◌<◌, pos, ◌-ℤ◌};
 ghost use Rattle.std.specs.Float.{fin, binary64};
-ghost use Rattle.std.specs.Float.Ieee.{div, le, lt};
+ghost use Rattle.std.specs.Float.Ieee.{div};
 ghost use Rattle.arithmetic.specs.Pitch.{is_pitch, negligible};
 ghost use Rattle.arithmetic.specs.Measure.{digits, measure, measure_rule};
 ghost use Rattle.arithmetic.specs.Outcome.{value};
-ghost use Rattle.arithmetic.specs.Answers.{outcome};
-ghost use Rattle.arithmetic.specs.Inside.{Writes, WritesOut};
+ghost use Rattle.arithmetic.specs.Answers.{outcome, outcome_by};
+ghost use Rattle.arithmetic.specs.Inside.{range_rule, Writes, WritesOut};
 
 use crate::refusal::Refusal;
 
 // A pitch in Hz. It holds any f64; what needs one from 2^-20 to 2^40 refuses (1) others.
-#[derive(Clone, Copy)]
+#[derive(Clone, Copy, PartialEq, PartialOrd)]
 pub struct Pitch {
     hz: f64,
 }
@@ -35,34 +35,29 @@ impl Pitch {
     pub fn as_hz(self) -> f64
         ensures { result ≡ self.hz }
     {
-        let Pitch { hz } = self;
-        hz
-    }
-
-    // At most as high as the other. No comparison with a NaN holds.
-    pub fn le(self, other: Pitch) -> bool
-        ensures { result ≡ le self.hz other.hz }
-    {
-        self.hz <= other.hz
-    }
-
-    // Lower than the other.
-    pub fn lt(self, other: Pitch) -> bool
-        ensures { result ≡ lt self.hz other.hz }
-    {
-        self.hz < other.hz
+        self.hz
     }
 
     // From 2^-20 to 2^40 Hz.
     pub fn is_in_range(self) -> bool
         ensures { result ≡ is_pitch self.hz }
     {
-        LOWEST_PITCH.le(self) && self.le(HIGHEST_PITCH)
+        LOWEST_PITCH <= self && self <= HIGHEST_PITCH
+    }
+
+    // The pitch, if it is in range. Refuses 1.
+    pub(crate) fn in_range(self) -> Result<Pitch, Refusal>
+        ensures { outcome_by (λ pitch. pitch.hz) result ≡ range_rule self.hz }
+    {
+        if self.is_in_range() {
+            return Ok(self);
+        }
+        Err(Refusal::PitchOutOfRange)
     }
 }
 
 // A ratio of two pitches, 1 for equal ones. It holds any f64.
-#[derive(Clone, Copy)]
+#[derive(Clone, Copy, PartialEq, PartialOrd)]
 pub struct Ratio {
     float_value: f64,
 }
@@ -112,22 +107,7 @@ impl Ratio {
     pub fn as_float(self) -> f64
         ensures { result ≡ self.float_value }
     {
-        let Ratio { float_value } = self;
-        float_value
-    }
-
-    // At most as large as the other. No comparison with a NaN holds.
-    pub fn le(self, other: Ratio) -> bool
-        ensures { result ≡ le self.float_value other.float_value }
-    {
-        self.float_value <= other.float_value
-    }
-
-    // Smaller than the other.
-    pub fn lt(self, other: Ratio) -> bool
-        ensures { result ≡ lt self.float_value other.float_value }
-    {
-        self.float_value < other.float_value
+        self.float_value
     }
 
     // At least 0.999999 and less than 1.000001: too close to 1 to be heard.
@@ -135,10 +115,10 @@ impl Ratio {
     pub fn is_negligible(self) -> bool
         ensures { result ≡ negligible self.float_value }
     {
-        NEGLIGIBLE_FROM.le(self) && self.lt(NEGLIGIBLE_BELOW)
+        NEGLIGIBLE_FROM <= self && self < NEGLIGIBLE_BELOW
     }
 
-    // The base-2 logarithm in steps of 2^-24, cut off: document 01's measure. Refuses 2 a ratio that is not positive and finite.
+    // The base-2 logarithm in steps of 2^-24, cut off. Refuses 2 a ratio that is not positive and finite.
     // Example: Ratio::from_float(1.5).measure() is 9814042
     // Example: Ratio::from_float(0).measure() is refused (2)
     pub fn measure(self) -> Result<i64, Refusal>
@@ -158,7 +138,7 @@ impl Ratio {
     {
         let v = self.float_value;
         if v > 0.0 {
-            let bits = f64::to_bits(v);
+            let bits = v.to_bits();
             let exponent = bits / 0x10_0000_0000_0000;
             let fraction = bits % 0x10_0000_0000_0000;
             if exponent == 0 {
@@ -177,7 +157,7 @@ fn first_digits(m: u64, k: u64) -> Binary
     requires { (0 < m) × (m < 2 ^ 53) × (k < 2046) }
     ensures { WritesOut result (value (measure (fin false m (pos k -ℤ pos 1074)))) }
 {
-    let zeros = u64::leading_zeros(m) as u64;
+    let zeros = m.leading_zeros() as u64;
     let first = (m << zeros) / 0x1_0000_0000;
     Binary {
         octave: k + 63 - zeros,
@@ -192,7 +172,7 @@ fn squarings(y: u64) -> u64
 {
     let mut rest = y;
     let mut written: u64 = 0;
-    for _ in 0..24 {
+    for _ in 0..24u32 {
         let square = rest * rest;
         // A square has 64 binary digits where its digit is 1, else 63.
         let digit = square >> 63;

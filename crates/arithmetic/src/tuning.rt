@@ -7,7 +7,6 @@ ghost use Rattle.arithmetic.specs.Nearest.{nearest_note, nearest_rule, nearest};
 ghost use Rattle.arithmetic.specs.Inside.{within, factor_to12, note_at};
 ghost use Rattle.arithmetic.specs.Answers.{outcome, outcome_by};
 
-use crate::math::{i32_div_u, i32_rem_u};
 use crate::note::{A4, Note};
 use crate::pitch::{Pitch, Ratio};
 use crate::refusal::Refusal;
@@ -48,13 +47,13 @@ const A4_HZ: f64 = 440.0;
 
 // Where the nearest note changes within an octave: the least numbers of 32 binary digits whose measure, times 12, has come to the middle of two notes and 290
 // steps more, 1.000001 as a ratio. A pitch so little above the middle goes to the lower note.
-const BOUNDARIES: [u64; 12] = [
+static BOUNDARIES: [u64; 12] = [
     2210411945, 2341849944, 2481103554, 2628637612, 2784944615, 2950545999, 3125994551, 3311875951,
     3508810295, 3717454961, 3938506445, 4172702168,
 ];
 
 // 440 Hz times 2^j, j from -31 to 35.
-const OCTAVE_PITCHES: [f64; 67] = [
+static OCTAVE_PITCHES: [f64; 67] = [
     2.0489096641540527e-07,
     4.0978193283081055e-07,
     8.195638656616211e-07,
@@ -124,8 +123,8 @@ const OCTAVE_PITCHES: [f64; 67] = [
     15118284881920.0,
 ];
 
-// R[k]: the factors of 0 to 11 semitones.
-const SEMITONE_FACTORS: [f64; 12] = [
+// R[k]: the factors of 0 to 12 semitones.
+static SEMITONE_FACTORS: [f64; 13] = [
     1.0,
     1.0594630943592953,
     1.122462048309373,
@@ -138,6 +137,7 @@ const SEMITONE_FACTORS: [f64; 12] = [
     1.681792830507429,
     1.7817974362806785,
     1.887748625363387,
+    2.0,
 ];
 
 // The pitch of a note, in Hz. Refuses 4.
@@ -154,9 +154,7 @@ pub fn pitch_of(note: i32) -> Result<f64, Refusal>
 pub fn detuning(pitch: Pitch, note: i32) -> Result<f64, Refusal>
     ensures { outcome result ≡ detuning_rule pitch.hz note }
 {
-    if !pitch.is_in_range() {
-        return Err(Refusal::PitchOutOfRange);
-    }
+    let pitch = pitch.in_range()?;
     let note = Note::try_from(note)?;
     Ok(detuning_from(pitch, note))
 }
@@ -174,9 +172,7 @@ pub fn detuning_from(pitch: Pitch, note: Note) -> f64
 pub fn find_by_pitch(pitch: Pitch) -> Result<Approximation, Refusal>
     ensures { outcome_by nearest result ≡ nearest_rule pitch.hz }
 {
-    if !pitch.is_in_range() {
-        return Err(Refusal::PitchOutOfRange);
-    }
+    let pitch = pitch.in_range()?;
     let place = nearest_place(pitch);
     let deviation = Ratio::between_pitches(place.pitch(), pitch);
     Ok(Approximation {
@@ -195,28 +191,28 @@ fn nearest_place(pitch: Pitch) -> Place
     let binary = over_a4.binary().unwrap();
     // Octaves are counted from 2^-1074, the smallest positive f64.
     let octaves = (binary.octave as i32) - 1074;
-    let semitones = within(binary.first) as u32;
+    let semitones = within(binary.first);
     Place { octaves, semitones }
 }
 
-// How many semitones above the octave the nearest note is: as many as boundaries that the first digits have come to. Each quotient is 1 or 0.
-fn within(first: u64) -> u64
+// How many semitones above the octave the nearest note is: as many as boundaries that the first digits have come to. (A `filter` that is counted takes eight
+// times as long.)
+fn within(first: u64) -> u32
     requires { first < 2 ^ 32 }
     ensures { result ≡ within first }
 {
-    let mut passed: u64 = 0;
-    for boundary in BOUNDARIES {
-        passed += (first + (0x2_0000_0000 - boundary)) / 0x2_0000_0000;
-    }
-    passed
+    BOUNDARIES
+        .iter()
+        .map(|boundary| u32::from(*boundary <= first))
+        .sum()
 }
 
 fn note_pitch(note: Note) -> Pitch
     ensures { result.hz ≡ pitch_of note.number }
 {
     let above_a4 = note.number() - A4;
-    let octaves = i32_div_u(above_a4, 12);
-    let semitones = i32_rem_u(above_a4, 12);
+    let octaves = above_a4.div_euclid(12);
+    let semitones = above_a4.rem_euclid(12) as u32;
     let place = Place { octaves, semitones };
     place.pitch()
 }
@@ -226,95 +222,13 @@ fn octave_pitch(j: i32) -> f64
     requires { (negsuc 30 ≤ℤ j) × (j ≤ℤ pos 35) }
     ensures { result ≡ octave_pitch j }
 {
-    let at = (j + 31) as usize;
-    match at {
-        0 => OCTAVE_PITCHES[0],
-        1 => OCTAVE_PITCHES[1],
-        2 => OCTAVE_PITCHES[2],
-        3 => OCTAVE_PITCHES[3],
-        4 => OCTAVE_PITCHES[4],
-        5 => OCTAVE_PITCHES[5],
-        6 => OCTAVE_PITCHES[6],
-        7 => OCTAVE_PITCHES[7],
-        8 => OCTAVE_PITCHES[8],
-        9 => OCTAVE_PITCHES[9],
-        10 => OCTAVE_PITCHES[10],
-        11 => OCTAVE_PITCHES[11],
-        12 => OCTAVE_PITCHES[12],
-        13 => OCTAVE_PITCHES[13],
-        14 => OCTAVE_PITCHES[14],
-        15 => OCTAVE_PITCHES[15],
-        16 => OCTAVE_PITCHES[16],
-        17 => OCTAVE_PITCHES[17],
-        18 => OCTAVE_PITCHES[18],
-        19 => OCTAVE_PITCHES[19],
-        20 => OCTAVE_PITCHES[20],
-        21 => OCTAVE_PITCHES[21],
-        22 => OCTAVE_PITCHES[22],
-        23 => OCTAVE_PITCHES[23],
-        24 => OCTAVE_PITCHES[24],
-        25 => OCTAVE_PITCHES[25],
-        26 => OCTAVE_PITCHES[26],
-        27 => OCTAVE_PITCHES[27],
-        28 => OCTAVE_PITCHES[28],
-        29 => OCTAVE_PITCHES[29],
-        30 => OCTAVE_PITCHES[30],
-        31 => OCTAVE_PITCHES[31],
-        32 => OCTAVE_PITCHES[32],
-        33 => OCTAVE_PITCHES[33],
-        34 => OCTAVE_PITCHES[34],
-        35 => OCTAVE_PITCHES[35],
-        36 => OCTAVE_PITCHES[36],
-        37 => OCTAVE_PITCHES[37],
-        38 => OCTAVE_PITCHES[38],
-        39 => OCTAVE_PITCHES[39],
-        40 => OCTAVE_PITCHES[40],
-        41 => OCTAVE_PITCHES[41],
-        42 => OCTAVE_PITCHES[42],
-        43 => OCTAVE_PITCHES[43],
-        44 => OCTAVE_PITCHES[44],
-        45 => OCTAVE_PITCHES[45],
-        46 => OCTAVE_PITCHES[46],
-        47 => OCTAVE_PITCHES[47],
-        48 => OCTAVE_PITCHES[48],
-        49 => OCTAVE_PITCHES[49],
-        50 => OCTAVE_PITCHES[50],
-        51 => OCTAVE_PITCHES[51],
-        52 => OCTAVE_PITCHES[52],
-        53 => OCTAVE_PITCHES[53],
-        54 => OCTAVE_PITCHES[54],
-        55 => OCTAVE_PITCHES[55],
-        56 => OCTAVE_PITCHES[56],
-        57 => OCTAVE_PITCHES[57],
-        58 => OCTAVE_PITCHES[58],
-        59 => OCTAVE_PITCHES[59],
-        60 => OCTAVE_PITCHES[60],
-        61 => OCTAVE_PITCHES[61],
-        62 => OCTAVE_PITCHES[62],
-        63 => OCTAVE_PITCHES[63],
-        64 => OCTAVE_PITCHES[64],
-        65 => OCTAVE_PITCHES[65],
-        _ => OCTAVE_PITCHES[66],
-    }
+    OCTAVE_PITCHES[(j + 31) as usize]
 }
 
-// R[k], and 2 from 12 semitones on, an octave's.
+// R[k], and 2 for 12 semitones, an octave.
 fn semitone_factor(k: u32) -> f64
+    requires { k < 13 }
     ensures { result ≡ factor_to12 k }
 {
-    match k {
-        0 => SEMITONE_FACTORS[0],
-        1 => SEMITONE_FACTORS[1],
-        2 => SEMITONE_FACTORS[2],
-        3 => SEMITONE_FACTORS[3],
-        4 => SEMITONE_FACTORS[4],
-        5 => SEMITONE_FACTORS[5],
-        6 => SEMITONE_FACTORS[6],
-        7 => SEMITONE_FACTORS[7],
-        8 => SEMITONE_FACTORS[8],
-        9 => SEMITONE_FACTORS[9],
-        10 => SEMITONE_FACTORS[10],
-        11 => SEMITONE_FACTORS[11],
-        _ => 2.0,
-    }
+    SEMITONE_FACTORS[k as usize]
 }

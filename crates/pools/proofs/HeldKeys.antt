@@ -43,11 +43,11 @@ module _ (s : State) where
   unfolding held_keys
   walked from h = held_past s.keys from h
 
-  here : (from : ℕ) (p : Place) → from < length s.keys → found s from ≡ some p → Met s from (record { key = from; place = p })
+  pub here : (from : ℕ) (p : Place) → from < length s.keys → found s from ≡ some p → Met s from (record { key = from; place = p })
   unfolding held_keys found
   here from p h e = record { reached = omega arith; inside = h; is = e; left = held_here s.keys from p h e }
 
-  skipped : (from : ℕ) → from < length s.keys → found s from ≡ none → held_keys s from ≡ held_keys s (from + 1)
+  pub skipped : (from : ℕ) → from < length s.keys → found s from ≡ none → held_keys s from ≡ held_keys s (from + 1)
   unfolding held_keys found
   skipped from h e = held_not s.keys from h e
 
@@ -55,7 +55,7 @@ module _ (s : State) where
   unfolding first
   step zero from end h e =
       let none_left = walked from (omega arith) in
-      absurd (let f = sym (ap first none_left) ∙ e in let z : ◌≡◌ {A = ℕ} 0 1 = cc in omega arith)
+      absurd (let f = sym (ap first none_left) ∙ e in cc)
   step (suc n) from end h e = go (ltb from (length s.keys)) refl (step n (from + 1) (omega arith) h)
     where
       by_place : from < length s.keys → (p : Option Place) → found s from ≡ p → (first (held_keys s (from + 1)) ≡ some h → Met s (from + 1) h) → Met s from h
@@ -73,7 +73,7 @@ module _ (s : State) where
       go true q rec = by_place (ltb-true from (length s.keys) q) (found s from) refl rec
       go false q rec =
           let none_left = walked from (ltb-false from (length s.keys) q) in
-          absurd (let f = sym (ap first none_left) ∙ e in let z : ◌≡◌ {A = ℕ} 0 1 = cc in omega arith)
+          absurd (let f = sym (ap first none_left) ∙ e in cc)
 
   -- The next key is the first of those left.
   pub next_met : (from : ℕ) (h : Held) → first (held_keys s from) ≡ some h → Met s from h
@@ -86,4 +86,4 @@ module _ (s : State) where
     where
       go : (l : List Held) → first l ≡ none → l ≡ []
       go [] q = refl
-      go (x ∷ l) q = absurd (let z : ◌≡◌ {A = ℕ} 0 1 = cc in omega arith)
+      go (x ∷ l) q = absurd (cc)

@@ -2,10 +2,8 @@
 pub mod Queues
 pub mod HeldKeys
 pub mod Pools
-pub mod PressCases
-pub mod Regions
 pub mod Blocks
+pub mod PressCases
 pub mod Allocations
 pub mod FreshBlocks
-pub mod SettingsCells
 pub mod PoolPresses

@@ -1,10 +1,8 @@
 -- What an accepted press or a repitch answers: its detuning can be measured, since its note is a note and its pitch a pitch. Assumes nothing.
 use mathlib.Core.Path.{◌≡◌, refl, sym, ap, subst, ◌∙◌}
 use mathlib.Core.Bool.{Bool, true, false, not}
-use mathlib.Core.List.{List}
 use mathlib.Core.Option.{Option, some, none}
 use Prim.Native.Nat.{ℕ}
-use native.Mathlib.Omega.{arith}
 use lib.Dec.{T}
 use lib.IntN.{ℤ}
 use lib.Ieee.{Float}
@@ -19,6 +17,7 @@ use Rattle.channels.specs.Lists.{first}
 use Rattle.channels.specs.Places.{Place, is_held}
 use Rattle.pools.specs.Pool.{State, Press, accepted, rejected, pool, found, room_for, pressed_on, pressed, unless_held, register_rule, tuning, repitch_rule}
 use Rattle.pools.specs.Block.{state_of, register_note_rule}
+use Rattle.pools.specs.declared.jit.JitTuningModel.{JitTuningModel}
 use Rattle.pools.proofs.Pools.{value_by}
 use Rattle.pools.proofs.Blocks.{found_note}
 
@@ -29,7 +28,6 @@ true_of false t = elim t [ ]
 measurable : (hz : Float) (z : ℤ) → is_pitch hz ≡ true → is_note z ≡ true → positive (detuning_of hz z) ≡ true
 measurable hz z p n = true_of (positive (detuning_of hz z)) (detuning_positive hz z (subst T (sym p) tt) n)
 
--- an accepted press answers the detuning that it was made with
 -- an accepted press answers the note and the detuning it was made with
 pub made_with : (s : State) (key : ℕ) (note : ℤ) (v : Float) {c : ℕ} {st : Option ℤ} {z : ℤ} {d : Float} → (pressed s key note v).0 ≡ accepted c st z d → (z ≡ note) × (d ≡ v)
 unfolding pressed pressed_on
@@ -37,7 +35,7 @@ made_with s key note v {c} {st} {z} {d} = go (first (pool (room_for s note).stat
   where
     go : (x : Option ℕ) → (pressed_on x (room_for s note) s key note v).0 ≡ accepted c st z d → (z ≡ note) × (d ≡ v)
     go (some x) e = (let f : z ≡ note = cc in f, let f : d ≡ v = cc in f)
-    go none e = let f : ◌≡◌ {A = ℕ} 0 1 = cc in absurd (omega arith)
+    go none e = absurd (cc)
 
 pub press_measurable :
     (s : State) (key : ℕ) (hz : Float) {r : Press × State} {c : ℕ} {st : Option ℤ} {z : ℤ} {d : Float} → register_rule s key hz ≡ value r
@@ -82,19 +80,19 @@ rejected_stays s key hz {t} e = go (first (pool (room_for s note).state note).fr
     same = let f = (value_by 11 (rejected, t) (not (is_held (found s key))) (value (pressed s key note (detuning_of hz note))) tested.1).1 in cc
 
     go : (x : Option ℕ) → pressed_on x (room_for s note) s key note (detuning_of hz note) ≡ (rejected, t) → s ≡ t
-    go (some x) f = let g = ap (λ (r : Press × State). r.0) f in let z : ◌≡◌ {A = ℕ} 0 1 = cc in absurd (omega arith)
+    go (some x) f = absurd (let g = ap (λ (r : Press × State). r.0) f in cc)
     go none f = ap (λ (r : Press × State). r.1) f
 
 pub repitch_measurable :
-    (l : List ℕ) (key : ℕ) (hz : Float) {p : Place} {d : Float} → repitch_rule (state_of l) key hz ≡ value (some (p, d)) → positive d ≡ true
+    (m : JitTuningModel) (key : ℕ) (hz : Float) {p : Place} {d : Float} → repitch_rule (state_of m) key hz ≡ value (some (p, d)) → positive d ≡ true
 unfolding repitch_rule tuning
-repitch_measurable l key hz {p} {d} e = go (found (state_of l) key) refl tested.1
+repitch_measurable m key hz {p} {d} e = go (found (state_of m) key) refl tested.1
   where
-    tested : (is_pitch hz ≡ true) × (value (some (p, d)) ≡ value (tuning hz (found (state_of l) key)))
-    tested = value_by 1 (some (p, d)) (is_pitch hz) (value (tuning hz (found (state_of l) key))) (sym e)
+    tested : (is_pitch hz ≡ true) × (value (some (p, d)) ≡ value (tuning hz (found (state_of m) key)))
+    tested = value_by 1 (some (p, d)) (is_pitch hz) (value (tuning hz (found (state_of m) key))) (sym e)
 
-    go : (o : Option Place) → found (state_of l) key ≡ o → value (some (p, d)) ≡ value (tuning hz o) → positive d ≡ true
+    go : (o : Option Place) → found (state_of m) key ≡ o → value (some (p, d)) ≡ value (tuning hz o) → positive d ≡ true
     go (some q) f h =
         let same : ◌≡◌ {A = Place × Float} (p, d) (q, detuning_of hz q.note) = cc in
-        rw (ap (λ (x : Place × Float). x.1) same) (measurable hz q.note tested.0 (found_note l key q f))
-    go none f h = let z : ◌≡◌ {A = ℕ} 0 1 = cc in absurd (omega arith)
+        rw (ap (λ (x : Place × Float). x.1) same) (measurable hz q.note tested.0 (found_note m key q f))
+    go none f h = absurd (cc)

@@ -1,22 +1,22 @@
 -- Laws of the pool rules where a function of `jit` stands. Assumes nothing.
 use Prim.Native.Nat.{ℕ, ◌+◌, ◌<◌}
 use mathlib.Core.Path.{◌≡◌, refl, sym, ap, ◌∙◌}
-use mathlib.Core.Bool.{Bool, true, false, not, true≢false}
+use mathlib.Core.Bool.{Bool, true, false}
 use mathlib.Core.Option.{Option, some, none}
-use mathlib.Core.Logic.{◌≢◌, inl, inr}
+use mathlib.Core.Logic.{◌≢◌}
 use native.Mathlib.Omega.{arith}
 use lib.IntN.{ℤ}
 use lib.Ieee.{Float}
-use lib.ListN.{drop}
+use lib.ListN.{length, drop, length-set}
 use lib.Seq.{get_or-set_other, drop-set-lt}
 use Rattle.arithmetic.specs.Outcome.{Outcome, value, refused, refuse◌unless◌then◌}
 use Rattle.arithmetic.specs.Refusal.{pitch_out_of_range, note_out_of_range}
-use Rattle.arithmetic.specs.Note.{is_note, letter_of, letter_rule}
-use Rattle.arithmetic.specs.Pitch.{is_pitch, detuning_of, detuning_rule}
+use Rattle.arithmetic.specs.Note.{is_note, note_rule}
+use Rattle.arithmetic.specs.Pitch.{is_pitch, detuning_of}
 use Rattle.arithmetic.specs.Nearest.{nearest_note, nearest_rule}
-use Rattle.arithmetic.proofs.Outcomes.{no_value}
+use Rattle.arithmetic.proofs.Outcomes.{no_value, refuses_once}
 use Rattle.arithmetic.proofs.Notes.{letter_below}
-use Rattle.arithmetic.proofs.Refusals.{letter_refuses, detuning_refuses}
+use Rattle.arithmetic.proofs.Refusals.{nearest_refuses}
 use Rattle.channels.specs.Lists.{first}
 use Rattle.channels.specs.Places.{Place}
 use Rattle.pools.specs.Pool.{State, Held, pool_count, pool_of, pool, found, with_pool, with_key, freed, forgotten, released, released_from, released_all, held_at, oldest_of, oldest, Room, room, made_room, room_for, accepted, rejected, taken, pressed, pressed_on, held_from, held_keys, unless_held, register_rule}
@@ -24,7 +24,7 @@ use Rattle.pools.specs.declared.jit.PoolGroupBy.{PoolGroupBy}
 use Rattle.pools.specs.declared.jit.PoolGroupBy.TheVariants.{NoteLetter, Channel}
 use Rattle.pools.specs.declared.jit.PoolingMode.{PoolingMode}
 use Rattle.pools.specs.declared.jit.PoolingMode.TheVariants.{Block, Stop, Ignore}
-use Rattle.pools.proofs.HeldKeys.{Met}
+use Rattle.pools.proofs.HeldKeys.{here, skipped}
 
 -- ---- what a call's value says of a rule
 
@@ -32,26 +32,23 @@ pub value_by : {A : Type 0} (k : ℕ) (a : A) (test : Bool) (o : Outcome A) → 
 value_by k a true o e = (refl, e)
 value_by k a false o e = no_value a k e
 
+-- ---- whether a number is a note
+
+module _ (z : ℤ) where
+  pub noted : (n : ℤ) → ◌≡◌ {A = Outcome ℤ} (value n) (note_rule z) → (is_note z ≡ true) × (n ≡ z)
+  unfolding note_rule
+  noted n e = let f = value_by note_out_of_range n (is_note z) (value z) e in let g = f.1 in (f.0, cc)
+
+  pub not_noted : (n : ℕ) → ◌≡◌ {A = Outcome ℤ} (refused n) (note_rule z) → (is_note z ≡ false) × (n ≡ 4)
+  unfolding note_rule
+  not_noted n e = (refuses_once note_out_of_range n (is_note z) z).0 (sym e)
+
 -- ---- the pool of a note
 
 pub pool_small : (g : PoolGroupBy) (z : ℤ) → pool_of g z < pool_count g
 unfolding pool_of pool_count
 pool_small NoteLetter z = letter_below z
 pool_small Channel z = omega arith
-
-pub pools_few : (g : PoolGroupBy) (z : ℤ) → pool_of g z < 12
-unfolding pool_of
-pools_few NoteLetter z = letter_below z
-pools_few Channel z = omega arith
-
--- a note has its letter
-module _ (z : ℤ) (is : is_note z ≡ true) (n : ℕ) where
-  pub letter_is : value n ≡ letter_rule z → n ≡ letter_of z
-  unfolding letter_rule
-  letter_is e = let f = (value_by note_out_of_range n (is_note z) (value (letter_of z)) e).1 in cc
-
-  pub letter_not : refused n ≡ letter_rule z → ⊥
-  letter_not e = true≢false (sym is ∙ ((letter_refuses z n).0 (sym e)).0)
 
 -- the longest-held key is the first of the press order, and is found
 pub oldest_is : (s : State) (note : ℤ) (o : Held) → oldest s note ≡ some o → (first (pool s note).order ≡ some o.key) × (found s o.key ≡ some o.place)
@@ -63,12 +60,12 @@ oldest_is s note o = by_first (first (pool s note).order) refl
     by_found k (some p) f h e =
         let same : ◌≡◌ {A = Held} (record { key = k; place = p }) o = cc in
         (h ∙ ap (λ (x : Held). some x.key) same, ap (λ (x : Held). found s x.key) (sym same) ∙ f ∙ ap (λ (x : Held). some x.place) same)
-    by_found k none f h e = let z : ◌≡◌ {A = ℕ} 0 1 = cc in absurd (omega arith)
+    by_found k none f h e = absurd (cc)
 
     by_first : (k : Option ℕ) → first (pool s note).order ≡ k → oldest_of s k ≡ some o
         → (first (pool s note).order ≡ some o.key) × (found s o.key ≡ some o.place)
     by_first (some k) h e = by_found k (found s k) refl h e
-    by_first none h e = let z : ◌≡◌ {A = ℕ} 0 1 = cc in absurd (omega arith)
+    by_first none h e = absurd (cc)
 
 -- without a held key there is no room to make
 pub made_none : (m : PoolingMode) (s : State) → made_room m s none ≡ room s none
@@ -116,23 +113,25 @@ held_behind s key from h = go (found s key)
     go (some p) = ap (held_from from) (drop-set-lt from s.keys key none h)
     go none = refl
 
--- the next found key is released of all that are to be
-pub stop_turn : (s : State) (from : ℕ) (h : Held) → Met s from h
-    → released_all s (held_keys s from) ≡ released_all (released s h.key) (held_keys (released s h.key) (h.key + 1))
+pub released_keys : (s : State) (key : ℕ) → length (released s key).keys ≡ length s.keys
+unfolding released released_from forgotten freed with_key with_pool
+released_keys s key = go (found s key)
+  where
+    go : (p : Option Place) → length (released_from p s key).keys ≡ length s.keys
+    go (some p) = length-set s.keys key none
+    go none = refl
+
+-- all that are to be released from a key on: this one, and those behind it
+pub stop_turn : (s : State) (key : ℕ) → key < length s.keys → released_all s (held_keys s key) ≡ released_all (released s key) (held_keys (released s key) (key + 1))
 unfolding released_all
-stop_turn s from h met = ap (released_all s) met.left ∙ ap (released_all (released s h.key)) (sym (held_behind s h.key (h.key + 1) (omega arith)))
+stop_turn s key h = go (found s key) refl
+  where
+    go : (p : Option Place) → found s key ≡ p → released_all s (held_keys s key) ≡ released_all (released s key) (held_keys (released s key) (key + 1))
+    go (some p) e =
+        ap (released_all s) (here s key p h e).left ∙ ap (released_all (released s key)) (sym (held_behind s key (key + 1) (omega arith)))
+    go none e = ap (released_all s) (skipped s key h e) ∙ ap (λ (t : State). released_all t (held_keys t (key + 1))) (sym (released_none s key e))
 
--- ---- a test that is turned round
-
-pub not_true : (b : Bool) → not b ≡ true → b ≡ false
-not_true true e = sym e
-not_true false e = refl
-
-pub not_false : (b : Bool) → not b ≡ false → b ≡ true
-not_false true e = refl
-not_false false e = sym e
-
--- ---- the nearest note, and a pitch with a note
+-- ---- the nearest note
 
 module _ (hz : Float) where
   pub nearest_is : (n : ℤ) (d : Float) → ◌≡◌ {A = Outcome (ℤ × Float)} (value (n, d)) (nearest_rule hz)
@@ -151,17 +150,10 @@ module _ (hz : Float) where
   unfolding register_rule
   register_nearest s key n d is = ap (λ z. unless_held s key z d) is.1 ∙ ap (unless_held s key (nearest_note hz)) is.2 ∙ rw is.0
 
-  module _ (z : ℤ) (pitch : is_pitch hz ≡ true) (note : is_note z ≡ true) where
-    pub detuning_is : (d : Float) → value d ≡ detuning_rule hz z → d ≡ detuning_of hz z
-    unfolding detuning_rule
-    detuning_is d e =
-        let f = (value_by pitch_out_of_range d (is_pitch hz) (refuse note_out_of_range unless is_note z then value (detuning_of hz z)) e).1 in
-        let g = (value_by note_out_of_range d (is_note z) (value (detuning_of hz z)) f).1 in
-        cc
+  -- by what `find_by_pitch` answers
+  pub register_found : (n : ℤ) (d : Float) → ◌≡◌ {A = Outcome (ℤ × Float)} (value (n, d)) (nearest_rule hz) → (s : State) (key : ℕ) → unless_held s key n d ≡ register_rule s key hz
+  register_found n d e s key = register_nearest s key n d (nearest_is n d e)
 
-    pub detuning_not : (n : ℕ) → refused n ≡ detuning_rule hz z → ⊥
-    detuning_not n e =
-        elim ((detuning_refuses hz z n).0 (sym e)) [
-          | inl h ↦ true≢false (sym pitch ∙ h.0)
-          | inr h ↦ true≢false (sym note ∙ h.1.0)
-        ]
+  pub register_refused : (n : ℕ) → ◌≡◌ {A = Outcome (ℤ × Float)} (refused n) (nearest_rule hz) → (s : State) (key : ℕ) → register_rule s key hz ≡ refused n
+  unfolding register_rule
+  register_refused n e s key = let refusal = (nearest_refuses hz n).0 (sym e) in rw (refusal.0, refusal.1)

@@ -1,16 +1,19 @@
--- Laws of a queue's items where a function or a loop of `queue` stands. Assumes nothing.
-use Prim.Native.Nat.{ℕ, zero, suc, ◌+◌, ◌≤◌, ◌<◌, min}
-use mathlib.Core.Path.{◌≡◌, refl, sym, ap, ◌∙◌}
-use mathlib.Core.List.{List, [], ◌∷◌, ◌++◌, append-nil, append_assoc}
-use mathlib.Core.Option.{some, none}
-use native.Mathlib.Omega.{arith}
-use native.Mathlib.Nat.{zero-min, min-zero, suc-min-suc}
-use native.Mathlib.Numerals.{add-one}
-use lib.ListN.{length, take, drop, get_or, set, length-append, length-take, drop_of_length-le}
-use lib.Seq.{take_all, length-take-le, take-append-le, take-suc, take-suc-set, drop-append-le, drop-cons}
-use borrow.Author.Tests.{eq-eqb, ne_eqb}
-use Rattle.channels.specs.Lists.{upward, first, without}
+-- Laws of a queue's items: a count, and a list of which so many count, or all. Assumes nothing.
+use Rattle.std.proofs.Common.{◌≡◌, ℕ, zero, suc, ◌+◌, ◌-◌, ◌<◌, ◌≤◌, min, Bool, true, false, List, [], ◌∷◌, ◌++◌, map, length, get_or, take, drop, set, refl, sym, ap, ◌∙◌, eqb, ltb, add-one, arith}
+use Rattle.std.proofs.Math.Nat.{mod-eq_of_lt, zero-min, min-zero, suc-min-suc}
+use Rattle.std.proofs.Math.Seq.{paste, take-suc, take-suc-set, take-set-le, drop-set-lt, drop-drop, get_or-drop}
+use Rattle.std.proofs.lemmas.List.{append-nil, map-append, take-map, take_all, take_min, length-take, length-take-le, length-drop, length-append, take-append-le, drop-take}
+use borrow.Author.Tests.{eq-eqb, ne_eqb, lt-ltb, le-ltb}
+use Rattle.std.specs.Bool.{then_some}
+use Rattle.arithmetic.specs.Answers.{optional}
+use Rattle.channels.specs.Lists.{upward, first, member, without}
+use Rattle.channels.proofs.ListLaws.{outcome, passed, failed}
+use Rattle.channels.specs.Places.{channel_of}
 use Rattle.pools.specs.Pool.{behind}
+
+-- the items that count
+pub counted : (n m : ℕ) (l : List ℕ) → m ≡ length (take n l) → take n l ≡ take m l
+counted n m l e = sym (take_min n l) ∙ ap (λ k. take k l) (sym (e ∙ length-take n l))
 
 pub take_range : (n a m : ℕ) → take n (upward a m) ≡ upward a (min n m)
 unfolding upward
@@ -18,77 +21,114 @@ take_range zero a m = ap (upward a) (sym (zero-min m))
 take_range (suc n) a zero = ap (upward a) (sym (min-zero (suc n)))
 take_range (suc n) a (suc m) = ap (λ (t : List ℕ). a ∷ t) (take_range n (suc a) m) ∙ ap (upward a) (sym (suc-min-suc n m))
 
+-- the lowest numbers are channels
+pub channels_same : (a n : ℕ) → a + n ≤ 16 → map channel_of (upward a n) ≡ upward a n
+unfolding upward
+channels_same a zero h = refl
+channels_same a (suc n) h = rw (mod-eq_of_lt {n = a} {m = 16} (omega arith)) (ap (λ (r : List ℕ). a ∷ r) (channels_same (suc a) n (omega arith)))
+
+-- ---- the front
+
+pub front_is : (n : ℕ) (l : List ℕ) → 0 < length l → optional (then_some (ltb 0 n) (get_or l 0 0)) ≡ first (take n l)
+unfolding first
+front_is zero l h = refl
+front_is (suc n) [] h = absurd (omega arith)
+front_is (suc n) (x ∷ l) h = rw (lt-ltb 0 (suc n) (omega arith))
+
+-- what is left behind it, where all others are moved to the front
+pub rest_moved : (n : ℕ) (l : List ℕ) → 0 < n → n ≤ length l → take (n - 1) (paste l 0 (drop 1 l) (length l - 1)) ≡ drop 1 (take n l)
+rest_moved n l h k =
+    let m = length l - 1 in
+    let e : 1 + (n - 1) ≡ n = omega arith in
+    ap (λ r. take (n - 1) (r ++ drop (0 + m) l)) (take_all m (drop 1 l) (omega (arith, length-drop 1 l)))
+    ∙ take-append-le (n - 1) (drop 1 l) (drop (0 + m) l) (omega (arith, length-drop 1 l))
+    ∙ sym (drop-take 1 (n - 1) l)
+    ∙ ap (λ i. drop 1 (take i l)) e
+
 -- ---- one more at the back
 
 pub behind_room : (l : List ℕ) (x : ℕ) → length l < 16 → behind l x ≡ l ++ (x ∷ [])
 unfolding behind
 behind_room l x h = take_all 16 (l ++ (x ∷ [])) (omega (arith, length-append l (x ∷ [])))
 
-pub length_behind : (l : List ℕ) (x : ℕ) → length (behind l x) ≤ length l + 1
-unfolding behind
-length_behind l x = omega (arith, length-take 16 (l ++ (x ∷ [])), length-append l (x ∷ []))
-
-pub push_room : (n : ℕ) (s : List ℕ) (x : ℕ) → n < 16 → length s ≡ 16 → take (n + 1) (set s n x) ≡ behind (take n s) x
-push_room n s x h e =
-    ap (λ (k : ℕ). take k (set s n x)) (add-one n)
-    ∙ take-suc-set s n x (omega arith)
-    ∙ sym (behind_room (take n s) x (omega (arith, length-take-le n s (omega arith))))
+pub push_room : (n : ℕ) (l : List ℕ) (x : ℕ) → n < 16 → n < length l → take (n + 1) (set l n x) ≡ behind (take n l) x
+push_room n l x h k =
+    ap (λ (i : ℕ). take i (set l n x)) (add-one n)
+    ∙ take-suc-set l n x k
+    ∙ sym (behind_room (take n l) x (omega (arith, length-take-le n l (omega arith))))
 
 pub push_full : (l : List ℕ) (x : ℕ) → length l ≡ 16 → l ≡ behind l x
 unfolding behind
 push_full l x e = sym (take-append-le 16 l (x ∷ []) (omega arith) ∙ take_all 16 l (omega arith))
 
--- ---- the front
-
-pub front_some : (n : ℕ) (s : List ℕ) → 0 < length (take n s) → some (get_or s 0 0) ≡ first (take n s)
-unfolding first
-front_some zero s h = absurd (omega arith)
-front_some (suc n) [] h = absurd (omega arith)
-front_some (suc n) (x ∷ s) h = refl
-
-pub front_none : (l : List ℕ) → length l ≡ 0 → none ≡ first l
-unfolding first
-front_none [] e = refl
-front_none (x ∷ l) e = absurd (omega arith)
-
--- ---- the items behind the front, as far as i
-
-pub rest_begun : (l : List ℕ) → [] ≡ drop 1 (take 1 l)
-rest_begun [] = refl
-rest_begun (x ∷ l) = refl
-
-module _ (l : List ℕ) (i : ℕ) (kept : List ℕ) where
-  pub rest_turn : 1 ≤ i → i < length l → length l ≤ 16 → kept ≡ drop 1 (take i l) → behind kept (get_or l i 0) ≡ drop 1 (take (i + 1) l)
-  rest_turn a b few e =
-      behind_room kept (get_or l i 0) (omega (arith, ap length e, length_drop_one (take i l), length-take-le i l (omega arith)))
-      ∙ ap (λ (t : List ℕ). t ++ (get_or l i 0 ∷ [])) e
-      ∙ sym (drop-append-le 1 (take i l) (get_or l i 0 ∷ []) (omega (arith, length-take-le i l (omega arith))))
-      ∙ ap (drop 1) (sym (take-suc l i 0 b))
-      ∙ ap (λ (k : ℕ). drop 1 (take k l)) (sym (add-one i))
-    where
-      length_drop_one : (t : List ℕ) → length (drop 1 t) ≤ length t
-      length_drop_one [] = omega arith
-      length_drop_one (x ∷ t) = omega arith
-
-  pub rest_ended : length l ≤ i → kept ≡ drop 1 (take i l) → kept ≡ drop 1 l
-  rest_ended h e = e ∙ ap (drop 1) (take_all i l h)
+pub map_behind : (l : List ℕ) (c : ℕ) → c < 16 → map channel_of (behind l c) ≡ behind (map channel_of l) c
+unfolding behind
+map_behind l c h =
+    sym (take-map channel_of 16 (l ++ (c ∷ [])))
+    ∙ ap (take 16) (map-append channel_of l (c ∷ []))
+    ∙ ap (λ n. take 16 (map channel_of l ++ (n ∷ []))) (mod-eq_of_lt h)
 
 -- ---- the items without a number, as far as i
 
-module _ (x : ℕ) (l : List ℕ) (i : ℕ) (kept : List ℕ) (inv : without x l ≡ kept ++ without x (drop i l)) where
-  -- the next item is the number, and goes
-  pub without_here : i < length l → get_or l i 0 ≡ x → without x l ≡ kept ++ without x (drop (i + 1) l)
-  unfolding without
-  without_here h e = inv ∙ rw (drop-cons l i 0 h, eq-eqb (get_or l i 0) x e, add-one)
+without-append : (x : ℕ) (l m : List ℕ) → without x (l ++ m) ≡ without x l ++ without x m
+unfolding without
+without-append x [] m = refl
+without-append x (y ∷ l) m = elim (outcome (eqb y x)) [ passed e ↦ rw e (without-append x l m) | failed e ↦ rw e (ap (λ (r : List ℕ). y ∷ r) (without-append x l m)) ]
 
-  -- the next item is another, and stays
-  pub without_other : i < length l → (get_or l i 0 ≡ x → ⊥) → length kept < 16 → without x l ≡ behind kept (get_or l i 0) ++ without x (drop (i + 1) l)
-  unfolding without
-  without_other h ne room =
-      inv
-      ∙ rw (drop-cons l i 0 h, ne_eqb (get_or l i 0) x ne, add-one, behind_room kept (get_or l i 0) room)
-      (sym (append_assoc kept (get_or l i 0 ∷ []) (without x (drop (suc i) l))))
+-- The first i of the items m have been gone through, and those that are not the number stand first in l.
+module _ (x : ℕ) (l m : List ℕ) (i k : ℕ) (h : i < length m) (long : length l ≡ length m) (few : k ≤ i) (read : take k l ≡ without x (take i m)) (rest : drop i l ≡ drop i m) where
+  next : get_or l i 0 ≡ get_or m i 0
+  next = let at : i ≡ i + 0 = omega arith in rw at (sym (get_or-drop i l 0 0) ∙ ap (λ r. get_or r 0 0) rest ∙ get_or-drop i m 0 0)
 
-  pub without_ended : length l ≤ i → kept ≡ without x l
+  one_more : without x (take (i + 1) m) ≡ take k l ++ without x (get_or l i 0 ∷ [])
+  one_more =
+      ap (λ n. without x (take n m)) (add-one i)
+      ∙ ap (without x) (take-suc m i 0 h)
+      ∙ without-append x (take i m) (get_or m i 0 ∷ [])
+      ∙ ap (λ r. r ++ without x (get_or m i 0 ∷ [])) (sym read)
+      ∙ ap (λ n. take k l ++ without x (n ∷ [])) (sym next)
+
+  pub sifted_here : get_or l i 0 ≡ x → take k (set l k (get_or l i 0)) ≡ without x (take (i + 1) m)
   unfolding without
-  without_ended h = sym (inv ∙ rw (drop_of_length-le l {i = i} h) (append-nil kept))
+  sifted_here e = take-set-le k l k (get_or l i 0) (omega arith) ∙ sym (one_more ∙ rw (eq-eqb (get_or l i 0) x e) (append-nil (take k l)))
+
+  pub sifted_other : (get_or l i 0 ≡ x → ⊥) → take (k + 1) (set l k (get_or l i 0)) ≡ without x (take (i + 1) m)
+  unfolding without
+  sifted_other ne =
+      ap (λ n. take n (set l k (get_or l i 0))) (add-one k) ∙ take-suc-set l k (get_or l i 0) (omega arith) ∙ sym (one_more ∙ rw (ne_eqb (get_or l i 0) x ne))
+
+  pub sifted_rest : drop (i + 1) (set l k (get_or l i 0)) ≡ drop (i + 1) m
+  sifted_rest = drop-set-lt (i + 1) l k (get_or l i 0) (omega arith) ∙ sym (drop-drop 1 i l) ∙ ap (drop 1) rest ∙ drop-drop 1 i m
+
+-- ---- whether the number was there
+
+without_most : (x : ℕ) (l : List ℕ) → length (without x l) ≤ length l
+unfolding without
+without_most x [] = omega arith
+without_most x (y ∷ l) = elim (outcome (eqb y x)) [
+  | passed e ↦ rw e (omega (arith, without_most x l))
+  | failed e ↦ rw e (omega (arith, without_most x l))
+]
+
+gone : (x : ℕ) (l : List ℕ) → member x l ≡ true → length (without x l) < length l
+unfolding without
+gone x [] h = absurd (cc)
+gone x (y ∷ l) h = elim (outcome (eqb y x)) [
+  | passed e ↦ rw e (omega (arith, without_most x l))
+  | failed e ↦ rw e (omega (arith, gone x l (rw e at h)))
+]
+
+pub without_none : (x : ℕ) (l : List ℕ) → member x l ≡ false → without x l ≡ l
+unfolding without
+without_none x [] h = refl
+without_none x (y ∷ l) h = elim (outcome (eqb y x)) [
+  | passed e ↦ absurd (let z : ◌≡◌ {A = Bool} true false = rw e at h in cc)
+  | failed e ↦ rw e (ap (λ (r : List ℕ). y ∷ r) (without_none x l (rw e at h)))
+]
+
+-- fewer are left where the number was there
+pub fewer : (x : ℕ) (l : List ℕ) (m n : ℕ) → m ≡ length (without x l) → n ≡ length l → ltb m n ≡ member x l
+fewer x l m n e f = elim (outcome (member x l)) [
+  | passed h ↦ lt-ltb m n (omega (arith, gone x l h)) ∙ sym h
+  | failed h ↦ le-ltb m n (omega (arith, ap length (without_none x l h))) ∙ sym h
+]

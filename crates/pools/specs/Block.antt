@@ -5,7 +5,7 @@ use Rattle.arithmetic.specs.Note.{is_note}
 use Rattle.arithmetic.specs.Outcome.{Outcome, value, refused, refuse◌unless◌then◌}
 use Rattle.arithmetic.specs.Refusal.{note_out_of_range}
 use Rattle.channels.specs.Places.{channel_of, place_of}
-use Rattle.pools.specs.Pool.{key_count, Pool, State, pool_count, Press, unless_held}
+use Rattle.pools.specs.Pool.{Pool, State, pool_count, Press, unless_held}
 use Rattle.pools.specs.declared.jit.PoolGroupBy.{PoolGroupBy}
 use Rattle.pools.specs.declared.jit.PoolGroupBy.TheVariants.{NoteLetter, Channel}
 use Rattle.pools.specs.declared.jit.PoolingMode.{PoolingMode}

@@ -1,4 +1,4 @@
--- What the crate's contracts cite, each file a rule of document 01.
+-- What the crate's contracts cite.
 pub mod Pool
 pub mod Block
 pub mod PoolAnswers

@@ -1,4 +1,4 @@
--- Pools of channels (document 01, "jit.rs"): presses, releases, lookups, repitches and stop, over lists. A channel is a number from 0, which stands for
+-- Pools of channels: presses, releases, lookups, repitches and stop, over lists. A channel is a number from 0, which stands for
 -- that entry of the channel list; a key is a number below `key_count`; a note is a whole number. Assumes nothing.
 use Rattle.std.specs.Prelude.{ℕ, suc, not, cond, List, [], ◌∷◌, ◌++◌, ℤ, Float, length, take, drop, get_or, set, replicate}
 use Rattle.std.proofs.Math.Option.{Option, some, none}
@@ -31,7 +31,7 @@ pub record State : Type 0 where
   pub pools : List Pool
   pub keys : List (Option Place)
 
--- "One pool for channel groups, one per letter for letter groups"
+-- one pool for all notes, or one for each letter
 unfoldable pub pool_count : PoolGroupBy → ℕ
 pool_count NoteLetter = 12
 pool_count Channel = 1
@@ -46,11 +46,11 @@ empty_pool = record { free = []; order = [] }
 unfoldable pub pool : State → ℤ → Pool
 pool s note = get_or s.pools (pool_of s.group note) empty_pool
 
--- "Held means found by lookup"
+-- where a key is found; a key is held if it is found
 unfoldable pub found : State → ℕ → Option Place
 found s key = get_or s.keys key none
 
--- "A pool starts with free channels 0 upward", "with as many channels as the tuner's channel list".
+-- Each pool starts with its channels free, 0 upward, as many as the channel list has, and no key is found.
 unfoldable pub fresh : List ℕ → PoolGroupBy → PoolingMode → State
 fresh channels group mode =
     record {
@@ -93,14 +93,14 @@ with_key s key place =
 unfoldable pub behind : List ℕ → ℕ → List ℕ
 behind l x = take 16 (l ++ (x ∷ []))
 
--- "A press takes the front": the key is held on that channel from now on.
+-- A press takes the front: the key is held on that channel from now on.
 unfoldable pub taken_in : Pool → ℕ → Pool
 taken_in p key = record { free = drop 1 p.free; order = behind p.order key }
 
 unfoldable pub taken : State → ℕ → ℤ → ℕ → State
 taken s key note channel = with_key (with_pool s note (taken_in (pool s note) key)) key (some (record { channel = channel; note = note }))
 
--- "a release puts its channel at the back", unless the key has lost it
+-- A release puts its channel at the back, unless the key has lost it.
 unfoldable pub freed_in : Pool → ℕ → ℕ → Pool
 freed_in p key channel = cond (member key p.order) (record { free = behind p.free channel; order = without key p.order }) p
 
@@ -130,7 +130,7 @@ unfoldable pub held_at : ℕ → Option Place → Option Held
 held_at key (some p) = some (record { key = key; place = p })
 held_at key none = none
 
--- "the longest-held key that still has its channel", in the pool of a note
+-- the longest-held key that still has its channel, in the pool of a note
 unfoldable pub oldest_of : State → Option ℕ → Option Held
 oldest_of s (some key) = held_at key (found s key)
 oldest_of s none = none
@@ -146,8 +146,8 @@ pub record Room : Type 0 where
 abbrev pub room : State → Option ℤ → Room
 room s note = record { state = s; stopped = note }
 
--- "If none is free: Block rejects; Stop releases the longest-held key that still has its channel and reports its note; Ignore frees that key's channel
--- but the old key stays found, and its later release frees nothing."
+-- If none is free, Block rejects. Stop releases the longest-held key that still has its channel, and reports its note. Ignore frees that key's channel, but
+-- the old key stays found, and its later release frees nothing.
 unfoldable pub made_room : PoolingMode → State → Option Held → Room
 made_room Block s old = room s none
 made_room Stop s none = room s none
@@ -177,11 +177,11 @@ pressed s key note detuning = let r = room_for s note in pressed_on (first (pool
 
 -- ---- the rules of the calls
 
--- "press of a held key"
+-- a press of a held key is refused
 unfoldable pub unless_held : State → ℕ → ℤ → Float → Outcome (Press × State)
 unless_held s key note detuning = refuse key_held unless not (is_held (found s key)) then value (pressed s key note detuning)
 
--- "Presses from a pool: 8, 1, 11, 10", of which 1 and 11 are the model's.
+-- A press is refused where the pitch is out of range, then where the key is held.
 unfoldable pub register_rule : State → ℕ → Float → Outcome (Press × State)
 register_rule s key hz = refuse pitch_out_of_range unless is_pitch hz then unless_held s key (nearest_note hz) (detuning_of hz (nearest_note hz))
 
@@ -190,7 +190,7 @@ unfoldable pub replied : {A : Type 0} → State → Outcome (A × State) → Out
 replied s (value r) = (value r.0, r.1)
 replied s (refused n) = (refused n, s)
 
--- "A repitch of a found key: 1, 10; of an unknown key: 1 only", of which 1 is the model's: where the key is found, and the pitch's detuning for its note.
+-- A repitch gives where the key is found, and the pitch's detuning for its note. It is refused where the pitch is out of range, for unknown keys too.
 unfoldable pub tuning : Float → Option Place → Option (Place × Float)
 tuning hz (some p) = some (p, detuning_of hz p.note)
 tuning hz none = none
@@ -213,6 +213,6 @@ unfoldable pub released_all : State → List Held → State
 released_all s [] = s
 released_all s (h ∷ hs) = released_all (released s h.key) hs
 
--- "`stop` goes by rising key": every found key is released.
+-- Every found key is released, by rising key.
 unfoldable pub stopped : State → State
 stopped s = released_all s (held_keys s 0)

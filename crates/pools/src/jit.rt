@@ -1,23 +1,25 @@
 // Pools of channels, handed out while somebody plays ("just in time").
 
-ghost use Rattle.std.specs.Prelude.{◌≡◌, length};
+ghost use Rattle.std.specs.Prelude.{◌≡◌, ◌<◌, ℕ, Float, IfOk, IfSome, length};
 ghost use Rattle.arithmetic.specs.Answers.{outcome_by};
 ghost use Rattle.channels.specs.Lists.{first};
 ghost use Rattle.channels.specs.ChannelList.{entries};
-ghost use Rattle.channels.specs.Places.{place};
-ghost use Rattle.pools.specs.Pool.{fresh, found, released, held_keys, stopped, replied, register_rule, repitch_rule, open_rule};
+ghost use Rattle.channels.specs.Places.{place, place_in};
+ghost use Rattle.pools.specs.Pool.{fresh, pool_of, found, oldest_of, freed, forgotten, taken, released, held_keys, stopped, replied, pressed, unless_held, register_rule, repitch_rule, open_rule};
 ghost use Rattle.std.specs.Iterator.{YieldsFirstBy, item_count};
-ghost use Rattle.pools.specs.PoolAnswers.{held, left, next_held, press, repitched};
-ghost use Rattle.pools.specs.Block.{state_of, group_of, mode_of, Moves, register_note_rule};
+ghost use Rattle.pools.specs.PoolAnswers.{held, left, next_held, press, repitched, told};
+ghost use Rattle.pools.specs.PoolInternal.{Sound, Sounds, answered, given, handed_out, with_room};
+ghost use Rattle.pools.specs.Block.{queue_of, state_of, group_of, mode_of, Moves, register_note_rule};
 
 use crate::pool::Pool;
 use arithmetic::note::Note;
 use arithmetic::pitch::Pitch;
 use arithmetic::refusal::Refusal;
-use channels::keys::{HeldKey, KEYS, Place};
+use arithmetic::tuning::{detuning_from, find_by_pitch};
+use channels::keys::{HeldKey, KEYS, Place, is_found, place_of, record_of};
 use channels::list::ChannelList;
 
-// Which notes share a pool: those of a letter, or all. (Rust's `GroupBy` without pools for single notes.)
+// Which notes share a pool: those of a letter, or all.
 #[derive(Clone, Copy, Debug, PartialEq, Eq)]
 pub enum PoolGroupBy {
     NoteLetter = 0,
@@ -57,6 +59,35 @@ impl From<u16> for PoolingMode {
     }
 }
 
+impl PoolGroupBy {
+    // The number that is read as it.
+    fn number(self) -> u16
+        ensures { group_of result ≡ self }
+    {
+        self as u16
+    }
+
+    // The number of a note's pool.
+    fn pool_of(self, note: Note) -> usize
+        ensures pool { result ≡ pool_of self note.number }
+        ensures few { result < 12 }
+    {
+        match self {
+            PoolGroupBy::NoteLetter => note.letter() as usize,
+            PoolGroupBy::Channel => 0,
+        }
+    }
+}
+
+impl PoolingMode {
+    // The number that is read as it.
+    fn number(self) -> u16
+        ensures { mode_of result ≡ self }
+    {
+        self as u16
+    }
+}
+
 // An accepted press: its channel, the note that was stopped for it, if any, its own note, and that note's detuning.
 #[derive(Clone, Copy)]
 pub struct Registered {
@@ -71,6 +102,45 @@ pub struct Registered {
 pub struct Repitched {
     pub place: Place,
     pub detuning: f64,
+}
+
+// The channel for a press of a key that is not held.
+#[derive(Clone, Copy)]
+enum Allocation {
+    // The front of the free ones.
+    Free(u8),
+    // That of the longest-held key, which is released.
+    Stopped(HeldKey),
+    // That of the longest-held key, which stays found.
+    Ignored(HeldKey),
+}
+
+impl Allocation {
+    fn channel(self) -> u8
+        ensures { result ≡ handed_out self }
+    {
+        match self {
+            Allocation::Free(channel) => channel,
+            Allocation::Stopped(old) => old.place.channel,
+            Allocation::Ignored(old) => old.place.channel,
+        }
+    }
+
+    // What the press answers that gets the channel.
+    fn registered(self, note: Note, detuning: f64) -> Registered
+        ensures { told (Some result) ≡ answered (Some self) note.number detuning }
+    {
+        let stopped_note = match self {
+            Allocation::Stopped(old) => Some(old.place.note),
+            _ => None,
+        };
+        Registered {
+            channel: self.channel(),
+            stopped_note,
+            started_note: note,
+            detuning,
+        }
+    }
 }
 
 // A model of channels that are handed out. Every content is some model (`specs/Block.antt`), since it lies in the memory of programs in C.
@@ -94,12 +164,15 @@ impl JitTuningModel {
     ) -> JitTuningModel
         ensures { state_of result ≡ fresh (entries channels) group_by pooling_mode }
     {
+        let pool = Pool::new(channels.len());
+        let group_by = group_by.number();
+        let pooling_mode = pooling_mode.number();
         JitTuningModel {
             records: [0; KEYS],
-            pools: [Pool::new(channels.len()); 12],
+            pools: [pool; 12],
             channels,
-            group_by: group_by as u16,
-            pooling_mode: pooling_mode as u16,
+            group_by,
+            pooling_mode,
         }
     }
 
@@ -122,7 +195,9 @@ impl JitTuningModel {
     pub fn allocate_key(&self, key: u8, pitch: Pitch) -> Result<Option<Registered>, Refusal>
         ensures { press result ≡ (replied (state_of self.now) (register_rule (state_of self.now) key pitch.hz)).0 }
     {
-        unreachable!()
+        let nearest = find_by_pitch(pitch)?;
+        let allocation = self.allocation(key, nearest.note)?;
+        Ok(allocation.map(|allocation| allocation.registered(nearest.note, nearest.detuning)))
     }
 
     // A press: the nearest note, on a channel of its pool; nothing where no channel is free. Refuses 1, then 11 a key that is held.
@@ -134,7 +209,8 @@ impl JitTuningModel {
         ensures told { press result ≡ (replied (state_of self.old) (register_rule (state_of self.old) key pitch.hz)).0 }
         ensures moved { Moves (register_rule (state_of self.old) key pitch.hz) self.old self.new }
     {
-        unreachable!()
+        let nearest = find_by_pitch(pitch)?;
+        self.press(key, nearest.note, nearest.detuning)
     }
 
     // A press for a note and a detuning: with those that `allocate_key` answers it is the press that was asked about. Refuses 4, then 11 a key that is held.
@@ -147,7 +223,8 @@ impl JitTuningModel {
         ensures told { press result ≡ (replied (state_of self.old) (register_note_rule (state_of self.old) key note detuning)).0 }
         ensures moved { Moves (register_note_rule (state_of self.old) key note detuning) self.old self.new }
     {
-        unreachable!()
+        let note = Note::try_from(note)?;
+        self.press(key, note, detuning)
     }
 
     // A release: where the key was found.
@@ -156,7 +233,12 @@ impl JitTuningModel {
         ensures told { place result ≡ found (state_of self.old) key }
         ensures moved { state_of self.new ≡ released (state_of self.old) key }
     {
-        unreachable!()
+        let place = self.access_key(key)?;
+        self.release(HeldKey {
+            key: key as u16,
+            place,
+        });
+        Some(place)
     }
 
     // A lookup: where the key is found.
@@ -164,7 +246,7 @@ impl JitTuningModel {
     pub fn access_key(&self, key: u8) -> Option<Place>
         ensures { place result ≡ found (state_of self.now) key }
     {
-        unreachable!()
+        self.found(key as u16)
     }
 
     // The detuning of a pitch for the note of a found key. Refuses 1, for unknown keys too.
@@ -172,7 +254,14 @@ impl JitTuningModel {
     pub fn repitch_key(&self, key: u8, pitch: Pitch) -> Result<Option<Repitched>, Refusal>
         ensures { repitched result ≡ repitch_rule (state_of self.now) key pitch.hz }
     {
-        unreachable!()
+        if !pitch.is_in_range() {
+            return Err(Refusal::PitchOutOfRange);
+        }
+        let found = self.access_key(key);
+        Ok(found.map(|place| Repitched {
+            place,
+            detuning: detuning_from(pitch, place.note),
+        }))
     }
 
     // The first found key from a number on. All found keys by rising key: from 0, and then each time from one above the last.
@@ -180,7 +269,15 @@ impl JitTuningModel {
     pub fn next_key(&self, from: usize) -> Option<HeldKey>
         ensures { next_held result ≡ first (held_keys (state_of self.now) from) }
     {
-        unreachable!()
+        for key in from..KEYS {
+            if let Some(place) = place_of(self.records[key]) {
+                return Some(HeldKey {
+                    key: key as u16,
+                    place,
+                });
+            }
+        }
+        None
     }
 
     // All found keys, by rising key.
@@ -198,7 +295,9 @@ impl JitTuningModel {
     pub fn stop(&mut self)
         ensures { state_of self.new ≡ stopped (state_of self.old) }
     {
-        unreachable!()
+        for key in 0..KEYS {
+            self.deregister_key(key as u8);
+        }
     }
 
     // The channel list that the model was opened with.
@@ -213,6 +312,114 @@ impl JitTuningModel {
         ensures { result ≡ length (state_of self.now).channels }
     {
         self.channels.len()
+    }
+}
+
+// The steps of a press and of a release.
+impl JitTuningModel {
+    // Where the key is found; a number that is no key's is not.
+    fn found(&self, key: u16) -> Option<Place>
+        ensures { place result ≡ found (state_of self.now) key }
+    {
+        let record = self.records.get(key as usize)?;
+        place_of(*record)
+    }
+
+    // The channel for a press of a key; none where none is free. Refuses 11 a key that is held.
+    fn allocation(&self, key: u8, note: Note) -> Result<Option<Allocation>, Refusal>
+        ensures sound { IfOk result (λ a. IfSome a Sound) }
+        ensures tells { (d : Float) → unless_held (state_of self.now) key note.number d ≡ outcome_by (given (state_of self.now) key note.number d) result }
+    {
+        if is_found(self.records[key as usize]) {
+            return Err(Refusal::KeyHeld);
+        }
+        Ok(self.channel_for(note))
+    }
+
+    // The channel for a press of a key that is not held.
+    fn channel_for(&self, note: Note) -> Option<Allocation>
+        ensures sound { IfSome result Sound }
+        ensures tells { (key : ℕ) (d : Float) → pressed (state_of self.now) key note.number d ≡ given (state_of self.now) key note.number d result }
+    {
+        let group = PoolGroupBy::from(self.group_by);
+        let at = group.pool_of(note);
+        let pool = &self.pools[at];
+        if let Some(channel) = pool.free.front() {
+            return Some(Allocation::Free((channel % 16) as u8));
+        }
+        let old = self.longest_held(pool)?;
+        let old_at = group.pool_of(old.place.note);
+        if old_at != at {
+            return None;
+        }
+        match PoolingMode::from(self.pooling_mode) {
+            PoolingMode::Block => None,
+            PoolingMode::Stop => Some(Allocation::Stopped(old)),
+            PoolingMode::Ignore => Some(Allocation::Ignored(old)),
+        }
+    }
+
+    // The longest-held key of a pool, if it is found.
+    fn longest_held(&self, pool: &Pool) -> Option<HeldKey>
+        ensures sound { IfSome result Sounds }
+        ensures oldest { next_held result ≡ oldest_of (state_of self.now) (first (queue_of pool.now.order)) }
+    {
+        let key = pool.order.front()?;
+        let place = self.found(key)?;
+        Some(HeldKey { key, place })
+    }
+
+    // A press for a note; nothing where no channel is free. Refuses 11 a key that is held.
+    fn press(&mut self, key: u8, note: Note, detuning: f64) -> Result<Option<Registered>, Refusal>
+        ensures told { press result ≡ (replied (state_of self.old) (unless_held (state_of self.old) key note.number detuning)).0 }
+        ensures moved { Moves (unless_held (state_of self.old) key note.number detuning) self.old self.new }
+    {
+        let Some(allocation) = self.allocation(key, note)? else {
+            return Ok(None);
+        };
+        self.make_room(allocation);
+        self.take(key, note, allocation.channel());
+        Ok(Some(allocation.registered(note, detuning)))
+    }
+
+    // The channel is free, if it was the longest-held key's.
+    fn make_room(&mut self, allocation: Allocation)
+        requires { Sound allocation }
+        ensures { state_of self.new ≡ with_room (state_of self.old) allocation }
+    {
+        match allocation {
+            Allocation::Free(_) => {}
+            Allocation::Stopped(old) => self.release(old),
+            Allocation::Ignored(old) => self.free(old),
+        }
+    }
+
+    // The front of a note's pool goes to the key, which sounds from now on.
+    fn take(&mut self, key: u8, note: Note, channel: u8)
+        requires { channel < 16 }
+        ensures { state_of self.new ≡ taken (state_of self.old) key note.number channel }
+    {
+        let at = PoolGroupBy::from(self.group_by).pool_of(note);
+        self.pools[at].taken_by(key as u16);
+        self.records[key as usize] = record_of(note.number(), channel);
+    }
+
+    // The channel of a key goes back to the pool of its note, unless the key has lost it.
+    fn free(&mut self, held: HeldKey)
+        requires { held.place.channel < 16 }
+        ensures { state_of self.new ≡ freed (state_of self.old) held.key (place_in held.place) }
+    {
+        let at = PoolGroupBy::from(self.group_by).pool_of(held.place.note);
+        self.pools[at].freed_by(held.key, held.place.channel);
+    }
+
+    // The same, and the key is not found any more.
+    fn release(&mut self, held: HeldKey)
+        requires { Sounds held }
+        ensures { state_of self.new ≡ forgotten (freed (state_of self.old) held.key (place_in held.place)) held.key }
+    {
+        self.free(held);
+        self.records[held.key as usize] = 0;
     }
 }
 
@@ -231,19 +438,20 @@ impl<'a> Iterator for HeldKeys<'a> {
     ghost remaining = { item_count left };
 
     fn next(&mut self) -> Option<HeldKey> {
-        let next = self.model.next_key(self.from);
-        self.from = match next {
-            Some(held) => held.key as usize + 1,
-            None => KEYS,
-        };
-        next
+        let held = self.model.next_key(self.from)?;
+        self.from = held.key as usize + 1;
+        Some(held)
     }
 }
 
 // By value: the model goes in and is handed back.
 impl JitTuningModel {
     // A press.
-    pub fn pressed(self, key: u8, pitch: Pitch) -> (JitTuningModel, Result<Option<Registered>, Refusal>)
+    pub fn pressed(
+        self,
+        key: u8,
+        pitch: Pitch,
+    ) -> (JitTuningModel, Result<Option<Registered>, Refusal>)
         ensures { (press result.1, state_of result.0) ≡ replied (state_of self) (register_rule (state_of self) key pitch.hz) }
     {
         let mut model = self;
@@ -265,8 +473,7 @@ impl JitTuningModel {
     pub fn looked_up(self, key: u8) -> Option<Place>
         ensures { place result ≡ found (state_of self) key }
     {
-        let model = self;
-        model.access_key(key)
+        self.access_key(key)
     }
 
     // The release of every found key.
@@ -276,5 +483,41 @@ impl JitTuningModel {
         let mut model = self;
         model.stop();
         model
+    }
+}
+
+#[cfg(test)]
+mod tests {
+    use super::*;
+    use crate::queue::Queue;
+
+    // A model of no sense, as the memory of a program in C may hold one, is some model.
+    #[test]
+    fn model_of_no_sense(rt: HostRuntime) {
+        let queue = Queue {
+            count: u16::MAX,
+            items: [u16::MAX; 16],
+        };
+        let pool = Pool {
+            free: queue,
+            order: queue,
+        };
+        let mut model = JitTuningModel {
+            records: [u16::MAX; KEYS],
+            pools: [pool; 12],
+            channels: ChannelList::none(),
+            group_by: u16::MAX,
+            pooling_mode: u16::MAX,
+        };
+        assert!(rt; model.access_key(255).is_none());
+        let Ok(Some(press)) = model.register_key(255, Pitch::from_hz(440.0)) else {
+            panic!(rt; "the press is accepted");
+        };
+        assert_eq!(rt; press.channel, 15);
+        assert_eq!(rt; press.started_note.number(), 69);
+        assert!(rt; press.stopped_note.is_none());
+        assert!(rt; press.detuning == 1.0);
+        model.stop();
+        assert!(rt; model.access_key(255).is_none());
     }
 }

@@ -1,9 +1,9 @@
 -- `Note::try_from` meets its contract. Assumes nothing.
-use mathlib.Core.Path.{◌≡◌, refl, sym, ◌∙◌}
+use mathlib.Core.Path.{refl, sym, ◌∙◌}
 use mir.Syntax.{w32}
 use mir.ValLaws.{to_z-of_z}
-use Rattle.arithmetic.specs.Outcome.{value, refused}
-use Rattle.arithmetic.specs.Note.{is_note, note_rule}
+use Rattle.arithmetic.specs.Outcome.{value}
+use Rattle.arithmetic.specs.Note.{note_rule}
 use Rattle.arithmetic.specs.Refusal.{note_out_of_range}
 use Rattle.arithmetic.proofs.Outcomes.{stops, passes}
 use Rattle.arithmetic.proofs.note.NoteTryFromI32.try_from.Goals as goal

@@ -4,8 +4,8 @@ use mathlib.Core.Bool.{true}
 use lib.Dec.{T}
 use lib.Ieee.{binary64, fits}
 use lib.Ieee.Positive.{above}
-use Rattle.arithmetic.specs.Inside.{Writes}
-use Rattle.arithmetic.proofs.Fields.{above_zero, above_no_nan, not_above, subnormal, normal, infinite}
+use Rattle.arithmetic.specs.Inside.{WritesOut}
+use Rattle.arithmetic.proofs.Fields.{above_zero, not_above, subnormal, normal, infinite}
 use borrow.Author.Rules.{rules}
 use Rattle.arithmetic.proofs.pitch.Ratio.binary.Goals as goal
 use Rattle.arithmetic.proofs.pitch.Ratio.binary.Goals.{Start, Then-v}
@@ -16,9 +16,6 @@ held c = search rules
 over : (c : Then-v) → above c.before.args.self.float_value ≡ true
 over c = sym (above_zero c.before.args.self.float_value) ∙ c.if-v.true
 
-pub float_to_bits-bits : goal.float_to_bits-bits
-float_to_bits-bits c = above_no_nan c.args.self.float_value (over (goal.at.float_to_bits-bits c).Then-v)
-
 pub first_digits-requires : goal.first_digits-requires
 first_digits-requires c =
     let b = subnormal c.args.self.float_value (held (goal.at.first_digits-requires c).Start) (over (goal.at.first_digits-requires c).Then-v) c.if-exponent-eq0.true in
@@ -26,13 +23,13 @@ first_digits-requires c =
 
 pub returns-then-exponent-eq0 : goal.returns-then-exponent-eq0
 returns-then-exponent-eq0 c =
-    subst (Writes c.first_digits.result)
+    subst (WritesOut c.first_digits.result)
     (sym (subnormal c.args.self.float_value (held (goal.at.returns-then-exponent-eq0 c).Start) (over (goal.at.returns-then-exponent-eq0 c).Then-v) c.if-exponent-eq0.true).1)
     c.first_digits.ensures
 
 pub returns-then-exponent-lt2047 : goal.returns-then-exponent-lt2047
 returns-then-exponent-lt2047 c =
-    subst (Writes c.first_digits-then-exponent-lt2047.result)
+    subst (WritesOut c.first_digits-then-exponent-lt2047.result)
     (sym (normal c.args.self.float_value (held (goal.at.returns-then-exponent-lt2047 c).Start) (over (goal.at.returns-then-exponent-lt2047 c).Then-v) c.if-exponent-eq0.false c.if-exponent-lt2047.true))
     c.first_digits-then-exponent-lt2047.ensures
 

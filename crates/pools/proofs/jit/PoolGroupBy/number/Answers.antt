@@ -1,0 +1,8 @@
+-- `PoolGroupBy::number` meets its contract. Assumes nothing.
+use Rattle.std.proofs.Common.{rules}
+use Rattle.pools.specs.Block.{group_of}
+use Rattle.pools.proofs.jit.PoolGroupBy.number.Goals as goal
+
+pub returns : goal.returns
+unfolding group_of
+returns c = search rules

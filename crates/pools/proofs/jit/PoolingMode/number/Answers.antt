@@ -1,0 +1,8 @@
+-- `PoolingMode::number` meets its contract. Assumes nothing.
+use Rattle.std.proofs.Common.{rules}
+use Rattle.pools.specs.Block.{mode_of}
+use Rattle.pools.proofs.jit.PoolingMode.number.Goals as goal
+
+pub returns : goal.returns
+unfolding mode_of
+returns c = search rules
