@@ -85,6 +85,7 @@ impl Queue {
         ensures left { queue_of self.new ≡ without x (queue_of self.old) }
     {
         let n = self.len();
+        // One pass, since a slice has no `retain`.
         let mut kept: usize = 0;
         for i in 0..n {
             let y = self.items[i];
