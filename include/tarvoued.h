@@ -126,7 +126,7 @@ tarvoued_answer tarvoued_channel_tuning(uint8_t tuning_kind, uint8_t channel, do
 
 /* ---- the pool tuner: channels are handed out while somebody plays */
 
-#define TARVOUED_POOL_CELLS 684
+#define TARVOUED_POOL_CELLS 676
 
 typedef struct {
     uint16_t cells[TARVOUED_POOL_CELLS];
@@ -175,7 +175,7 @@ tarvoued_note tarvoued_pool_model_repitch_key(const tarvoued_pool *pool, uint8_t
 
 /* ---- the plan tuner: every key has a channel and a note before anyone plays */
 
-#define TARVOUED_PLAN_CELLS 518
+#define TARVOUED_PLAN_CELLS 324
 
 typedef struct {
     uint64_t cells[TARVOUED_PLAN_CELLS];

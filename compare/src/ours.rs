@@ -268,7 +268,7 @@ pub enum Event {
 /// A pool tuner's or a pool model's block.
 #[repr(C)]
 #[derive(Clone, Copy, PartialEq)]
-pub struct Pool([u16; 684]);
+pub struct Pool([u16; 676]);
 
 impl Pool {
     /// Some content that no call made.
@@ -323,7 +323,7 @@ impl Pool {
 /// A plan tuner's or a plan model's block.
 #[repr(C)]
 #[derive(Clone, Copy, PartialEq)]
-pub struct Plan([u64; 518]);
+pub struct Plan([u64; 324]);
 
 /// The lists that tunings are of.
 #[derive(Clone, Debug, Default)]

@@ -11,7 +11,7 @@ BEND, STOP = 1, 1
 
 
 class Pool(Structure):
-    _fields_ = [("cells", c_uint16 * 684)]
+    _fields_ = [("cells", c_uint16 * 676)]
 
 
 class Answer(Structure):

@@ -12,22 +12,16 @@ use lib.Signed.{◌≤ℤ◌}
 use lib.Ieee.{Float, nan, binary64, mul, up, down}
 use lib.Ieee.Fits.{down_pos}
 use lib.Ieee.Scale.{round_same}
-use mir.Syntax.{w32}
-use mir.Val.{SFits}
 use Rattle.arithmetic.specs.Division.{quotient, remainder}
 use Rattle.arithmetic.specs.Note.{is_note, a4}
 use Rattle.arithmetic.specs.Pitch.{octave_pitch, significands, factor, pitch_of}
 use Rattle.arithmetic.specs.Inside.{factor_to12, note_at}
-use Rattle.arithmetic.proofs.Integers.{up_is, down_is, plus, less, same, add_parts, sub_parts_ℤ, mul_parts, fits_by, one_sided, between_parts, at_least_parts, at_most_parts}
-use Rattle.arithmetic.proofs.Quotients.{whole, division_unique}
+use Rattle.arithmetic.proofs.Integers.{up_is, down_is, plus, less, same, add_parts, sub_parts_ℤ, mul_parts, one_sided, between_parts, at_least_parts, at_most_parts}
+use Rattle.arithmetic.proofs.Quotients.{division_unique}
 use Rattle.arithmetic.proofs.Tables.{at}
 use Rattle.arithmetic.proofs.Notes.{bounds}
 
 -- ---- the octave of a note, and where it stands in the table, which begins at -31
-
-pub above_fits : (z : ℤ) → is_note z ≡ true → SFits w32 (z -ℤ a4)
-above_fits z e =
-    fits_by w32 (z -ℤ a4) (plus z) (less z + 69) (omega (arith, sub_parts_ℤ z a4)) (omega (arith, bounds z e)) (omega (arith, bounds z e))
 
 pub record Place (j : ℤ) (i : ℕ) : Type 0 where
   pub raised : j +ℤ pos 31 ≡ pos i
@@ -109,12 +103,3 @@ pitch_at j k h = go (dec_lt k 12)
         let e : k ≡ 12 = omega arith in
         let p = place_of_lem j k (j +ℤ pos 1) 0 (omega arith) (omega (arith, add_parts j (pos 1))) in
         rw (p.0, p.1, e) (doubled j)
-
--- every note stands somewhere
-pub stands : (z : ℤ) → note_at (quotient (z -ℤ a4) 12) (remainder (z -ℤ a4) 12) ≡ z
-unfolding note_at
-stands z =
-    let q = quotient (z -ℤ a4) 12 in
-    let r = remainder (z -ℤ a4) 12 in
-    same (a4 +ℤ (q *ℤ pos 12 +ℤ pos r)) z
-    (omega (arith, whole (z -ℤ a4) 12 (lit< tt), sub_parts_ℤ z a4, mul_parts q 12, add_parts (q *ℤ pos 12) (pos r), add_parts (pos 69) (q *ℤ pos 12 +ℤ pos r)))

@@ -52,6 +52,9 @@ static BOUNDARIES: [u64; 12] = [
     3508810295, 3717454961, 3938506445, 4172702168,
 ];
 
+// The octaves that the notes lie in, counted from A4.
+const LOWEST_OCTAVE: i32 = -31;
+
 // 440 Hz times 2^j, j from -31 to 35.
 static OCTAVE_PITCHES: [f64; 67] = [
     2.0489096641540527e-07,
@@ -210,9 +213,10 @@ fn within(first: u64) -> u32
 fn note_pitch(note: Note) -> Pitch
     ensures { result.hz ≡ pitch_of note.number }
 {
-    let above_a4 = note.number() - A4;
-    let octaves = above_a4.div_euclid(12);
-    let semitones = above_a4.rem_euclid(12) as u32;
+    // Counted from the first octave of the table, so that no number is negative. (A division that asks for the sign takes twice as long.)
+    let above = (note.number - (A4 + LOWEST_OCTAVE * 12)) as u32;
+    let octaves = LOWEST_OCTAVE + (above / 12) as i32;
+    let semitones = above % 12;
     let place = Place { octaves, semitones };
     place.pitch()
 }
@@ -222,7 +226,7 @@ fn octave_pitch(j: i32) -> f64
     requires { (negsuc 30 ≤ℤ j) × (j ≤ℤ pos 35) }
     ensures { result ≡ octave_pitch j }
 {
-    OCTAVE_PITCHES[(j + 31) as usize]
+    OCTAVE_PITCHES[(j - LOWEST_OCTAVE) as usize]
 }
 
 // R[k], and 2 for 12 semitones, an octave.

@@ -1,5 +1,5 @@
--- The answers of calls in numbers. `outcome` is 0 for done, 1 untuned, 2 rejected, 3 not found, 4 refused; `refusal` is the number of document 01's refusal,
--- and 0 where nothing is refused; what there is not is 0.
+-- The answers of calls in numbers. `outcome` is 0 for done, 1 untuned, 2 rejected, 3 not found, 4 refused; `refusal` is the number of the refusal, and 0 where
+-- nothing is refused; what there is not is 0.
 use Rattle.std.specs.Prelude.{ℕ, cond, List, eqb, ℤ, pos, Float}
 use Rattle.std.proofs.Math.Option.{Option, some, none}
 use Rattle.std.specs.Float.Ieee.{of_bits}
@@ -26,34 +26,34 @@ zero_float = of_bits binary64 0
 abbrev pub answer_of : (outcome refusal channels bytes : ℕ) → Answer
 answer_of o n cs bytes = record { outcome = o; refusal = n; channels = cs; bytes = bytes }
 
-unfoldable pub of_sent : Outcome ℕ → Answer
+abbrev pub of_sent : Outcome ℕ → Answer
 of_sent (value bytes) = answer_of 0 0 0 bytes
 of_sent (refused n) = answer_of 4 n 0 0
 
-unfoldable pub of_press : Outcome Pressed → Answer
+abbrev pub of_press : Outcome Pressed → Answer
 of_press (value (sounds bytes)) = answer_of 0 0 0 bytes
 of_press (value rejects) = answer_of 2 0 0 0
 of_press (refused n) = answer_of 4 n 0 0
 
-unfoldable pub of_list : Outcome (List ℕ) → Answer
+abbrev pub of_list : Outcome (List ℕ) → Answer
 of_list (value cs) = answer_of 0 0 0 0
 of_list (refused n) = answer_of 4 n 0 0
 
-unfoldable pub of_plan : M.Answer → Answer
+abbrev pub of_plan : M.Answer → Answer
 of_plan (M.tuned n) = answer_of 0 0 n 0
 of_plan (M.untuned n) = answer_of 1 0 n 0
 of_plan (M.refused n) = answer_of 4 n 0 0
 
-unfoldable pub of_plan_sent : Outcome Planned → Answer
+abbrev pub of_plan_sent : Outcome Planned → Answer
 of_plan_sent (value (tunes n bytes)) = answer_of 0 0 n bytes
 of_plan_sent (value (cannot n)) = answer_of 1 0 n 0
 of_plan_sent (refused n) = answer_of 4 n 0 0
 
 -- what such an answer says of the plan
-unfoldable pub plan_in : Answer → M.Answer
+abbrev pub plan_in : Answer → M.Answer
 plan_in a = cond (eqb a.outcome 0) (M.tuned a.channels) (cond (eqb a.outcome 1) (M.untuned a.channels) (M.refused a.refusal))
 
-unfoldable pub plan_sent_in : Answer → Outcome Planned
+abbrev pub plan_sent_in : Answer → Outcome Planned
 plan_sent_in a =
     cond (eqb a.outcome 0) (value (tunes a.channels a.bytes))
     (cond (eqb a.outcome 1) (value (cannot a.channels)) (refused a.refusal))
@@ -63,35 +63,35 @@ plan_sent_in a =
 abbrev pub note_of : (outcome refusal channel : ℕ) → ℤ → Float → Note
 note_of o n c note d = record { outcome = o; refusal = n; channel = c; note = note; detuning = d }
 
-unfoldable pub of_place : Option Place → Note
+abbrev pub of_place : Option Place → Note
 of_place (some p) = note_of 0 0 p.channel p.note zero_float
 of_place none = note_of 3 0 0 (pos 0) zero_float
 
-unfoldable pub of_repitched : Outcome (Option (Place × Float)) → Note
+abbrev pub of_repitched : Outcome (Option (Place × Float)) → Note
 of_repitched (value (some r)) = note_of 0 0 r.0.channel r.0.note r.1
 of_repitched (value none) = note_of 3 0 0 (pos 0) zero_float
 of_repitched (refused n) = note_of 4 n 0 (pos 0) zero_float
 
-unfoldable pub of_nearest : Outcome (ℤ × Float) → Note
+abbrev pub of_nearest : Outcome (ℤ × Float) → Note
 of_nearest (value r) = note_of 0 0 0 r.0 r.1
 of_nearest (refused n) = note_of 4 n 0 (pos 0) zero_float
 
 -- the detuning of a group on a channel
-unfoldable pub of_detuning : ℕ → ℤ → Option Float → Note
+abbrev pub of_detuning : ℕ → ℤ → Option Float → Note
 of_detuning c group (some d) = note_of 0 0 c group d
 of_detuning c group none = note_of 3 0 0 (pos 0) zero_float
 
-unfoldable pub of_entry : ℕ → Option (ℤ × Float) → Note
+abbrev pub of_entry : ℕ → Option (ℤ × Float) → Note
 of_entry c (some e) = note_of 0 0 c e.0 e.1
 of_entry c none = note_of 3 0 0 (pos 0) zero_float
 
 -- ---- the presses of a pool model
 
-unfoldable pub is_stopped : Option ℤ → ℕ
+abbrev pub is_stopped : Option ℤ → ℕ
 is_stopped (some note) = 1
 is_stopped none = 0
 
-unfoldable pub note_or0 : Option ℤ → ℤ
+abbrev pub note_or0 : Option ℤ → ℤ
 note_or0 (some note) = note
 note_or0 none = pos 0
 
@@ -99,25 +99,25 @@ abbrev pub registered_of : (outcome refusal channel : ℕ) → Option ℤ → �
 registered_of o n c s note d =
     record { outcome = o; refusal = n; channel = c; note = note; stopped = is_stopped s; stopped_note = note_or0 s; detuning = d }
 
-unfoldable pub of_registered : Outcome Press → RegisteredKey
+abbrev pub of_registered : Outcome Press → RegisteredKey
 of_registered (value (accepted c s note d)) = registered_of 0 0 c s note d
 of_registered (value rejected) = registered_of 2 0 0 none (pos 0) zero_float
 of_registered (refused n) = registered_of 4 n 0 none (pos 0) zero_float
 
 -- ---- values
 
-unfoldable pub of_pitch : Outcome Float → NotePitch
+abbrev pub of_pitch : Outcome Float → NotePitch
 of_pitch (value hz) = record { outcome = 0; refusal = 0; hz = hz }
 of_pitch (refused n) = record { outcome = 4; refusal = n; hz = zero_float }
 
 abbrev pub number_of : (outcome refusal : ℕ) → ℤ → Number
 number_of o n z = record { outcome = o; refusal = n; number = z }
 
-unfoldable pub of_measure : Outcome ℤ → Number
+abbrev pub of_measure : Outcome ℤ → Number
 of_measure (value l) = number_of 0 0 l
 of_measure (refused n) = number_of 4 n (pos 0)
 
-unfoldable pub of_tuning : Outcome Tuning → Number
+abbrev pub of_tuning : Outcome Tuning → Number
 of_tuning (value (Fine v)) = number_of 0 0 (pos v)
 of_tuning (value (Bend v)) = number_of 0 0 v
 of_tuning (refused n) = number_of 4 n (pos 0)

@@ -1,44 +1,40 @@
-// The answers of calls in numbers. Each record begins with what happened and the number of document 01's refusal, which is 0 where nothing is refused; other
-// fields are 0 where there is nothing to say.
+// The answers of calls in numbers. Each record begins with what happened and the number of the refusal, which is 0 where nothing is refused; other fields are 0
+// where there is nothing to say. A number for what happened and a flag beside a note stay, since the interface for C needs them.
 
-ghost use Rattle.std.specs.Prelude.{◌≡◌};
-ghost use Rattle.arithmetic.specs.Answers.{approximation, pitch_answer, measured};
-ghost use Rattle.channels.specs.Answers.{tuning_answer};
-ghost use Rattle.plans.specs.Plan.{plan_answer, detuning_answer, next_answer};
-ghost use Rattle.channels.specs.ChannelList.{channels_answer};
+ghost use Rattle.std.specs.Prelude.{◌≡◌, pos};
+ghost use Rattle.arithmetic.specs.Answers.{optional, outcome, outcome_by};
+ghost use Rattle.arithmetic.specs.Nearest.{nearest};
+ghost use Rattle.arithmetic.specs.Refusal.{number};
+ghost use Rattle.channels.specs.ChannelList.{entries};
 ghost use Rattle.channels.specs.Places.{place};
-ghost use Rattle.pools.specs.PoolAnswers.{press, repitched, stopped_note};
-ghost use Rattle.pools.specs.PoolAnswers as PoolAnswers;
-ghost use Rattle.senders.specs.Answers.{sent_answer, press_answer};
+ghost use Rattle.plans.specs.Plan.{plan_answer};
 ghost use Rattle.plan_tuner.specs.Aot.{plan_sent};
-ghost use Rattle.capi.specs.Answers.{answer_of, of_sent, of_press, of_list, of_plan, of_plan_sent, registered_of, of_registered, is_stopped, note_or0};
-ghost use Rattle.capi.specs.Answers.{note_of, of_place, of_detuning, of_entry, of_repitched, of_nearest, of_pitch, number_of, of_measure, of_tuning};
+ghost use Rattle.pools.specs.PoolAnswers.{press, repitched};
+ghost use Rattle.senders.specs.Answers.{press_answer};
+ghost use Rattle.capi.specs.Answers.{answer_of, of_sent, of_press, of_list, of_plan, of_plan_sent, of_registered};
+ghost use Rattle.capi.specs.Answers.{note_of, zero_float, of_place, of_detuning, of_entry, of_repitched, of_nearest, of_pitch, of_measure, of_tuning};
 
-use arithmetic::pitch::Measured;
-use arithmetic::tuning::{Approximation, PitchAnswer};
-use channels::keys::AccessKeyResult;
-use channels::list::ChannelsAnswer;
-use channels::tuning_value::{Tuning, TuningAnswer};
+use arithmetic::refusal::Refusal;
+use arithmetic::tuning::Approximation;
+use channels::keys::Place;
+use channels::list::ChannelList;
+use channels::tuning_value::Tuning;
 use plan_tuner::aot::PlanSent;
-use plans::block::{DetuningAnswer, NextAnswer, PlanAnswer};
-use pools::block::{RegisterKeyResult, RepitchKeyResult, StoppedNote};
-use senders::jit::PressAnswer;
-use senders::midi::Sent;
+use plans::aot::Planned;
+use pools::jit::{Registered, Repitched};
 
 // What happened.
-const DONE: u8 = 0;
-
-const UNTUNED: u8 = 1;
-
-const REJECTED: u8 = 2;
-
-const NOT_FOUND: u8 = 3;
-
-const REFUSED: u8 = 4;
+enum Outcome {
+    Done = 0,
+    Untuned = 1,
+    Rejected = 2,
+    NotFound = 3,
+    Refused = 4,
+}
 
 // Of a call that sends or opens: how many channels a plan takes, and how many bytes stand at the start of the buffer.
 #[repr(C)]
-#[derive(Clone, Copy)]
+#[derive(Clone, Copy, Default)]
 pub struct Answer {
     pub outcome: u8,
     pub refusal: u8,
@@ -48,7 +44,7 @@ pub struct Answer {
 
 // A note or a group, with its channel and its detuning.
 #[repr(C)]
-#[derive(Clone, Copy)]
+#[derive(Clone, Copy, Default)]
 pub struct Note {
     pub outcome: u8,
     pub refusal: u8,
@@ -59,7 +55,7 @@ pub struct Note {
 
 // A press from a pool, and the note that it stopped, if `stopped` is 1.
 #[repr(C)]
-#[derive(Clone, Copy)]
+#[derive(Clone, Copy, Default)]
 pub struct RegisteredKey {
     pub outcome: u8,
     pub refusal: u8,
@@ -71,7 +67,7 @@ pub struct RegisteredKey {
 }
 
 #[repr(C)]
-#[derive(Clone, Copy)]
+#[derive(Clone, Copy, Default)]
 pub struct NotePitch {
     pub outcome: u8,
     pub refusal: u8,
@@ -79,252 +75,281 @@ pub struct NotePitch {
 }
 
 #[repr(C)]
-#[derive(Clone, Copy)]
+#[derive(Clone, Copy, Default)]
 pub struct Number {
     pub outcome: u8,
     pub refusal: u8,
     pub number: i64,
 }
 
-pub(crate) fn of_sent(sent: Sent) -> Answer
-    ensures { result ≡ of_sent (sent_answer sent) }
-{
-    match sent {
-        Sent::Written(bytes) => answer_of(DONE, 0, 0, bytes),
-        Sent::Refused(number) => answer_of(REFUSED, number, 0, 0),
-    }
-}
-
-pub(crate) fn of_press(press: PressAnswer) -> Answer
-    ensures { result ≡ of_press (press_answer press) }
-{
-    match press {
-        PressAnswer::Written(bytes) => answer_of(DONE, 0, 0, bytes),
-        PressAnswer::Rejected => answer_of(REJECTED, 0, 0, 0),
-        PressAnswer::Refused(number) => answer_of(REFUSED, number, 0, 0),
-    }
-}
-
-pub(crate) fn of_list(list: ChannelsAnswer) -> Answer
-    ensures { result ≡ of_list (channels_answer list) }
-{
-    match list {
-        ChannelsAnswer::Listed(_) => answer_of(DONE, 0, 0, 0),
-        ChannelsAnswer::Refused(number) => answer_of(REFUSED, number, 0, 0),
-    }
-}
-
-pub(crate) fn of_plan(plan: PlanAnswer) -> Answer
-    ensures { result ≡ of_plan (plan_answer plan) }
-{
-    match plan {
-        PlanAnswer::Tuned(channels) => answer_of(DONE, 0, channels, 0),
-        PlanAnswer::Untuned(channels) => answer_of(UNTUNED, 0, channels, 0),
-        PlanAnswer::Refused(number) => answer_of(REFUSED, number, 0, 0),
-    }
-}
-
-pub(crate) fn of_plan_sent(plan: PlanSent) -> Answer
-    ensures { result ≡ of_plan_sent (plan_sent plan) }
-{
-    match plan {
-        PlanSent::Tuned { channels, written } => answer_of(DONE, 0, channels, written),
-        PlanSent::Untuned(channels) => answer_of(UNTUNED, 0, channels, 0),
-        PlanSent::Refused(number) => answer_of(REFUSED, number, 0, 0),
-    }
-}
-
-pub(crate) fn of_place(res: AccessKeyResult) -> Note
-    ensures { result ≡ of_place (place res) }
-{
-    match res {
-        AccessKeyResult::Found {
-            channel,
-            found_note,
-        } => note_of(DONE, 0, channel as u16, found_note, 0.0),
-        AccessKeyResult::NotFound => note_of(NOT_FOUND, 0, 0, 0, 0.0),
-    }
-}
-
-pub(crate) fn of_registered(res: RegisterKeyResult) -> RegisteredKey
-    ensures { result ≡ of_registered (press res) }
-{
-    match res {
-        RegisterKeyResult::Accepted {
-            channel,
-            stopped_note,
-            started_note,
-            detuning,
-        } => registered_of(
-            DONE,
-            0,
-            channel as u16,
-            stopped_note,
-            started_note,
-            detuning,
-        ),
-        RegisterKeyResult::Rejected => registered_of(REJECTED, 0, 0, StoppedNote::Nothing, 0, 0.0),
-        RegisterKeyResult::Refused(number) => {
-            registered_of(REFUSED, number, 0, StoppedNote::Nothing, 0, 0.0)
+impl Answer {
+    fn refused(refusal: Refusal) -> Answer
+        ensures { result ≡ answer_of 4 (number refusal) 0 0 }
+    {
+        Answer {
+            outcome: Outcome::Refused as u8,
+            refusal: refusal.number(),
+            ..Answer::default()
         }
     }
 }
 
-pub(crate) fn of_repitched(res: RepitchKeyResult) -> Note
-    ensures { result ≡ of_repitched (repitched res) }
-{
-    match res {
-        RepitchKeyResult::Found {
-            channel,
-            found_note,
-            detuning,
-        } => note_of(DONE, 0, channel as u16, found_note, detuning),
-        RepitchKeyResult::NotFound => note_of(NOT_FOUND, 0, 0, 0, 0.0),
-        RepitchKeyResult::Refused(number) => note_of(REFUSED, number, 0, 0, 0.0),
+// A call that sends.
+impl From<Result<usize, Refusal>> for Answer {
+    ghost from_gives = { λ sent answer. answer ≡ of_sent (outcome sent) };
+
+    fn from(sent: Result<usize, Refusal>) -> Answer {
+        match sent {
+            Ok(bytes) => Answer {
+                outcome: Outcome::Done as u8,
+                bytes,
+                ..Answer::default()
+            },
+            Err(refusal) => Answer::refused(refusal),
+        }
     }
 }
 
-pub(crate) fn of_nearest(nearest: Approximation) -> Note
-    ensures { result ≡ of_nearest (approximation nearest) }
-{
-    match nearest {
-        Approximation::Nearest(nearest_note, detuning) => note_of(
-            DONE,
-            0,
-            0,
-            nearest_note,
-            detuning,
-        ),
-        Approximation::Refused(number) => note_of(REFUSED, number, 0, 0, 0.0),
+// A press from a pool tuner.
+impl From<Result<Option<usize>, Refusal>> for Answer {
+    ghost from_gives = { λ pressed answer. answer ≡ of_press (press_answer pressed) };
+
+    fn from(pressed: Result<Option<usize>, Refusal>) -> Answer {
+        match pressed {
+            Ok(Some(bytes)) => Answer::from(Ok(bytes)),
+            Ok(None) => Answer {
+                outcome: Outcome::Rejected as u8,
+                ..Answer::default()
+            },
+            Err(refusal) => Answer::refused(refusal),
+        }
     }
 }
 
-pub(crate) fn of_detuning(channel: u16, group: i32, detuning: DetuningAnswer) -> Note
-    ensures { result ≡ of_detuning channel group (detuning_answer detuning) }
-{
-    match detuning {
-        DetuningAnswer::Detuning(ratio) => note_of(DONE, 0, channel, group, ratio),
-        DetuningAnswer::NoEntry => note_of(NOT_FOUND, 0, 0, 0, 0.0),
+// A call that opens a block.
+impl From<Result<ChannelList, Refusal>> for Answer {
+    ghost from_gives = { λ listed answer. answer ≡ of_list (outcome_by entries listed) };
+
+    fn from(listed: Result<ChannelList, Refusal>) -> Answer {
+        match listed {
+            Ok(_) => Answer {
+                outcome: Outcome::Done as u8,
+                ..Answer::default()
+            },
+            Err(refusal) => Answer::refused(refusal),
+        }
     }
 }
 
-pub(crate) fn of_entry(channel: u16, entry: NextAnswer) -> Note
-    ensures { result ≡ of_entry channel (next_answer entry) }
-{
-    match entry {
-        NextAnswer::Entry(group, ratio) => note_of(DONE, 0, channel, group, ratio),
-        NextAnswer::NoEntry => note_of(NOT_FOUND, 0, 0, 0, 0.0),
+// A tuning of a plan model.
+impl From<Result<Planned, Refusal>> for Answer {
+    ghost from_gives = { λ plan answer. answer ≡ of_plan (plan_answer plan) };
+
+    fn from(plan: Result<Planned, Refusal>) -> Answer {
+        match plan {
+            Ok(Planned::Tuned(channels)) => Answer {
+                outcome: Outcome::Done as u8,
+                channels,
+                ..Answer::default()
+            },
+            Ok(Planned::Untuned(channels)) => Answer {
+                outcome: Outcome::Untuned as u8,
+                channels,
+                ..Answer::default()
+            },
+            Err(refusal) => Answer::refused(refusal),
+        }
     }
 }
 
-pub(crate) fn of_pitch(pitch: PitchAnswer) -> NotePitch
-    ensures { result ≡ of_pitch (pitch_answer pitch) }
-{
-    match pitch {
-        PitchAnswer::Hz(hz) => NotePitch {
-            outcome: DONE,
-            refusal: 0,
-            hz,
-        },
-        PitchAnswer::Refused(number) => NotePitch {
-            outcome: REFUSED,
-            refusal: number,
-            hz: 0.0,
-        },
+// A tuning of a plan tuner.
+impl From<Result<PlanSent, Refusal>> for Answer {
+    ghost from_gives = { λ plan answer. answer ≡ of_plan_sent (plan_sent plan) };
+
+    fn from(plan: Result<PlanSent, Refusal>) -> Answer {
+        match plan {
+            Ok(PlanSent::Tuned { channels, written }) => Answer {
+                bytes: written,
+                ..Answer::from(Ok(Planned::Tuned(channels)))
+            },
+            Ok(PlanSent::Untuned(channels)) => Answer::from(Ok(Planned::Untuned(channels))),
+            Err(refusal) => Answer::refused(refusal),
+        }
     }
 }
 
-pub(crate) fn of_measure(measure: Measured) -> Number
-    ensures { result ≡ of_measure (measured measure) }
-{
-    match measure {
-        Measured::Measure(l) => number_of(DONE, 0, l),
-        Measured::Refused(refusal) => number_of(REFUSED, refusal, 0),
+// A lookup or a release of a key.
+#[tactic(auto, unfolding(channels::specs::Places::place))]
+impl From<Option<Place>> for Note {
+    ghost from_gives = { λ found note. note ≡ of_place (place found) };
+
+    fn from(found: Option<Place>) -> Note {
+        match found {
+            Some(place) => Note {
+                outcome: Outcome::Done as u8,
+                channel: u16::from(place.channel),
+                note: place.note.number(),
+                ..Note::default()
+            },
+            None => Note::not_found(),
+        }
     }
 }
 
-pub(crate) fn of_tuning(tuning: TuningAnswer) -> Number
-    ensures { result ≡ of_tuning (tuning_answer tuning) }
-{
-    match tuning {
-        TuningAnswer::Value(value) => match value {
-            Tuning::Fine(steps) => number_of(DONE, 0, steps as i64),
-            Tuning::Bend(steps) => number_of(DONE, 0, steps as i64),
-        },
-        TuningAnswer::Refused(refusal) => number_of(REFUSED, refusal, 0),
+// A repitch of a pool model.
+#[tactic(auto, unfolding(channels::specs::Places::place))]
+impl From<Result<Option<Repitched>, Refusal>> for Note {
+    ghost from_gives = { λ answer note. note ≡ of_repitched (repitched answer) };
+
+    fn from(answer: Result<Option<Repitched>, Refusal>) -> Note {
+        match answer {
+            Ok(Some(repitched)) => Note {
+                detuning: repitched.detuning,
+                ..Note::from(Some(repitched.place))
+            },
+            Ok(None) => Note::not_found(),
+            Err(refusal) => Note::refused(refusal),
+        }
     }
 }
 
-fn answer_of(outcome: u8, refusal: u8, channels: u16, bytes: usize) -> Answer
-    ensures { result ≡ answer_of outcome refusal channels bytes }
-{
-    Answer {
-        outcome,
-        refusal,
-        channels,
-        bytes,
+// A note nearest to a pitch.
+impl From<Result<Approximation, Refusal>> for Note {
+    ghost from_gives = { λ answer note. note ≡ of_nearest (outcome_by nearest answer) };
+
+    fn from(answer: Result<Approximation, Refusal>) -> Note {
+        match answer {
+            Ok(nearest) => Note {
+                outcome: Outcome::Done as u8,
+                note: nearest.note.number(),
+                detuning: nearest.detuning,
+                ..Note::default()
+            },
+            Err(refusal) => Note::refused(refusal),
+        }
     }
 }
 
-fn note_of(outcome: u8, refusal: u8, channel: u16, note: i32, detuning: f64) -> Note
-    ensures { result ≡ note_of outcome refusal channel note detuning }
-{
-    Note {
-        outcome,
-        refusal,
-        channel,
-        note,
-        detuning,
+impl Note {
+    // The detuning of a group on a channel.
+    pub(crate) fn of_detuning(channel: u16, group: i32, detuning: Option<f64>) -> Note
+        ensures { result ≡ of_detuning channel group (optional detuning) }
+    {
+        Note::of_entry(channel, detuning.map(|detuning| (group, detuning)))
+    }
+
+    // A group on a channel with its detuning.
+    pub(crate) fn of_entry(channel: u16, entry: Option<(i32, f64)>) -> Note
+        ensures { result ≡ of_entry channel (optional entry) }
+    {
+        match entry {
+            Some((group, detuning)) => Note {
+                outcome: Outcome::Done as u8,
+                channel,
+                note: group,
+                detuning,
+                ..Note::default()
+            },
+            None => Note::not_found(),
+        }
+    }
+
+    fn not_found() -> Note
+        ensures { result ≡ note_of 3 0 0 (pos 0) zero_float }
+    {
+        Note {
+            outcome: Outcome::NotFound as u8,
+            ..Note::default()
+        }
+    }
+
+    fn refused(refusal: Refusal) -> Note
+        ensures { result ≡ note_of 4 (number refusal) 0 (pos 0) zero_float }
+    {
+        Note {
+            outcome: Outcome::Refused as u8,
+            refusal: refusal.number(),
+            ..Note::default()
+        }
     }
 }
 
-fn registered_of(
-    outcome: u8,
-    refusal: u8,
-    channel: u16,
-    stopped_note: StoppedNote,
-    note: i32,
-    detuning: f64,
-) -> RegisteredKey
-    ensures { result ≡ registered_of outcome refusal channel (PoolAnswers.stopped_note stopped_note) note detuning }
-{
-    let stopped = is_stopped(stopped_note);
-    let stopped_note = note_or_0(stopped_note);
-    RegisteredKey {
-        outcome,
-        refusal,
-        channel,
-        note,
-        stopped,
-        stopped_note,
-        detuning,
+// A press from a pool model.
+impl From<Result<Option<Registered>, Refusal>> for RegisteredKey {
+    ghost from_gives = { λ registered key. key ≡ of_registered (press registered) };
+
+    fn from(registered: Result<Option<Registered>, Refusal>) -> RegisteredKey {
+        match registered {
+            Ok(Some(press)) => RegisteredKey {
+                outcome: Outcome::Done as u8,
+                channel: u16::from(press.channel),
+                note: press.started_note.number(),
+                stopped: u8::from(press.stopped_note.is_some()),
+                stopped_note: press.stopped_note.map_or(0, |note| note.number()),
+                detuning: press.detuning,
+                ..RegisteredKey::default()
+            },
+            Ok(None) => RegisteredKey {
+                outcome: Outcome::Rejected as u8,
+                ..RegisteredKey::default()
+            },
+            Err(refusal) => RegisteredKey {
+                outcome: Outcome::Refused as u8,
+                refusal: refusal.number(),
+                ..RegisteredKey::default()
+            },
+        }
     }
 }
 
-fn is_stopped(note: StoppedNote) -> u8
-    ensures { result ≡ is_stopped (stopped_note note) }
-{
-    match note {
-        StoppedNote::Note(_) => 1,
-        StoppedNote::Nothing => 0,
+// The pitch of a note.
+impl From<Result<f64, Refusal>> for NotePitch {
+    ghost from_gives = { λ answer pitch. pitch ≡ of_pitch (outcome answer) };
+
+    fn from(answer: Result<f64, Refusal>) -> NotePitch {
+        match answer {
+            Ok(hz) => NotePitch {
+                outcome: Outcome::Done as u8,
+                hz,
+                ..NotePitch::default()
+            },
+            Err(refusal) => NotePitch {
+                outcome: Outcome::Refused as u8,
+                refusal: refusal.number(),
+                ..NotePitch::default()
+            },
+        }
     }
 }
 
-fn note_or_0(note: StoppedNote) -> i32
-    ensures { result ≡ note_or0 (stopped_note note) }
-{
-    match note {
-        StoppedNote::Note(number) => number,
-        StoppedNote::Nothing => 0,
+// A measure.
+impl From<Result<i64, Refusal>> for Number {
+    ghost from_gives = { λ measure number. number ≡ of_measure (outcome measure) };
+
+    fn from(measure: Result<i64, Refusal>) -> Number {
+        match measure {
+            Ok(number) => Number {
+                outcome: Outcome::Done as u8,
+                number,
+                ..Number::default()
+            },
+            Err(refusal) => Number {
+                outcome: Outcome::Refused as u8,
+                refusal: refusal.number(),
+                ..Number::default()
+            },
+        }
     }
 }
 
-fn number_of(outcome: u8, refusal: u8, number: i64) -> Number
-    ensures { result ≡ number_of outcome refusal number }
-{
-    Number {
-        outcome,
-        refusal,
-        number,
+// The steps of a tuning of either kind.
+impl From<Result<Tuning, Refusal>> for Number {
+    ghost from_gives = { λ tuning number. number ≡ of_tuning (outcome tuning) };
+
+    fn from(tuning: Result<Tuning, Refusal>) -> Number {
+        Number::from(tuning.map(|tuning| match tuning {
+            Tuning::Fine(steps) => i64::from(steps),
+            Tuning::Bend(steps) => i64::from(steps),
+        }))
     }
 }

@@ -7,5 +7,4 @@ pub mod answer;
 pub mod message;
 pub mod plan;
 pub mod pool;
-mod settings;
 pub mod value;

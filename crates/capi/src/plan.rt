@@ -1,34 +1,42 @@
-// The plan tuner and the plan model in a block of the caller's memory. Every content of a block is some tuner, and some model.
+// The plan tuner and the plan model in a block of the caller's memory. Every content of a block is some tuner, and some model. Entries that are the pool's but for
+// the block stay beside those: in C each has a name of its own, and so has each kind of lists.
+
+#![tactic(auto, using(crate::proofs::Entries::plan_read, crate::proofs::Entries::plan_sent_read, crate::proofs::Entries::placed_is,))]
 
 ghost use Rattle.std.specs.Prelude.{◌≡◌};
 ghost use Rattle.plans.specs.PlanLists.{note_lists, pitch_lists};
 ghost use Rattle.plans.specs.PlanBlock.{group_by_of};
-ghost use Rattle.plans.specs.Plan.{open_rule, set_tuning, set_tuning_of_pitches, next_rule, plan_at, Tunes};
+ghost use Rattle.plans.specs.Plan.{open_rule, set_tuning, set_tuning_of_pitches, next_rule, plan_of, Tunes};
 ghost use Rattle.plans.specs.Plan as Model;
 ghost use Rattle.channels.specs.TuningValue.{kind_of};
 ghost use Rattle.channels.specs.declared.tuning_value.TuningKind.TheVariants.{FineTuning};
 ghost use Rattle.plan_tuner.specs.Aot.{view, start_rule, Starts, set_tuning_rule, set_tuning_of_pitches_rule, Smallest, found};
 ghost use Rattle.plan_tuner.specs.Aot.{note_on_rule, note_off_rule, note_attr_rule, global_attr_rule, stop_rule};
-ghost use Rattle.capi.specs.Answers.{of_sent, of_list, of_plan, of_plan_sent, plan_in, plan_sent_in, of_place, of_detuning, of_entry};
+ghost use Rattle.capi.specs.Answers.{of_list, of_plan, of_plan_sent, plan_in, plan_sent_in, of_place, of_detuning, of_entry};
 ghost use Rattle.capi.specs.Message.{message_of};
 ghost use Rattle.capi.specs.Entry.{EntryMeets, EntryWrites};
 
 use crate::answer::{Answer, Note};
 use crate::message::Message;
-use crate::{answer, message, settings};
-use channels::list::{ChannelList, ChannelsAnswer};
+use channels::list::ChannelList;
 use channels::tuning_value::TuningKind;
-use plans::cells::PLAN_CELLS;
+use plan_tuner::aot::AotTuner;
+use plans::aot::{AotTuningModel, GroupBy};
+use plans::lists::{NoteLists, PitchLists};
+use senders::midi::ChannelMessageType;
 
-pub type Plan = [u64; PLAN_CELLS];
+pub type Plan = AotTuner;
+
+// The block of `include/tarvoued.h`.
+const _: () = prove!(size_of::<Plan>() == 324 * 8 && align_of::<Plan>() == 8);
 
 // A tuner of the channels listed, without a plan. Refuses 6, 7.
 #[unsafe(no_mangle)]
 pub extern "C" fn tarvoued_plan_open(plan: &mut Plan, channels: &[u8], tuning_kind: u8) -> Answer
-    ensures { let rule = start_rule channels.now (kind_of tuning_kind) in
-        (result ≡ of_list rule.0) × Starts rule.0 rule.1 plan.old plan.new }
+    ensures told { result ≡ of_list (start_rule channels.now (kind_of tuning_kind)).0 }
+    ensures started { let rule = start_rule channels.now (kind_of tuning_kind) in Starts rule.0 rule.1 plan.old plan.new }
 {
-    answer::of_list(plan_tuner::block::start(plan, channels, settings::tuning_kind_of(tuning_kind)))
+    Answer::from(plan.restart(channels, TuningKind::from(u16::from(tuning_kind))))
 }
 
 // Plans keys with their notes and detunings, and tunes each channel used, in order. Refuses 12, then line by line 4, 3, 5; then 10.
@@ -45,7 +53,12 @@ pub extern "C" fn tarvoued_plan_set_tuning(
     ensures smallest { Smallest (view plan.old) (note_lists keys.now notes.now detunings.now)
         (plan_sent_in result) (view plan.new) }
 {
-    answer::of_plan_sent(plan_tuner::block::set_tuning(plan, keys, notes, detunings, out))
+    let lists = NoteLists {
+        keys,
+        notes,
+        detunings,
+    };
+    Answer::from(plan.set_tuning(&lists, out))
 }
 
 // Plans keys with their pitches in Hz, and tunes each channel used, in order. Refuses 12, then line by line 1, 5; then 10.
@@ -60,7 +73,7 @@ pub extern "C" fn tarvoued_plan_set_tuning_of_pitches(
         plan.old out.old result plan.new out.new }
     ensures smallest { Smallest (view plan.old) (pitch_lists keys.now pitches.now) (plan_sent_in result) (view plan.new) }
 {
-    answer::of_plan_sent(plan_tuner::block::set_tuning_of_pitches(plan, keys, pitches, out))
+    Answer::from(plan.set_tuning(&PitchLists { keys, pitches }, out))
 }
 
 // A press: the note-on of a key of the plan. Refuses 8, 10.
@@ -73,7 +86,7 @@ pub extern "C" fn tarvoued_plan_note_on(
 ) -> Answer
     ensures { EntryWrites (note_on_rule (view plan.now) key velocity) out.old result out.new }
 {
-    answer::of_sent(plan_tuner::block::note_on(plan, key, velocity, out))
+    Answer::from(plan.note_on(key, velocity, out))
 }
 
 // A release: the note-off of a key of the plan. Refuses 8, 10.
@@ -86,7 +99,7 @@ pub extern "C" fn tarvoued_plan_note_off(
 ) -> Answer
     ensures { EntryWrites (note_off_rule (view plan.now) key velocity) out.old result out.new }
 {
-    answer::of_sent(plan_tuner::block::note_off(plan, key, velocity, out))
+    Answer::from(plan.note_off(key, velocity, out))
 }
 
 // The pressure of a key of the plan. Refuses 8, 10.
@@ -99,7 +112,7 @@ pub extern "C" fn tarvoued_plan_note_attr(
 ) -> Answer
     ensures { EntryWrites (note_attr_rule (view plan.now) key pressure) out.old result out.new }
 {
-    answer::of_sent(plan_tuner::block::note_attr(plan, key, pressure, out))
+    Answer::from(plan.note_attr(key, pressure, out))
 }
 
 // A message to every channel, except bends of a tuner that tunes by bends. Refuses 8 from left, 9, 10.
@@ -107,7 +120,7 @@ pub extern "C" fn tarvoued_plan_note_attr(
 pub extern "C" fn tarvoued_plan_global_attr(plan: &Plan, message: Message, out: &mut [u8]) -> Answer
     ensures { EntryWrites (global_attr_rule (view plan.now) (message_of message)) out.old result out.new }
 {
-    answer::of_sent(plan_tuner::block::global_attr(plan, message::message_of(message), out))
+    Answer::from(plan.global_attr(ChannelMessageType::from(message), out))
 }
 
 // Sends nothing: a plan tuner does not know which keys are pressed.
@@ -115,7 +128,7 @@ pub extern "C" fn tarvoued_plan_global_attr(plan: &Plan, message: Message, out: 
 pub extern "C" fn tarvoued_plan_stop(plan: &Plan, out: &mut [u8]) -> Answer
     ensures { EntryWrites (stop_rule (view plan.now)) out.old result out.new }
 {
-    answer::of_sent(plan_tuner::block::stop(plan, out))
+    Answer::from(plan.stop(out))
 }
 
 // The channel and the note of a key of the plan.
@@ -123,45 +136,40 @@ pub extern "C" fn tarvoued_plan_stop(plan: &Plan, out: &mut [u8]) -> Answer
 pub extern "C" fn tarvoued_plan_lookup(plan: &Plan, key: u8) -> Note
     ensures { result ≡ of_place (found (view plan.now) key) }
 {
-    answer::of_place(plans::block::access_key(plan, key))
+    Note::from(plan.access_key(key))
 }
 
 // The detuning of a group on a channel of the plan.
 #[unsafe(no_mangle)]
 pub extern "C" fn tarvoued_plan_detuning(plan: &Plan, channel: u16, group: i32) -> Note
-    ensures { result ≡ of_detuning channel group ((plan_at plan.now).detunings channel group) }
+    ensures { result ≡ of_detuning channel group ((plan_of plan.now.model).detunings channel group) }
 {
-    answer::of_detuning(channel, group, plans::block::detuning(plan, channel, group))
+    Note::of_detuning(channel, group, plan.model.detuning(channel, group))
 }
 
 // The first of a channel's detunings whose group is `from` or higher.
 #[unsafe(no_mangle)]
 pub extern "C" fn tarvoued_plan_next_detuning(plan: &Plan, channel: u16, from: i32) -> Note
-    ensures { result ≡ of_entry channel (next_rule (plan_at plan.now) channel from) }
+    ensures { result ≡ of_entry channel (next_rule (plan_of plan.now.model) channel from) }
 {
-    answer::of_entry(channel, plans::block::next_detuning(plan, channel, from))
+    Note::of_entry(channel, plan.model.next_detuning(channel, from))
 }
 
 // A plan model, which sends nothing, of the channels listed, without a plan. Refuses 6, 7.
+#[tactic(auto, unfolding(plans::specs::Plan::open_rule))]
 #[unsafe(no_mangle)]
 pub extern "C" fn tarvoued_plan_model_open(plan: &mut Plan, channels: &[u8], group_by: u8) -> Answer
-    ensures { let rule = open_rule channels.now (group_by_of group_by) in
-        (result ≡ of_list rule.1)
-        × Starts rule.1 (record { plan = rule.0; kind = FineTuning }) plan.old plan.new }
+    ensures told { result ≡ of_list (open_rule channels.now (group_by_of group_by)).1 }
+    ensures started { let rule = open_rule channels.now (group_by_of group_by) in
+        Starts rule.1 (record { plan = rule.0; kind = FineTuning }) plan.old plan.new }
 {
-    let answer = ChannelList::of(channels);
-    match answer {
-        ChannelsAnswer::Listed(list) => {
-            plans::block::open(
-                plan,
-                list,
-                settings::group_by_of(group_by),
-                TuningKind::FineTuning,
-            );
-            answer::of_list(answer)
-        }
-        ChannelsAnswer::Refused(_) => answer::of_list(answer),
+    let listed = ChannelList::of(channels);
+    let answer = Answer::from(listed);
+    if let Ok(list) = listed {
+        let model = AotTuningModel::new(list, GroupBy::from(u16::from(group_by)));
+        *plan = AotTuner::of(model, TuningKind::FineTuning);
     }
+    answer
 }
 
 // Plans keys with their notes and detunings. Refuses 12, then line by line 4, 3, 5.
@@ -172,12 +180,19 @@ pub extern "C" fn tarvoued_plan_model_set_tuning(
     notes: &[i32],
     detunings: &[f64],
 ) -> Answer
-    ensures tunes { let rule = set_tuning (plan_at plan.old) keys.now notes.now detunings.now in
-        (result ≡ of_plan rule.1) × Tunes rule plan.old plan.new rule.1 }
-    ensures smallest { Model.Smallest (plan_at plan.old) (note_lists keys.now notes.now detunings.now)
-        (plan_at plan.new, plan_in result) }
+    ensures told { result ≡ of_plan (set_tuning (plan_of plan.old.model) keys.now notes.now detunings.now).1 }
+    ensures tunes { let rule = set_tuning (plan_of plan.old.model) keys.now notes.now detunings.now in
+        Tunes rule plan.old.model plan.new.model rule.1 }
+    ensures kept { plan.new.kind ≡ plan.old.kind }
+    ensures smallest { Model.Smallest (plan_of plan.old.model) (note_lists keys.now notes.now detunings.now)
+        (plan_of plan.new.model, plan_in result) }
 {
-    answer::of_plan(plans::block::set_tuning(plan, keys, notes, detunings))
+    let lists = NoteLists {
+        keys,
+        notes,
+        detunings,
+    };
+    Answer::from(plan.model.set_tuning(&lists))
 }
 
 // Plans keys with their pitches in Hz. Refuses 12, then line by line 1, 5.
@@ -187,10 +202,12 @@ pub extern "C" fn tarvoued_plan_model_set_tuning_of_pitches(
     keys: &[u8],
     pitches: &[f64],
 ) -> Answer
-    ensures tunes { let rule = set_tuning_of_pitches (plan_at plan.old) keys.now pitches.now in
-        (result ≡ of_plan rule.1) × Tunes rule plan.old plan.new rule.1 }
-    ensures smallest { Model.Smallest (plan_at plan.old) (pitch_lists keys.now pitches.now)
-        (plan_at plan.new, plan_in result) }
+    ensures told { result ≡ of_plan (set_tuning_of_pitches (plan_of plan.old.model) keys.now pitches.now).1 }
+    ensures tunes { let rule = set_tuning_of_pitches (plan_of plan.old.model) keys.now pitches.now in
+        Tunes rule plan.old.model plan.new.model rule.1 }
+    ensures kept { plan.new.kind ≡ plan.old.kind }
+    ensures smallest { Model.Smallest (plan_of plan.old.model) (pitch_lists keys.now pitches.now)
+        (plan_of plan.new.model, plan_in result) }
 {
-    answer::of_plan(plans::block::set_tuning_of_pitches(plan, keys, pitches))
+    Answer::from(plan.model.set_tuning(&PitchLists { keys, pitches }))
 }

@@ -1,8 +1,9 @@
-// The pool tuner and the pool model in a block of the caller's memory. Every content of a block is some tuner, and some model.
+// The pool tuner and the pool model in a block of the caller's memory. Every content of a block is some tuner, and some model. Entries that are the plan's but for
+// the block stay beside those: in C each has a name of its own.
 
 ghost use Rattle.std.specs.Prelude.{◌≡◌};
 ghost use Rattle.pools.specs.Pool.{open_rule, found, released, replied, register_rule, repitch_rule};
-ghost use Rattle.pools.specs.Block.{state_of, kind_at, group_of, mode_of, Moves};
+ghost use Rattle.pools.specs.Block.{state_of, group_of, mode_of, Moves};
 ghost use Rattle.channels.specs.TuningValue.{kind_of};
 ghost use Rattle.channels.specs.declared.tuning_value.TuningKind.TheVariants.{FineTuning};
 ghost use Rattle.senders.specs.Jit.{view, start_rule, Starts, note_on_rule, note_off_rule, note_pitch_rule, note_attr_rule, global_attr_rule, stop_rule};
@@ -12,13 +13,17 @@ ghost use Rattle.capi.specs.Entry.{EntryMeets, EntryWrites};
 
 use crate::answer::{Answer, Note, RegisteredKey};
 use crate::message::Message;
-use crate::{answer, message, settings};
 use channels::Pitch;
-use channels::list::{ChannelList, ChannelsAnswer};
+use channels::list::ChannelList;
 use channels::tuning_value::TuningKind;
-use pools::cells::CELLS;
+use pools::jit::{JitTuningModel, PoolGroupBy, PoolingMode};
+use senders::jit::JitTuner;
+use senders::midi::ChannelMessageType;
 
-pub type Pool = [u16; CELLS];
+pub type Pool = JitTuner;
+
+// The block of `include/tarvoued.h`.
+const _: () = prove!(size_of::<Pool>() == 676 * 2 && align_of::<Pool>() == 2);
 
 // A tuner of the channels listed, in which no key is found. Refuses 6, 7.
 #[unsafe(no_mangle)]
@@ -28,14 +33,13 @@ pub extern "C" fn tarvoued_pool_open(
     tuning_kind: u8,
     pooling_mode: u8,
 ) -> Answer
-    ensures { let rule = start_rule channels.now (kind_of tuning_kind) (mode_of pooling_mode) in
-        (result ≡ of_list rule.0) × Starts rule.0 rule.1 pool.old pool.new }
+    ensures told { result ≡ of_list (start_rule channels.now (kind_of tuning_kind) (mode_of pooling_mode)).0 }
+    ensures started { let rule = start_rule channels.now (kind_of tuning_kind) (mode_of pooling_mode) in Starts rule.0 rule.1 pool.old pool.new }
 {
-    answer::of_list(senders::block::start(
-        pool,
+    Answer::from(pool.restart(
         channels,
-        settings::tuning_kind_of(tuning_kind),
-        settings::pooling_mode_of(pooling_mode),
+        TuningKind::from(u16::from(tuning_kind)),
+        PoolingMode::from(u16::from(pooling_mode)),
     ))
 }
 
@@ -51,7 +55,7 @@ pub extern "C" fn tarvoued_pool_note_on(
     ensures { EntryMeets view of_press (note_on_rule (view pool.old) key hz velocity)
         pool.old out.old result pool.new out.new }
 {
-    answer::of_press(senders::block::note_on(pool, key, Pitch::from_hz(hz), velocity, out))
+    Answer::from(pool.note_on(key, Pitch::from_hz(hz), velocity, out))
 }
 
 // A release. Refuses 8, 10.
@@ -65,7 +69,7 @@ pub extern "C" fn tarvoued_pool_note_off(
     ensures { EntryMeets view of_sent (note_off_rule (view pool.old) key velocity)
         pool.old out.old result pool.new out.new }
 {
-    answer::of_sent(senders::block::note_off(pool, key, velocity, out))
+    Answer::from(pool.note_off(key, velocity, out))
 }
 
 // The tuning of the channel of a key that is found, by the pitch. Refuses 1, and 10 where the key is found.
@@ -73,7 +77,7 @@ pub extern "C" fn tarvoued_pool_note_off(
 pub extern "C" fn tarvoued_pool_note_pitch(pool: &Pool, key: u8, hz: f64, out: &mut [u8]) -> Answer
     ensures { EntryWrites (note_pitch_rule (view pool.now) key hz) out.old result out.new }
 {
-    answer::of_sent(senders::block::note_pitch(pool, key, Pitch::from_hz(hz), out))
+    Answer::from(pool.note_pitch(key, Pitch::from_hz(hz), out))
 }
 
 // The pressure of a key that is found. Refuses 8, 10.
@@ -86,7 +90,7 @@ pub extern "C" fn tarvoued_pool_note_attr(
 ) -> Answer
     ensures { EntryWrites (note_attr_rule (view pool.now) key pressure) out.old result out.new }
 {
-    answer::of_sent(senders::block::note_attr(pool, key, pressure, out))
+    Answer::from(pool.note_attr(key, pressure, out))
 }
 
 // A message to every channel, except bends of a tuner that tunes by bends. Refuses 8 from left, 9, 10.
@@ -94,7 +98,7 @@ pub extern "C" fn tarvoued_pool_note_attr(
 pub extern "C" fn tarvoued_pool_global_attr(pool: &Pool, message: Message, out: &mut [u8]) -> Answer
     ensures { EntryWrites (global_attr_rule (view pool.now) (message_of message)) out.old result out.new }
 {
-    answer::of_sent(senders::block::global_attr(pool, message::message_of(message), out))
+    Answer::from(pool.global_attr(ChannelMessageType::from(message), out))
 }
 
 // Every key that is found is released, by rising key. Refuses 10.
@@ -103,7 +107,7 @@ pub extern "C" fn tarvoued_pool_stop(pool: &mut Pool, out: &mut [u8]) -> Answer
     ensures { EntryMeets view of_sent (stop_rule (view pool.old))
         pool.old out.old result pool.new out.new }
 {
-    answer::of_sent(senders::block::stop(pool, out))
+    Answer::from(pool.stop(out))
 }
 
 // Where a key is found.
@@ -111,10 +115,11 @@ pub extern "C" fn tarvoued_pool_stop(pool: &mut Pool, out: &mut [u8]) -> Answer
 pub extern "C" fn tarvoued_pool_lookup(pool: &Pool, key: u8) -> Note
     ensures { result ≡ of_place (found (view pool.now).pool key) }
 {
-    answer::of_place(pools::block::access_key(pool, key))
+    Note::from(pool.access_key(key))
 }
 
 // A pool model, which sends nothing, of the channels listed, in which no key is found. Refuses 6, 7.
+#[tactic(auto, unfolding(pools::specs::Pool::open_rule))]
 #[unsafe(no_mangle)]
 pub extern "C" fn tarvoued_pool_model_open(
     pool: &mut Pool,
@@ -122,24 +127,21 @@ pub extern "C" fn tarvoued_pool_model_open(
     group_by: u8,
     pooling_mode: u8,
 ) -> Answer
-    ensures { let rule = open_rule channels.now (group_of group_by) (mode_of pooling_mode) in
-        (result ≡ of_list rule.0)
-        × Starts rule.0 (record { pool = rule.1; kind = FineTuning }) pool.old pool.new }
+    ensures told { result ≡ of_list (open_rule channels.now (group_of group_by) (mode_of pooling_mode)).0 }
+    ensures started { let rule = open_rule channels.now (group_of group_by) (mode_of pooling_mode) in
+        Starts rule.0 (record { pool = rule.1; kind = FineTuning }) pool.old pool.new }
 {
-    let answer = ChannelList::of(channels);
-    match answer {
-        ChannelsAnswer::Listed(list) => {
-            pools::block::open(
-                pool,
-                list,
-                settings::pool_group_of(group_by),
-                settings::pooling_mode_of(pooling_mode),
-                TuningKind::FineTuning,
-            );
-            answer::of_list(answer)
-        }
-        ChannelsAnswer::Refused(_) => answer::of_list(answer),
+    let listed = ChannelList::of(channels);
+    let answer = Answer::from(listed);
+    if let Ok(list) = listed {
+        let model = JitTuningModel::new(
+            list,
+            PoolGroupBy::from(u16::from(group_by)),
+            PoolingMode::from(u16::from(pooling_mode)),
+        );
+        *pool = JitTuner::of(model, TuningKind::FineTuning);
     }
+    answer
 }
 
 // A press: the nearest note, on a channel of its pool. Refuses 1, 11; is rejected where no channel is free.
@@ -149,25 +151,27 @@ pub extern "C" fn tarvoued_pool_model_register_key(
     key: u8,
     hz: f64,
 ) -> RegisteredKey
-    ensures { let rule = register_rule (state_of pool.old) key hz in
-        (result ≡ of_registered (replied (state_of pool.old) rule).0) × Moves rule pool.old pool.new }
+    ensures told { result ≡ of_registered (replied (state_of pool.old.model) (register_rule (state_of pool.old.model) key hz)).0 }
+    ensures moved { Moves (register_rule (state_of pool.old.model) key hz) pool.old.model pool.new.model }
+    ensures kept { pool.new.kind ≡ pool.old.kind }
 {
-    answer::of_registered(pools::block::register_key(pool, key, Pitch::from_hz(hz)))
+    RegisteredKey::from(pool.model.register_key(key, Pitch::from_hz(hz)))
 }
 
 // A release: where the key was found.
 #[unsafe(no_mangle)]
 pub extern "C" fn tarvoued_pool_model_deregister_key(pool: &mut Pool, key: u8) -> Note
-    ensures { let s = state_of pool.old in
-        (result ≡ of_place (found s key)) × (state_of pool.new ≡ released s key) × (kind_at pool.new ≡ kind_at pool.old) }
+    ensures told { result ≡ of_place (found (state_of pool.old.model) key) }
+    ensures moved { state_of pool.new.model ≡ released (state_of pool.old.model) key }
+    ensures kept { pool.new.kind ≡ pool.old.kind }
 {
-    answer::of_place(pools::block::deregister_key(pool, key))
+    Note::from(pool.model.deregister_key(key))
 }
 
 // The detuning of a pitch for the note of a key that is found. Refuses 1.
 #[unsafe(no_mangle)]
 pub extern "C" fn tarvoued_pool_model_repitch_key(pool: &Pool, key: u8, hz: f64) -> Note
-    ensures { result ≡ of_repitched (repitch_rule (state_of pool.now) key hz) }
+    ensures { result ≡ of_repitched (repitch_rule (state_of pool.now.model) key hz) }
 {
-    answer::of_repitched(pools::block::repitch_key(pool, key, Pitch::from_hz(hz)))
+    Note::from(pool.model.repitch_key(key, Pitch::from_hz(hz)))
 }

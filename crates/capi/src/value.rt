@@ -8,16 +8,16 @@ ghost use Rattle.channels.specs.TuningValue.{tuning_rule, kind_of};
 ghost use Rattle.capi.specs.Answers.{of_nearest, of_pitch, of_measure, of_tuning};
 
 use crate::answer::{Note, NotePitch, Number};
-use crate::{answer, settings};
 use arithmetic::pitch::{Pitch, Ratio};
 use arithmetic::tuning;
+use channels::tuning_value::{TuningKind, tuning_of};
 
 // The note nearest to a pitch in Hz, and the pitch's detuning. Refuses 1.
 #[unsafe(no_mangle)]
 pub extern "C" fn tarvoued_nearest_note(hz: f64) -> Note
     ensures { result ≡ of_nearest (nearest_rule hz) }
 {
-    answer::of_nearest(tuning::find_by_pitch(Pitch::from_hz(hz)))
+    Note::from(tuning::find_by_pitch(Pitch::from_hz(hz)))
 }
 
 // The pitch of a note in Hz. Refuses 4.
@@ -25,7 +25,7 @@ pub extern "C" fn tarvoued_nearest_note(hz: f64) -> Note
 pub extern "C" fn tarvoued_note_pitch(note: i32) -> NotePitch
     ensures { result ≡ of_pitch (pitch_rule note) }
 {
-    answer::of_pitch(tuning::pitch_of(note))
+    NotePitch::from(tuning::pitch_of(note))
 }
 
 // The measure of a detuning: its logarithm to base 2 in steps of 2^-24. Refuses 2.
@@ -33,7 +33,7 @@ pub extern "C" fn tarvoued_note_pitch(note: i32) -> NotePitch
 pub extern "C" fn tarvoued_measure(detuning: f64) -> Number
     ensures { result ≡ of_measure (measure_rule detuning) }
 {
-    answer::of_measure(Ratio::from_float(detuning).measure())
+    Number::from(Ratio::from_float(detuning).measure())
 }
 
 // The fine value or the bend in which a detuning is sent. Refuses 2.
@@ -41,8 +41,8 @@ pub extern "C" fn tarvoued_measure(detuning: f64) -> Number
 pub extern "C" fn tarvoued_tuning_value(tuning_kind: u8, detuning: f64) -> Number
     ensures { result ≡ of_tuning (tuning_rule (kind_of tuning_kind) detuning) }
 {
-    answer::of_tuning(channels::tuning_value::tuning_of(
-        settings::tuning_kind_of(tuning_kind),
+    Number::from(tuning_of(
+        TuningKind::from(u16::from(tuning_kind)),
         Ratio::from_float(detuning),
     ))
 }

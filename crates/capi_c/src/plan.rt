@@ -3,7 +3,7 @@
 ghost use Rattle.std.specs.Prelude.{◌≡◌};
 ghost use Rattle.plans.specs.PlanLists.{note_lists, pitch_lists};
 ghost use Rattle.plans.specs.PlanBlock.{group_by_of};
-ghost use Rattle.plans.specs.Plan.{open_rule, set_tuning, set_tuning_of_pitches, next_rule, plan_at, Tunes};
+ghost use Rattle.plans.specs.Plan.{open_rule, set_tuning, set_tuning_of_pitches, next_rule, plan_of, Tunes};
 ghost use Rattle.plans.specs.Plan as Model;
 ghost use Rattle.channels.specs.TuningValue.{kind_of};
 ghost use Rattle.channels.specs.declared.tuning_value.TuningKind.TheVariants.{FineTuning};
@@ -20,8 +20,8 @@ use capi::plan::Plan;
 // A tuner of the channels listed, without a plan. Refuses 6, 7.
 #[unsafe(no_mangle)]
 pub extern "C" fn tarvoued_plan_open(plan: &mut Plan, channels: &[u8], tuning_kind: u8) -> Answer
-    ensures { let rule = start_rule channels.now (kind_of tuning_kind) in
-        (result ≡ of_list rule.0) × Starts rule.0 rule.1 plan.old plan.new }
+    ensures told { result ≡ of_list (start_rule channels.now (kind_of tuning_kind)).0 }
+    ensures started { let rule = start_rule channels.now (kind_of tuning_kind) in Starts rule.0 rule.1 plan.old plan.new }
 {
     capi::plan::tarvoued_plan_open(plan, channels, tuning_kind)
 }
@@ -124,7 +124,7 @@ pub extern "C" fn tarvoued_plan_lookup(plan: &Plan, key: u8) -> Note
 // The detuning of a group on a channel of the plan.
 #[unsafe(no_mangle)]
 pub extern "C" fn tarvoued_plan_detuning(plan: &Plan, channel: u16, group: i32) -> Note
-    ensures { result ≡ of_detuning channel group ((plan_at plan.now).detunings channel group) }
+    ensures { result ≡ of_detuning channel group ((plan_of plan.now.model).detunings channel group) }
 {
     capi::plan::tarvoued_plan_detuning(plan, channel, group)
 }
@@ -132,7 +132,7 @@ pub extern "C" fn tarvoued_plan_detuning(plan: &Plan, channel: u16, group: i32) 
 // The first of a channel's detunings whose group is `from` or higher.
 #[unsafe(no_mangle)]
 pub extern "C" fn tarvoued_plan_next_detuning(plan: &Plan, channel: u16, from: i32) -> Note
-    ensures { result ≡ of_entry channel (next_rule (plan_at plan.now) channel from) }
+    ensures { result ≡ of_entry channel (next_rule (plan_of plan.now.model) channel from) }
 {
     capi::plan::tarvoued_plan_next_detuning(plan, channel, from)
 }
@@ -140,9 +140,9 @@ pub extern "C" fn tarvoued_plan_next_detuning(plan: &Plan, channel: u16, from: i
 // A plan model, which sends nothing, of the channels listed, without a plan. Refuses 6, 7.
 #[unsafe(no_mangle)]
 pub extern "C" fn tarvoued_plan_model_open(plan: &mut Plan, channels: &[u8], group_by: u8) -> Answer
-    ensures { let rule = open_rule channels.now (group_by_of group_by) in
-        (result ≡ of_list rule.1)
-        × Starts rule.1 (record { plan = rule.0; kind = FineTuning }) plan.old plan.new }
+    ensures told { result ≡ of_list (open_rule channels.now (group_by_of group_by)).1 }
+    ensures started { let rule = open_rule channels.now (group_by_of group_by) in
+        Starts rule.1 (record { plan = rule.0; kind = FineTuning }) plan.old plan.new }
 {
     capi::plan::tarvoued_plan_model_open(plan, channels, group_by)
 }
@@ -155,10 +155,12 @@ pub extern "C" fn tarvoued_plan_model_set_tuning(
     notes: &[i32],
     detunings: &[f64],
 ) -> Answer
-    ensures tunes { let rule = set_tuning (plan_at plan.old) keys.now notes.now detunings.now in
-        (result ≡ of_plan rule.1) × Tunes rule plan.old plan.new rule.1 }
-    ensures smallest { Model.Smallest (plan_at plan.old) (note_lists keys.now notes.now detunings.now)
-        (plan_at plan.new, plan_in result) }
+    ensures told { result ≡ of_plan (set_tuning (plan_of plan.old.model) keys.now notes.now detunings.now).1 }
+    ensures tunes { let rule = set_tuning (plan_of plan.old.model) keys.now notes.now detunings.now in
+        Tunes rule plan.old.model plan.new.model rule.1 }
+    ensures kept { plan.new.kind ≡ plan.old.kind }
+    ensures smallest { Model.Smallest (plan_of plan.old.model) (note_lists keys.now notes.now detunings.now)
+        (plan_of plan.new.model, plan_in result) }
 {
     capi::plan::tarvoued_plan_model_set_tuning(plan, keys, notes, detunings)
 }
@@ -170,10 +172,12 @@ pub extern "C" fn tarvoued_plan_model_set_tuning_of_pitches(
     keys: &[u8],
     pitches: &[f64],
 ) -> Answer
-    ensures tunes { let rule = set_tuning_of_pitches (plan_at plan.old) keys.now pitches.now in
-        (result ≡ of_plan rule.1) × Tunes rule plan.old plan.new rule.1 }
-    ensures smallest { Model.Smallest (plan_at plan.old) (pitch_lists keys.now pitches.now)
-        (plan_at plan.new, plan_in result) }
+    ensures told { result ≡ of_plan (set_tuning_of_pitches (plan_of plan.old.model) keys.now pitches.now).1 }
+    ensures tunes { let rule = set_tuning_of_pitches (plan_of plan.old.model) keys.now pitches.now in
+        Tunes rule plan.old.model plan.new.model rule.1 }
+    ensures kept { plan.new.kind ≡ plan.old.kind }
+    ensures smallest { Model.Smallest (plan_of plan.old.model) (pitch_lists keys.now pitches.now)
+        (plan_of plan.new.model, plan_in result) }
 {
     capi::plan::tarvoued_plan_model_set_tuning_of_pitches(plan, keys, pitches)
 }

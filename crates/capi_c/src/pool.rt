@@ -2,7 +2,7 @@
 
 ghost use Rattle.std.specs.Prelude.{◌≡◌};
 ghost use Rattle.pools.specs.Pool.{open_rule, found, released, replied, register_rule, repitch_rule};
-ghost use Rattle.pools.specs.Block.{state_of, kind_at, group_of, mode_of, Moves};
+ghost use Rattle.pools.specs.Block.{state_of, group_of, mode_of, Moves};
 ghost use Rattle.channels.specs.TuningValue.{kind_of};
 ghost use Rattle.channels.specs.declared.tuning_value.TuningKind.TheVariants.{FineTuning};
 ghost use Rattle.senders.specs.Jit.{view, start_rule, Starts, note_on_rule, note_off_rule, note_pitch_rule, note_attr_rule, global_attr_rule, stop_rule};
@@ -22,8 +22,8 @@ pub extern "C" fn tarvoued_pool_open(
     tuning_kind: u8,
     pooling_mode: u8,
 ) -> Answer
-    ensures { let rule = start_rule channels.now (kind_of tuning_kind) (mode_of pooling_mode) in
-        (result ≡ of_list rule.0) × Starts rule.0 rule.1 pool.old pool.new }
+    ensures told { result ≡ of_list (start_rule channels.now (kind_of tuning_kind) (mode_of pooling_mode)).0 }
+    ensures started { let rule = start_rule channels.now (kind_of tuning_kind) (mode_of pooling_mode) in Starts rule.0 rule.1 pool.old pool.new }
 {
     capi::pool::tarvoued_pool_open(pool, channels, tuning_kind, pooling_mode)
 }
@@ -111,9 +111,9 @@ pub extern "C" fn tarvoued_pool_model_open(
     group_by: u8,
     pooling_mode: u8,
 ) -> Answer
-    ensures { let rule = open_rule channels.now (group_of group_by) (mode_of pooling_mode) in
-        (result ≡ of_list rule.0)
-        × Starts rule.0 (record { pool = rule.1; kind = FineTuning }) pool.old pool.new }
+    ensures told { result ≡ of_list (open_rule channels.now (group_of group_by) (mode_of pooling_mode)).0 }
+    ensures started { let rule = open_rule channels.now (group_of group_by) (mode_of pooling_mode) in
+        Starts rule.0 (record { pool = rule.1; kind = FineTuning }) pool.old pool.new }
 {
     capi::pool::tarvoued_pool_model_open(pool, channels, group_by, pooling_mode)
 }
@@ -125,8 +125,9 @@ pub extern "C" fn tarvoued_pool_model_register_key(
     key: u8,
     hz: f64,
 ) -> RegisteredKey
-    ensures { let rule = register_rule (state_of pool.old) key hz in
-        (result ≡ of_registered (replied (state_of pool.old) rule).0) × Moves rule pool.old pool.new }
+    ensures told { result ≡ of_registered (replied (state_of pool.old.model) (register_rule (state_of pool.old.model) key hz)).0 }
+    ensures moved { Moves (register_rule (state_of pool.old.model) key hz) pool.old.model pool.new.model }
+    ensures kept { pool.new.kind ≡ pool.old.kind }
 {
     capi::pool::tarvoued_pool_model_register_key(pool, key, hz)
 }
@@ -134,8 +135,9 @@ pub extern "C" fn tarvoued_pool_model_register_key(
 // A release: where the key was found.
 #[unsafe(no_mangle)]
 pub extern "C" fn tarvoued_pool_model_deregister_key(pool: &mut Pool, key: u8) -> Note
-    ensures { let s = state_of pool.old in
-        (result ≡ of_place (found s key)) × (state_of pool.new ≡ released s key) × (kind_at pool.new ≡ kind_at pool.old) }
+    ensures told { result ≡ of_place (found (state_of pool.old.model) key) }
+    ensures moved { state_of pool.new.model ≡ released (state_of pool.old.model) key }
+    ensures kept { pool.new.kind ≡ pool.old.kind }
 {
     capi::pool::tarvoued_pool_model_deregister_key(pool, key)
 }
@@ -143,7 +145,7 @@ pub extern "C" fn tarvoued_pool_model_deregister_key(pool: &mut Pool, key: u8) -
 // The detuning of a pitch for the note of a key that is found. Refuses 1.
 #[unsafe(no_mangle)]
 pub extern "C" fn tarvoued_pool_model_repitch_key(pool: &Pool, key: u8, hz: f64) -> Note
-    ensures { result ≡ of_repitched (repitch_rule (state_of pool.now) key hz) }
+    ensures { result ≡ of_repitched (repitch_rule (state_of pool.now.model) key hz) }
 {
     capi::pool::tarvoued_pool_model_repitch_key(pool, key, hz)
 }

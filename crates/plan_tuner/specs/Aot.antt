@@ -1,17 +1,14 @@
--- The plan tuner (document 01, "midi.rs under tuner" over "aot.rs"): the rule of each call, over what the tuner holds. `fitted` adds 10 to each.
+-- The plan tuner: the rule of each call, over what the tuner holds. `fitted` adds 10 to each.
 -- Assumes nothing.
-use Rattle.std.specs.Prelude.{◌≡◌, true, false, cond, List, [], ℕ, ◌≤◌, ◌<◌, ℤ, pos, Float, length, get_or, Result}
+use Rattle.std.specs.Prelude.{◌≡◌, true, false, List, [], ℕ, ◌≤◌, ℤ, pos, Float, length, Result}
 use Rattle.std.proofs.Math.Option.{Option, some, none}
-use Rattle.std.specs.Float.{nan, binary64}
-use Rattle.std.specs.Float.Ieee.{of_bits, lt}
-use Rattle.std.specs.Float.Ieee.Positive.{positive}
 use Rattle.channels.specs.Outcome.{Outcome, value, refused}
 use Rattle.channels.specs.Refusal.{buffer_too_short}
 use Rattle.channels.specs.Lists.{upward}
 use Rattle.plans.specs.Line.{Line}
 use Rattle.channels.specs.Places.{Place}
 use Rattle.plans.specs.Placing.{Placing, InOrder, Fits, Demand3}
-use Rattle.plans.specs.Plan.{Model, plan_of, open_rule, planned, set_tuning, set_tuning_of_pitches}
+use Rattle.plans.specs.Plan.{Model, Measurable, plan_of, open_rule, planned, set_tuning, set_tuning_of_pitches}
 use Rattle.plans.specs.Plan as M
 use Rattle.channels.specs.TuningValue.{sent_as, kind_of}
 use Rattle.channels.specs.declared.tuning_value.TuningKind.{TuningKind}
@@ -42,7 +39,7 @@ view t = record { plan = plan_of t.model; kind = kind_of t.kind }
 abbrev pub with_plan : Tuner → Model → Tuner
 with_plan t m = record { plan = m; kind = t.kind }
 
--- ---- a tuner is started on a channel list; "only channel groups are sent"
+-- ---- a tuner is started on a channel list, and plans in channel groups: a sound module is sent tunings of whole channels alone
 
 abbrev pub start_rule : List ℕ → TuningKind → Outcome (List ℕ) × Tuner
 start_rule channels kind = let o = open_rule channels Channel in (o.1, record { plan = o.0; kind = kind })
@@ -52,7 +49,7 @@ abbrev pub Starts : Outcome (List ℕ) → Tuner → AotTuner → AotTuner → T
 Starts (value cs) t old new = view new ≡ t
 Starts (refused n) t old new = new ≡ old
 
--- ---- "Order for a plan: 12; then line by line 1, 4, 3, 5 ..; then 10, unless untuned"
+-- ---- a tuning: refused for its lists as a plan is, then 10, unless there are too few channels
 
 -- what a tuning answers: the count of channels, and how many bytes were sent
 pub data Planned : Type 0 where
@@ -123,36 +120,18 @@ note_off_rule t key velocity = key_rule Off t.plan.channels velocity (found t ke
 abbrev pub note_attr_rule : Tuner → ℕ → ℕ → Answer
 note_attr_rule t key pressure = key_rule Pressure t.plan.channels pressure (found t key)
 
--- ---- "`global_attr` goes to every channel, except bends of a bend sender"
+-- ---- a message to every channel, except bends of a tuner that tunes by bends
 
 abbrev pub global_attr_rule : Tuner → ChannelMessageType → Answer
 global_attr_rule t m = to_all_rule t.kind t.plan.channels m
 
--- ---- "`stop` .. on a plan tuner .. sends nothing"
+-- ---- a stop: it sends nothing
 
 abbrev pub stop_rule : Tuner → Answer
 stop_rule t = sent []
 
 -- ---- what the private functions need of a plan
 
-abbrev pub Measurable : Option Float → Type 0
-Measurable (some d) = positive d ≡ true
-Measurable none = Unit {0}
-
--- the detuning of each channel can be measured, and there are no more channels than MIDI has
+-- the detuning of each channel can be measured, and the channels are all on the list
 abbrev pub Sendable : Model → Type 0
-Sendable m = ((i : ℕ) → Measurable (m.detunings i (pos 0))) × (m.num_channels ≤ 16)
-
--- so it is of a plan
-abbrev pub Ready : Model × M.Answer → Type 0
-Ready (m, M.tuned n) = Sendable m
-Ready (m, M.untuned n) = Unit {0}
-Ready (m, M.refused n) = Unit {0}
-
--- a channel's detuning of a number, 0 for none
-unfoldable pub entry_of : Float → Option Float
-entry_of d = cond (lt (of_bits binary64 0) d) (some d) none
-
--- the numbers are the detunings of a plan's channels
-abbrev pub Entries : Model → List Float → Type 0
-Entries m ds = (i : ℕ) → i < m.num_channels → entry_of (get_or ds i nan) ≡ m.detunings i (pos 0)
+Sendable m = Measurable m × (m.num_channels ≤ length m.channels)

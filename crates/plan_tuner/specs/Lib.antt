@@ -1,2 +1,2 @@
--- What the crate's contracts cite: document 01's rules of the plan tuner.
+-- What the crate's contracts cite: the rules of the plan tuner.
 pub mod Aot

@@ -1,29 +1,36 @@
-// The plan tuner: a plan model whose tunings are sent when it is tuned, so that its keys then send notes alone. A tuning is planned in a copy, its room tested, its
-// bytes written, and only then does the tuner change.
+// The plan tuner: a plan model whose tunings are sent when it is tuned, so that its keys then send notes alone. A tuning is planned in a copy, its bytes are put
+// together and written where there is room for them, and only then does the tuner change.
 
-ghost use Rattle.std.specs.Prelude.{◌≡◌};
-ghost use Rattle.arithmetic.specs.Answers.{outcome, outcome_by};
+ghost use Rattle.std.specs.Prelude.{◌≡◌, ◌<◌, true, IfSome};
+ghost use Rattle.std.specs.Float.Ieee.Positive.{positive};
+ghost use Rattle.arithmetic.specs.Answers.{optional, outcome, outcome_by};
 ghost use Rattle.channels.specs.ChannelList.{entries};
 ghost use Rattle.channels.specs.TuningValue.{kind_of};
-ghost use Rattle.plans.specs.Plan.{access_answer};
-ghost use Rattle.senders.specs.Lent.{Answers, Steps};
+ghost use Rattle.plans.specs.Plan.{access_answer, plan_of};
+ghost use Rattle.senders.specs.Lent.{Answers, Steps, sent};
+ghost use Rattle.senders.specs.Midi.{bytes_of};
+ghost use Rattle.senders.specs.Tuner.{key_rule};
 ghost use Rattle.plan_tuner.specs.Aot.{view, start_rule, Starts, tuning_rule, plan_sent, Smallest};
+ghost use Rattle.plan_tuner.specs.Aot.{Sendable, channel_messages, plan_messages, found};
 ghost use Rattle.plan_tuner.specs.Aot.{note_on_rule, note_off_rule, note_attr_rule, global_attr_rule, stop_rule};
 
-use channels::Refusal;
 use channels::keys::Place;
 use channels::list::ChannelList;
 use channels::tuning_value::TuningKind;
-use plans::aot::{AotTuningModel, GroupBy};
+use channels::{Ratio, Refusal};
+use plans::aot::{AotTuningModel, GroupBy, Planned};
 use plans::lists::TuningLists;
 use senders::midi::ChannelMessageType;
+use senders::mts::channel_tuning;
+use senders::tuner::{NoteMessage, send_checked_key, send_checked_to_all};
 
-// A tuner of a plan model. Every content is some tuner, since it lies in the memory of programs in C.
+// A tuner of a plan model. Every content is some tuner, since it lies in the memory of programs in C, which compare it too: its kind has eight bytes, so that there is
+// no padding.
 #[repr(C)]
 #[derive(Clone, Copy)]
 pub struct AotTuner {
     pub model: AotTuningModel,
-    kind: u16,
+    kind: u64,
 }
 
 // What a tuning that is not refused comes to.
@@ -43,12 +50,12 @@ impl AotTuner {
     {
         AotTuner {
             model,
-            kind: u16::from(kind),
+            kind: u64::from(u16::from(kind)),
         }
     }
 
     // A tuner of the channels of a list, without a plan. Refuses 6 or 7 as the channel list does; the tuner has no channels then.
-    pub fn open(channels: &[u8], kind: TuningKind) -> (AotTuner, Result<ChannelList, Refusal>)
+    pub fn start(channels: &[u8], kind: TuningKind) -> (AotTuner, Result<ChannelList, Refusal>)
         ensures { (outcome_by entries result.1, view result.0) ≡ start_rule channels.now kind }
     {
         let (model, answer) = AotTuningModel::open(channels, GroupBy::Channel);
@@ -56,7 +63,8 @@ impl AotTuner {
     }
 
     // The tuner becomes one of the channels of a list, without a plan. Refuses 6 or 7 as the channel list does; the tuner stays then.
-    pub fn start(&mut self, channels: &[u8], kind: TuningKind) -> Result<ChannelList, Refusal>
+    #[tactic(auto, unfolding(plans::specs::Plan::open_rule))]
+    pub fn restart(&mut self, channels: &[u8], kind: TuningKind) -> Result<ChannelList, Refusal>
         ensures told { outcome_by entries result ≡ (start_rule channels.now kind).0 }
         ensures started { let rule = start_rule channels.now kind in Starts rule.0 rule.1 self.old self.new }
     {
@@ -69,13 +77,16 @@ impl AotTuner {
     pub fn kind(&self) -> TuningKind
         ensures { result ≡ kind_of self.now.kind }
     {
-        TuningKind::from(self.kind)
+        match self.kind {
+            1 => TuningKind::Bend,
+            _ => TuningKind::FineTuning,
+        }
     }
 
     // Plans the keys of lists, and tunes each channel used, in order. Refuses 12, then line by line 4, 3, 5 of notes and 1, 5 of pitches; then 10, unless there are
     // too few channels.
-    // Example: AotTuner::open([0, 1], Bend); set_tuning([1, 2], [69, 69], [1, 33/32]) is tuned, channels used 2: e0 00 40 e1 06 51
-    // Example: AotTuner::open([0, 1], Bend); set_tuning_of_pitches([1, 2], [440, 445]) is tuned, channels used 2: e0 00 40 e1 21 46
+    // Example: AotTuner::start([0, 1], Bend); set_tuning([1, 2], [69, 69], [1, 33/32]) is tuned, channels used 2: e0 00 40 e1 06 51
+    // Example: AotTuner::start([0, 1], Bend); set_tuning(pitches [1, 2], [440, 445]) is tuned, channels used 2: e0 00 40 e1 21 46
     pub fn set_tuning<L: TuningLists>(
         &mut self,
         lists: &L,
@@ -84,37 +95,46 @@ impl AotTuner {
         ensures steps { Steps view (tuning_rule (view self.old) (L.lines lists.now)) self.old out.old (plan_sent result) self.new out.new }
         ensures smallest { Smallest (view self.old) (L.lines lists.now) (plan_sent result) (view self.new) }
     {
-        unreachable!()
+        let mut next = self.model;
+        let sent = match next.set_tuning(lists)? {
+            Planned::Tuned(channels) => {
+                let written = send_tunings(&next, self.kind(), out)?;
+                PlanSent::Tuned { channels, written }
+            }
+            Planned::Untuned(channels) => PlanSent::Untuned(channels),
+        };
+        self.model = next;
+        Ok(sent)
     }
 
     // A press: the note-on of a key of the plan. Refuses 8, 10.
-    // Example: AotTuner::open([0, 1], Bend); set_tuning([1, 2], [69, 69], [1, 33/32]); note_on(2, 100) is 91 45 64
-    // Example: AotTuner::open([0, 1], Bend); set_tuning([1, 2], [69, 69], [1, 33/32]); note_on(3, 100) is no bytes
+    // Example: AotTuner::start([0, 1], Bend); set_tuning([1, 2], [69, 69], [1, 33/32]); note_on(2, 100) is 91 45 64
+    // Example: AotTuner::start([0, 1], Bend); set_tuning([1, 2], [69, 69], [1, 33/32]); note_on(3, 100) is no bytes
     pub fn note_on(&self, key: u8, velocity: u8, out: &mut [u8]) -> Result<usize, Refusal>
         ensures { Answers (note_on_rule (view self.now) key velocity) out.old (outcome result) out.new }
     {
-        unreachable!()
+        self.send_note(key, NoteMessage::On, velocity, out)
     }
 
     // A release: the note-off of a key of the plan. Refuses 8, 10.
     pub fn note_off(&self, key: u8, velocity: u8, out: &mut [u8]) -> Result<usize, Refusal>
         ensures { Answers (note_off_rule (view self.now) key velocity) out.old (outcome result) out.new }
     {
-        unreachable!()
+        self.send_note(key, NoteMessage::Off, velocity, out)
     }
 
     // The pressure of a key of the plan. Refuses 8, 10.
     pub fn note_attr(&self, key: u8, pressure: u8, out: &mut [u8]) -> Result<usize, Refusal>
         ensures { Answers (note_attr_rule (view self.now) key pressure) out.old (outcome result) out.new }
     {
-        unreachable!()
+        self.send_note(key, NoteMessage::Pressure, pressure, out)
     }
 
     // A message to every channel, except bends of a tuner that tunes by bends. Refuses 8 from left, 9, also where nothing is sent, and 10.
     pub fn global_attr(&self, message: ChannelMessageType, out: &mut [u8]) -> Result<usize, Refusal>
         ensures { Answers (global_attr_rule (view self.now) message) out.old (outcome result) out.new }
     {
-        unreachable!()
+        send_checked_to_all(self.kind(), self.model.channels(), message, out)
     }
 
     // Sends nothing: a plan tuner does not know which keys are pressed, so whoever pressed one releases it.
@@ -137,4 +157,69 @@ impl AotTuner {
     {
         self.model.tuned()
     }
+
+    // A message of the note of a key of the plan. Refuses 8, 10.
+    #[tactic(auto, using(crate::proofs::PlanCalls::key_found))]
+    fn send_note(
+        &self,
+        key: u8,
+        message: NoteMessage,
+        value: u8,
+        out: &mut [u8],
+    ) -> Result<usize, Refusal>
+        ensures { let t = view self.now in Answers (key_rule message t.plan.channels value (found t key)) out.old (outcome result) out.new }
+    {
+        send_checked_key(
+            self.model.channels(),
+            self.access_key(key),
+            message,
+            value,
+            out,
+        )
+    }
+}
+
+// A list has so many channels at most, and the tuning of one takes so many bytes at most.
+const MOST_CHANNELS: usize = 16;
+
+const LONGEST_TUNING: usize = 12;
+
+// Writes the tunings of a plan's channels, in order, to the buffer's start. Refuses 10.
+fn send_tunings(model: &AotTuningModel, kind: TuningKind, out: &mut [u8]) -> Result<usize, Refusal>
+    requires { Sendable (plan_of model.now) }
+    ensures { Answers (sent (bytes_of (plan_messages kind (plan_of model.now)))) out.old (outcome result) out.new }
+{
+    let channels = model.channels();
+    // They are put together here first: a buffer without room for all of them keeps its content.
+    let mut bytes = [0; MOST_CHANNELS * LONGEST_TUNING];
+    let mut len: usize = 0;
+    for i in 0..model.num_channels() {
+        let detuning = model.detuning(i, 0);
+        len += send_tuning(kind, channels, i, detuning, &mut bytes[len..]).unwrap();
+    }
+    if out.len() < len {
+        return Err(Refusal::BufferTooShort);
+    }
+    out[..len].copy_from_slice(&bytes[..len]);
+    Ok(len)
+}
+
+// Writes the tuning of channel i of a list, if it has a detuning, to the buffer's start. Refuses 10.
+fn send_tuning(
+    kind: TuningKind,
+    channels: ChannelList,
+    i: u16,
+    detuning: Option<f64>,
+    out: &mut [u8],
+) -> Result<usize, Refusal>
+    requires { IfSome detuning (λ d. positive d ≡ true) × (i < 16) }
+    ensures { Answers (sent (bytes_of (channel_messages kind (entries channels) i (optional detuning)))) out.old (outcome result) out.new }
+{
+    let Some(detuning) = detuning else {
+        return Ok(0);
+    };
+    let Some(channel) = channels.entry(i as u8) else {
+        return Ok(0);
+    };
+    channel_tuning(kind, channel, Ratio::from_float(detuning), out)
 }

@@ -1,128 +1,101 @@
 -- A key put in at its place: where the place is among keys in order, and the shift that makes room there. Assumes nothing.
-use mathlib.Core.Path.{◌≡◌, refl, sym, ap, ◌∙◌}
-use mathlib.Core.Bool.{Bool, true, false, not, cond}
-use mathlib.Core.List.{List, [], ◌∷◌, ◌++◌}
-use Prim.Native.Nat.{ℕ, zero, suc, ◌+◌, ◌-◌, ◌<◌, ◌≤◌}
-use native.Mathlib.Numerals.{add-one}
-use native.Mathlib.Omega.{arith}
+use Rattle.std.proofs.Common.{◌≡◌, ℕ, zero, suc, ◌+◌, ◌-◌, ◌<◌, ◌≤◌, Bool, true, false, List, [], ◌∷◌, ◌++◌, length, get_or, take, drop, set, refl, sym, ap, ◌∙◌, arith, append_assoc, length-take, length-drop}
+use Rattle.std.proofs.Math.Seq.{paste, take-set-lt, set-append_seam}
+use Rattle.std.proofs.lemmas.List.{take_more, take-take, drop-take}
+use Rattle.std.proofs.lemmas.List.Edits.{take-paste, length-paste}
+use Rattle.std.specs.List.Sorted.{IsPartitionedBy, IsPartitionPoint}
+use native.Mathlib.Nat.{le_of_eq}
 use lib.Dec.{T}
-use lib.Ieee.{Float, nan, le, lt}
-use lib.Ieee.Positive.{positive, le_trans_positive}
-use lib.ListN.{length, get_or, take, drop, set, length-take, length-set}
-use lib.Seq.{take-take, take-set-le, take-set-lt, drop-set-lt, get_or-take, get_or-set_same, split_at}
+use lib.Ieee.{Float, nan, le}
+use lib.Ieee.Positive.{positive, le_trans_positive, cross→le}
 use Rattle.channels.specs.Lists.{Each}
 use Rattle.plans.specs.PlanInternal.{Rises, before, put_in}
-use Rattle.channels.proofs.ListLaws.{outcome, passed, failed, T→true}
-use Rattle.plans.proofs.Joins.{lt_not_le}
+use Rattle.channels.proofs.ListLaws.{outcome, passed, failed, T→true, true→T}
 use Rattle.plans.proofs.Records.{at_each}
-use Rattle.channels.proofs.Arrays.{rest_cons, rest_nil}
 
 -- ---- the place
 
 pub before_fits : (ds : List Float) (d : Float) (l : List ℕ) → before ds d l ≤ length l
 unfolding before
 before_fits ds d [] = omega arith
-before_fits ds d (k ∷ l) = go (lt d (get_or ds k nan)) (before ds d l) (before_fits ds d l)
-  where
-    go : (b : Bool) (m : ℕ) → m ≤ length l → cond b 0 (suc m) ≤ suc (length l)
-    go true m h = omega arith
-    go false m h = omega arith
-
-rises_positive : (ds : List Float) (l : List ℕ) → Rises ds l → Each (λ (k : ℕ). T (positive (get_or ds k nan))) l
-rises_positive ds [] r = tt
-rises_positive ds (k ∷ l) r = (r.0, rises_positive ds l r.2)
-
--- a key with a higher detuning is behind the place
-before_most : (ds : List Float) (d : Float) (l : List ℕ) (j : ℕ) → j < length l → lt d (get_or ds (get_or l j 0) nan) ≡ true → before ds d l ≤ j
-unfolding before
-before_most ds d [] j h e = absurd (let z : ⊥ = omega arith in z)
-before_most ds d (k ∷ l) zero h e = rw e (omega arith)
-before_most ds d (k ∷ l) (suc j) h e = elim (outcome (lt d (get_or ds k nan))) [
-  | passed u ↦ rw u (omega arith)
-  | failed u ↦ rw u (omega (arith, before_most ds d l j (omega arith) e))
+before_fits ds d (k ∷ l) = elim (outcome (le (get_or ds k nan) d)) [
+  | passed e ↦ rw e (omega (arith, before_fits ds d l))
+  | failed e ↦ rw e (omega arith)
 ]
 
--- and one with no higher one, where the keys are in order, before it
-before_least : (ds : List Float) (d : Float) (l : List ℕ) (j : ℕ) → Rises ds l → T (positive d) → j < length l → lt d (get_or ds (get_or l j 0) nan) ≡ false
-    → j < before ds d l
-unfolding before
-before_least ds d [] j r p h e = absurd (let z : ⊥ = omega arith in z)
-before_least ds d (k ∷ l) zero r p h e = rw e (omega arith)
-before_least ds d (k ∷ l) (suc j) r p h e =
-    let x = get_or ds (get_or l j 0) nan in
-    let px : T (positive x) = at_each (λ (i : ℕ). T (positive (get_or ds i nan))) l 0 (rises_positive ds l r.2) j (omega arith) in
-    let up : T (le (get_or ds k nan) x) = at_each (λ (i : ℕ). T (le (get_or ds k nan) (get_or ds i nan))) l 0 r.1 j (omega arith) in
-    let under : le x d ≡ true = not_not (le x d) (sym (lt_not_le d x p px) ∙ e) in
-    let own : lt d (get_or ds k nan) ≡ false =
-    lt_not_le d (get_or ds k nan) p r.0 ∙ ap not (T→true (le (get_or ds k nan) d) (le_trans_positive (get_or ds k nan) x d r.0 px p up (rw under tt)))
-    in
-    rw own (omega (arith, before_least ds d l j r.2 p (omega arith) e))
-  where
-    not_not : (b : Bool) → not b ≡ false → b ≡ true
-    not_not true e = refl
-    not_not false e = sym e
+module _ (ds : List Float) (d : Float) where
+  -- whether a key comes before the detuning
+  abbrev pub comes_before : ℕ → Bool
+  comes_before k = le (get_or ds k nan) d
 
--- the search by halves, at a place among the first n
-module _ (ds : List Float) (d : Float) (n : ℕ) (xs : List ℕ) (j : ℕ) (h : j < n) (k : n ≤ length xs) where
-  pub place_most : lt d (get_or ds (get_or xs j 0) nan) ≡ true → before ds d (take n xs) ≤ j
-  place_most e = before_most ds d (take n xs) j (omega (arith, length-take n xs)) (rw (get_or-take n xs j 0 h) e)
+  -- where the keys that come before it end
+  before_here : (l : List ℕ) (i : ℕ) → i ≤ length l → ((k : ℕ) → k < i → comes_before (get_or l k 0) ≡ true)
+      → (i < length l → comes_before (get_or l i 0) ≡ false) → i ≡ before ds d l
+  unfolding before
+  before_here [] i h lower at = omega arith
+  before_here (x ∷ l) zero h lower at = let e : le (get_or ds x nan) d ≡ false = at (omega arith) in rw e
+  before_here (x ∷ l) (suc i) h lower at =
+      let e : le (get_or ds x nan) d ≡ true = lower 0 (omega arith) in
+      rw e (ap suc (before_here l i (omega arith) (λ k p. lower (suc k) (omega arith)) (λ p. at (omega arith))))
 
-  pub place_least : Rises ds (take n xs) → T (positive d) → lt d (get_or ds (get_or xs j 0) nan) ≡ false → j < before ds d (take n xs)
-  place_least r p e = before_least ds d (take n xs) j r p (omega (arith, length-take n xs)) (rw (get_or-take n xs j 0 h) e)
+  -- what `partition_point` answers
+  pub place_is : (l : List ℕ) (i : ℕ) → i ≤ length l → IsPartitionPoint (λ (k : ℕ). comes_before k ≡ true) (λ (k : ℕ). comes_before k ≡ false) l i
+      → i ≡ before ds d l
+  place_is l i h p = before_here l i h (λ k u. p.0 k 0 (omega arith) u) (λ u. p.1 i 0 (omega arith) u)
 
--- the place among the first n is one in the whole
-pub put_at : (ds : List Float) (d : Float) (k n : ℕ) (xs : List ℕ)
-    → let b = before ds d (take n xs) in take b xs ++ (k ∷ drop b (take n xs)) ≡ put_in ds d k (take n xs)
+  rises_positive : (l : List ℕ) → Rises ds l → Each (λ (k : ℕ). T (positive (get_or ds k nan))) l
+  rises_positive [] r = tt
+  rises_positive (k ∷ l) r = (r.0, rises_positive l r.2)
+
+  rises_up : (l : List ℕ) → Rises ds l → (i j : ℕ) → i ≤ j → j < length l → T (le (get_or ds (get_or l i 0) nan) (get_or ds (get_or l j 0) nan))
+  rises_up [] r i j h k = absurd (let z : ⊥ = omega arith in z)
+  rises_up (x ∷ l) r zero zero h k = cross→le (get_or ds x nan) (get_or ds x nan) r.0 r.0 (le_of_eq refl)
+  rises_up (x ∷ l) r zero (suc j) h k = at_each (λ (y : ℕ). T (le (get_or ds x nan) (get_or ds y nan))) l 0 r.1 j (omega arith)
+  rises_up (x ∷ l) r (suc i) zero h k = absurd (let z : ⊥ = omega arith in z)
+  rises_up (x ∷ l) r (suc i) (suc j) h k = rises_up l r.2 i j (omega arith) (omega arith)
+
+  -- keys in order are parted by a detuning
+  pub parted : (l : List ℕ) → Rises ds l → T (positive d) → IsPartitionedBy comes_before l
+  parted l r p i j x h k e =
+      let y = get_or ds (get_or l i 0) nan in
+      let z = get_or ds (get_or l j 0) nan in
+      let each = rises_positive l r in
+      let py : T (positive y) = at_each (λ (i : ℕ). T (positive (get_or ds i nan))) l 0 each i (omega arith) in
+      let pz : T (positive z) = at_each (λ (i : ℕ). T (positive (get_or ds i nan))) l 0 each j k in
+      rw (own l i x (omega arith))
+      (T→true (le y d) (le_trans_positive y z d py pz p (rises_up l r i j h k) (true→T (rw (own l j x k) at e))))
+    where
+      own : (l : List ℕ) (i x : ℕ) → i < length l → get_or l i x ≡ get_or l i 0
+      own [] i x h = absurd (let z : ⊥ = omega arith in z)
+      own (y ∷ l) zero x h = refl
+      own (y ∷ l) (suc i) x h = own l i x (omega arith)
+
+-- ---- the shift: the keys from b on move up by one, and one is put in there
+
+shifted : (xs : List ℕ) (b m k : ℕ) → b + m < length xs
+    → take (b + 1 + m) (set (paste xs (b + 1) (drop b xs) m) b k) ≡ take b xs ++ (k ∷ take m (drop b xs))
+shifted xs b m k h =
+    let ys = paste xs (b + 1) (drop b xs) m in
+    let zs = take m (drop b xs) in
+    let x = get_or xs b 0 in
+    let few : m ≤ length (drop b xs) = omega (arith, length-drop b xs) in
+    let here : length (take b xs) ≡ b = omega (arith, length-take b xs) in
+    take-set-lt (b + 1 + m) ys b k (omega arith)
+    ∙ ap (λ (l : List ℕ). set l b k) (take-paste xs (b + 1) (drop b xs) m (omega arith) few ∙ ap (λ (l : List ℕ). l ++ zs) (take_more xs b 0 (omega arith))
+    ∙ append_assoc (take b xs) (x ∷ []) zs)
+    ∙ ap (λ (j : ℕ). set (take b xs ++ (x ∷ zs)) j k) (sym here)
+    ∙ set-append_seam (take b xs) x zs k
+
+-- the keys in order with one more, at its place
+pub inserted : (ds : List Float) (d : Float) (n k : ℕ) (xs : List ℕ) → n < length xs → (b : ℕ) → b ≡ before ds d (take n xs)
+    → take (n + 1) (set (paste xs (b + 1) (drop b xs) (n - b)) b k) ≡ put_in ds d k (take n xs)
 unfolding put_in
-put_at ds d k n xs =
-    let b = before ds d (take n xs) in
-    rw (take-take b n xs (omega (arith, before_fits ds d (take n xs), length-take n xs)))
-
--- ---- the shift: of the first n, those from i on have moved up by one
-
-pub record Shifted (n : ℕ) (xs ys : List ℕ) (i : ℕ) : Type 0 where
-  pub long : length ys ≡ length xs
-  pub low : take i ys ≡ take i xs
-  pub moved : drop (i + 1) (take (n + 1) ys) ≡ drop i (take n xs)
-
-pub shift_begins : (n : ℕ) (xs : List ℕ) → Shifted n xs xs n
-shift_begins n xs = record { long = refl; low = refl; moved = rest_nil (n + 1) xs (n + 1) (omega arith) ∙ sym (rest_nil n xs n (omega arith)) }
-
-module _ (n : ℕ) (xs ys : List ℕ) (i : ℕ) (s : Shifted n xs ys i) (fits : n < length xs) where
-  pub shift_turn : 0 < i → i ≤ n → Shifted n xs (set ys i (get_or ys (i - 1) 0)) (i - 1)
-  shift_turn h k =
-      let x = get_or ys (i - 1) 0 in
-      let same : x ≡ get_or xs (i - 1) 0 = sym (get_or-take i ys (i - 1) 0 (omega arith)) ∙ ap (λ (l : List ℕ). get_or l (i - 1) 0) s.low
-      ∙ get_or-take i xs (i - 1) 0 (omega arith) in
-      let up : i - 1 + 1 ≡ i = omega arith in
-      record {
-        long = length-set ys i x ∙ s.long;
-        low =
-            take-set-le (i - 1) ys i x (omega arith)
-            ∙ sym (take-take (i - 1) i ys (omega arith))
-            ∙ ap (take (i - 1)) s.low
-            ∙ take-take (i - 1) i xs (omega arith);
-        moved =
-            ap (λ (j : ℕ). drop j (take (n + 1) (set ys i x))) up
-            ∙ rest_cons (n + 1) (set ys i x) i 0 (omega arith) (omega (arith, length-set ys i x, s.long))
-            ∙ ap (λ (y : ℕ). y ∷ drop (i + 1) (take (n + 1) (set ys i x))) (get_or-set_same ys i x 0 (omega (arith, s.long)) ∙ same)
-            ∙ ap (λ (l : List ℕ). get_or xs (i - 1) 0 ∷ l)
-            (ap (drop (i + 1)) (take-set-lt (n + 1) ys i x (omega arith)) ∙ drop-set-lt (i + 1) (take (n + 1) ys) i x (omega arith) ∙ s.moved
-            ∙ ap (λ (j : ℕ). drop j (take n xs)) (sym up))
-            ∙ sym (rest_cons n xs (i - 1) 0 (omega arith) (omega arith));
-      }
-
-  pub shift_ends : (x : ℕ) → i ≤ n → take (n + 1) (set ys i x) ≡ take i xs ++ (x ∷ drop i (take n xs))
-  shift_ends x k =
-      split_at (take (n + 1) (set ys i x)) i 0 (omega (arith, length-take (n + 1) (set ys i x), length-set ys i x, s.long))
-      ∙ rw (
-        take-take i (n + 1) (set ys i x) (omega arith),
-        take-set-le i ys i x (omega arith),
-        s.low,
-        get_or-take (n + 1) (set ys i x) i 0
-            (omega arith),
-        get_or-set_same ys i x 0 (omega (arith, s.long)),
-      )
-      (ap (λ (l : List ℕ). take i xs ++ (x ∷ l))
-      (ap (drop (suc i)) (take-set-lt (n + 1) ys i x (omega arith)) ∙ drop-set-lt (suc i) (take (n + 1) ys) i x (omega arith)
-      ∙ ap (λ (j : ℕ). drop j (take (n + 1) ys)) (sym (add-one i)) ∙ s.moved))
+inserted ds d n k xs h b e =
+    let fits : b ≤ n = omega (arith, e, before_fits ds d (take n xs), length-take n xs) in
+    let up : n + 1 ≡ b + 1 + (n - b) = omega arith in
+    let whole : b + (n - b) ≡ n = omega arith in
+    ap (λ (j : ℕ). take j (set (paste xs (b + 1) (drop b xs) (n - b)) b k)) up
+    ∙ shifted xs b (n - b) k (omega arith)
+    ∙ ap (λ (l : List ℕ). take b xs ++ (k ∷ l)) (sym (drop-take b (n - b) xs) ∙ ap (λ (j : ℕ). drop b (take j xs)) whole)
+    ∙ ap (λ (l : List ℕ). l ++ (k ∷ drop b (take n xs))) (sym (take-take b n xs fits))
+    ∙ ap (λ (j : ℕ). take j (take n xs) ++ (k ∷ drop j (take n xs))) e

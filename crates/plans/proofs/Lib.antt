@@ -21,3 +21,4 @@ pub mod PlanBlocks
 pub mod NextEntry
 pub mod Planned
 pub mod PlanEntries
+pub mod Tunings

@@ -1,19 +1,26 @@
 -- The check of a plan's lists, line by line, at the line where a loop stands. Assumes nothing.
 use mathlib.Core.Path.{◌≡◌, refl, sym, ap, ◌∙◌}
-use mathlib.Core.Bool.{true, false, ◌&&◌}
+use mathlib.Core.Bool.{Bool, true, false, ◌&&◌}
 use mathlib.Core.List.{List, [], ◌∷◌, ◌++◌}
-use Prim.Native.Nat.{ℕ, ◌+◌, ◌<◌, ◌≤◌}
-use native.Mathlib.Numerals.{add-one}
+use Prim.Native.Nat.{ℕ, zero, suc, ◌<◌, ◌≤◌}
 use native.Mathlib.Omega.{arith}
-use borrow.Author.Tests.{eq-eqb, ne_eqb}
-use lib.Dec.{T, eqb}
+use borrow.Author.Tests.{eq-eqb, ltb-true, ltb-false}
+use lib.Dec.{T, eqb, ltb}
 use lib.IntN.{ℤ, pos, negsuc}
 use lib.Ieee.{Float, nan, fin, binary64, fits, le}
 use lib.Ieee.Fits.{and_l, and_r, div-fits}
 use lib.Ieee.Positive.{positive}
-use lib.ListN.{length, get_or, drop, drop_of_length-le, length-append}
+use lib.ListN.{length, get_or, drop, drop_of_length-le}
 use lib.Seq.{drop-cons}
-use Rattle.arithmetic.specs.Outcome.{Outcome, value, refused}
+use Rattle.std.specs.Prelude.{Result, Ok, Err, Option, Some, None, IfSome}
+use Rattle.std.specs.Result.{IsErrAnd}
+use Rattle.std.specs.Option.{is_some, ok_or, option_copied}
+use Rattle.std.specs.Borrow.{Bor}
+use Rattle.arithmetic.specs.Answers.{outcome as answered}
+use Rattle.arithmetic.specs.declared.refusal.Refusal.{Refusal}
+use Rattle.arithmetic.specs.declared.refusal.Refusal.TheVariants.{KeyTwice, ListsUnequal}
+use Rattle.arithmetic.specs.Refusal.{number, lists_unequal}
+use Rattle.arithmetic.specs.Outcome.{Outcome, value, refused, refuse◌unless◌then◌}
 use Rattle.arithmetic.specs.Note.{is_note}
 use Rattle.arithmetic.specs.Pitch.{is_pitch, detuning_of}
 use Rattle.arithmetic.specs.Nearest.{nearest_rule, nearest_note}
@@ -21,16 +28,37 @@ use Rattle.arithmetic.proofs.Bounds.{detuning_is, planned_is}
 use Rattle.arithmetic.proofs.Nearest.{nearest_is_note, nearest_detuning}
 use Rattle.channels.specs.Lists.{member}
 use Rattle.plans.specs.Line.{Line}
-use Rattle.plans.specs.PlanLists.{key_count, is_planned, note_line, pitch_line, note_lines, pitch_lines, keys, line_by_line, note_lists, pitch_lists}
+use Rattle.plans.specs.Entries.{entry_of}
+use Rattle.plans.specs.PlanLists.{key_count, is_planned, note_line, pitch_line, note_lines, pitch_lines, keys, line_by_line}
 use Rattle.channels.specs.Places.{is_held, place_of}
-use Rattle.plans.specs.PlanInternal.{Accepted, Adds, Checked, Holds, Room}
+use Rattle.plans.specs.declared.sorted_keys.SortedKeys.{SortedKeys}
+use Rattle.plans.specs.PlanInternal.{Accepted, Adds, Checked, Holds}
 use Rattle.channels.proofs.ListLaws.{true→T, outcome, passed, failed}
-use Rattle.plans.proofs.SortedKeys.{accepted_snoc, accepted_few, accepted_nil, room_for_lem}
+use Rattle.plans.proofs.SortedKeys.{accepted_snoc, accepted_nil}
+
+-- ---- the lists' lengths
+
+module _ {A : Type 0} (n : ℕ) (b : Bool) (o : Outcome A) where
+  -- of what is refused unless the test holds, a value says that it does
+  pub tested : (x : A) → value x ≡ (refuse n unless b then o) → (b ≡ true) × (value x ≡ o)
+  tested x e = go b e
+    where
+      go : (t : Bool) → value x ≡ (refuse n unless t then o) → (t ≡ true) × (value x ≡ o)
+      go true e = (refl, e)
+      go false e = absurd (let z : ◌≡◌ {A = ℕ} 0 1 = cc in omega arith)
+
+  -- and a refusal that it does not, where nothing else is refused
+  pub not_tested : (x : A) (k : ℕ) → o ≡ value x → refused k ≡ (refuse n unless b then o) → (b ≡ false) × (k ≡ n)
+  not_tested x k v e = go b e
+    where
+      go : (t : Bool) → refused k ≡ (refuse n unless t then o) → (t ≡ false) × (k ≡ n)
+      go true e = absurd (let f : refused k ≡ value x = e ∙ v in let z : ◌≡◌ {A = ℕ} 0 1 = cc in omega arith)
+      go false e = (refl, cc)
 
 -- ---- a turn of a check: the lines so far are held and were accepted, and the lines that are left decide
-pub record Turn (o : Outcome (List Line)) (order cells : List ℕ) (ds : List Float) (n : ℕ) (rest : List (Outcome Line)) : Type 0 where
+pub record Turn (o : Outcome (List Line)) (s : SortedKeys) (rest : List (Outcome Line)) : Type 0 where
   pub lines : List Line
-  pub holds : Holds order cells ds n lines
+  pub holds : Holds s lines
   pub ok : Accepted lines
   pub left : o ≡ line_by_line lines rest
 
@@ -41,97 +69,197 @@ pub record Sound (l : Line) : Type 0 where
   pub above : T (positive l.detuning)
   pub fitting : T (fits binary64 l.detuning)
 
-pub begins : (order cells : List ℕ) (ds : List Float) (rest : List (Outcome Line)) → Holds order cells ds 0 []
-    → Turn (line_by_line [] rest) order cells ds 0 rest
-begins order cells ds rest h = record { lines = []; holds = h; ok = accepted_nil; left = refl }
+pub begins : (s : SortedKeys) (rest : List (Outcome Line)) → Holds s [] → Turn (line_by_line [] rest) s rest
+begins s rest h = record { lines = []; holds = h; ok = accepted_nil; left = refl }
 
--- the line at hand was refused, and so is the list; or there is one line more
-module _ (o : Outcome (List Line)) (order cells : List ℕ) (ds : List Float) (n : ℕ) (rest : List (Outcome Line)) (r : ℕ) (order' cells' : List ℕ)
-    (ds' : List Float) where
-  pub turn_refused : (x : Outcome Line) → Turn o order cells ds n (x ∷ rest) → Adds x r n order cells ds order' cells' ds' → (r ≡ 0 → ⊥) → (m : ℕ)
-      → Checked o r order' cells' ds' m
+-- the line at hand was refused by itself, and so is the list
+module _ (o : Outcome (List Line)) (s : SortedKeys) (rows : List (Outcome Line)) (i : ℕ) (t : Turn o s (drop i rows)) where
+  pub turn_refused : (m : ℕ) (d : Outcome Line) → i < length rows → refused m ≡ get_or rows i d → o ≡ refused m
   unfolding line_by_line
-  turn_refused (refused k) t adds ne m = let c = adds t.lines t.ok t.holds in rw t.left c
-  turn_refused (value l) t adds ne m =
-      let c = adds t.lines t.ok t.holds in
-      elim (outcome (member l.key (keys t.lines))) [
-        | passed u ↦ let d : Checked (refused 5) r order' cells' ds' (n + 1) = rw u at c in let e : o ≡ refused 5 = t.left ∙ rw u in rw e d
-        | failed u ↦ let d : Checked (value (t.lines ++ (l ∷ []))) r order' cells' ds' (n + 1) = rw u at c in absurd (ne d.0)
-      ]
+  turn_refused m d h e = t.left ∙ ap (line_by_line t.lines) (drop-cons rows i d h) ∙ rw (sym e)
 
-  pub turn_next : (x : Outcome Line) → Turn o order cells ds n (x ∷ rest) → Adds x r n order cells ds order' cells' ds' → r ≡ 0
-      → Turn o order' cells' ds' (n + 1) rest
+  module _ (x : Line) (d : Outcome Line) (h : i < length rows) (e : value x ≡ get_or rows i d) where
+    rest_is : o ≡ line_by_line t.lines (value x ∷ drop (suc i) rows)
+    rest_is = t.left ∙ ap (line_by_line t.lines) (drop-cons rows i d h) ∙ ap (λ (y : Outcome Line). line_by_line t.lines (y ∷ drop (suc i) rows)) (sym e)
+
+    -- its key came before
+    pub turn_twice : (r : Refusal) (u : SortedKeys) → Adds x (Err r) s u → o ≡ refused (number r)
+    unfolding line_by_line
+    turn_twice r u adds =
+        let c = adds t.lines t.ok t.holds in
+        rest_is
+        ∙ elim (outcome (member x.key (keys t.lines))) [
+          | passed v ↦ let k : Checked (refused 5) (Err r) u = rw v at c in rw v (ap (λ (n : ℕ). refused n) k)
+          | failed v ↦ let k : Checked (value (t.lines ++ (x ∷ []))) (Err r) u = rw v at c in absurd k
+        ]
+
+    -- or there is one line more
+    pub turn_next : (u : SortedKeys) → Adds x (Ok tt) s u → Turn o u (drop (suc i) rows)
+    unfolding line_by_line
+    turn_next u adds =
+        let c = adds t.lines t.ok t.holds in
+        elim (outcome (member x.key (keys t.lines))) [
+          | passed v ↦ let k : Checked (refused 5) (Ok tt) u = rw v at c in absurd k
+          | failed v ↦
+              let k : Checked (value (t.lines ++ (x ∷ []))) (Ok tt) u = rw v at c in
+              record { lines = t.lines ++ (x ∷ []); holds = k.1; ok = k.0; left = rest_is ∙ rw v }
+        ]
+
+  pub ended : length rows ≤ i → Checked o (Ok tt) s
   unfolding line_by_line
-  turn_next (refused k) t adds e = let c = adds t.lines t.ok t.holds in absurd (c.1 (sym c.0 ∙ e))
-  turn_next (value l) t adds e =
-      let c = adds t.lines t.ok t.holds in
-      elim (outcome (member l.key (keys t.lines))) [
-        | passed u ↦ let d : Checked (refused 5) r order' cells' ds' (n + 1) = rw u at c in absurd (d.1 (sym d.0 ∙ e))
-        | failed u ↦
-            let d : Checked (value (t.lines ++ (l ∷ []))) r order' cells' ds' (n + 1) = rw u at c in
-            record { lines = t.lines ++ (l ∷ []); holds = d.2; ok = d.1; left = t.left ∙ rw u }
-      ]
+  ended h = let e : o ≡ value t.lines = t.left ∙ ap (line_by_line t.lines) (drop_of_length-le rows {i = i} h) in rw e (t.ok, t.holds)
+
+-- a refusal is handed on
+pub checked_refused : (o : Outcome (List Line)) (r : Result (Unit {0}) Refusal) (e : Refusal) (s : SortedKeys) → IsErrAnd r (λ d. d ≡ e)
+    → o ≡ refused (number e) → Checked o r s
+checked_refused o (Ok u) e s h i = absurd h
+checked_refused o (Err d) e s h i = rw (h, i)
 
 -- a line that passed by itself, behind lines that are held
-module _ (order cells : List ℕ) (ds : List Float) (n : ℕ) (l : Line) (s : Sound l) (lines : List Line) (ok : Accepted lines)
-    (h : Holds order cells ds n lines) where
-  pub came_before : is_held (place_of (get_or cells l.key 0)) ≡ true → (order' cells' : List ℕ) (ds' : List Float)
-      → Checked (line_by_line lines (value l ∷ [])) 5 order' cells' ds' (n + 1)
+module _ (s : SortedKeys) (x : Line) (sound : Sound x) (lines : List Line) (ok : Accepted lines) (h : Holds s lines) where
+  pub came_before : is_held (place_of (get_or s.records x.key 0)) ≡ true → (t : SortedKeys) → Checked (line_by_line lines (value x ∷ [])) (Err KeyTwice) t
   unfolding line_by_line
-  came_before e order' cells' ds' = rw (sym (h.marked l.key) ∙ e) (refl, λ z. absurd (let y : ⊥ = omega arith in y))
+  came_before e t = let m : member x.key (keys lines) ≡ true = sym (h.marked x.key) ∙ e in rw m
 
-  module _ (e : is_held (place_of (get_or cells l.key 0)) ≡ false) where
-    pub new : member l.key (keys lines) ≡ false
-    new = sym (h.marked l.key) ∙ e
+  module _ (e : is_held (place_of (get_or s.records x.key 0)) ≡ false) where
+    pub new : member x.key (keys lines) ≡ false
+    new = sym (h.marked x.key) ∙ e
 
-    more_ok : Accepted (lines ++ (l ∷ []))
-    more_ok = accepted_snoc lines l ok new s.byte s.note s.above s.fitting
+    pub more_ok : Accepted (lines ++ (x ∷ []))
+    more_ok = accepted_snoc lines x ok new sound.byte sound.note sound.above sound.fitting
 
-    pub room : Room order ds n l.key
-    room =
-        room_for_lem order cells ds n l.key lines h ok new s.byte
-        (omega (arith, h.counted, accepted_few (lines ++ (l ∷ [])) more_ok, length-append lines (l ∷ [])))
-
-    pub one_more : (order' cells' : List ℕ) (ds' : List Float) → Holds order' cells' ds' (n + 1) (lines ++ (l ∷ []))
-        → Checked (line_by_line lines (value l ∷ [])) 0 order' cells' ds' (n + 1)
+    pub one_more : (t : SortedKeys) → Holds t (lines ++ (x ∷ [])) → Checked (line_by_line lines (value x ∷ [])) (Ok tt) t
     unfolding line_by_line
-    one_more order' cells' ds' k = rw new (refl, more_ok, k)
+    one_more t k = rw new (more_ok, k)
 
-pub ended : (o : Outcome (List Line)) (order cells : List ℕ) (ds : List Float) (n : ℕ) → Turn o order cells ds n [] → Checked o 0 order cells ds n
-unfolding line_by_line
-ended o order cells ds n t = rw t.left (refl, t.ok, t.holds)
+-- ---- the line at i, by the entries there
 
--- a refusal
-pub ended_early : (o : Outcome (List Line)) (order cells : List ℕ) (ds : List Float) (n m : ℕ) → o ≡ refused m → 0 < m → Checked o m order cells ds n
-ended_early o order cells ds n m e z = rw e (refl, λ k. absurd (let y : ⊥ = omega arith in y))
+module _ {A : Type 0} where
+  pub no_entry : (l : List A) (i m : ℕ) → refused m ≡ entry_of l i → (m ≡ 12) × (length l ≤ i)
+  no_entry [] i m e = (cc, omega arith)
+  no_entry (x ∷ l) zero m e = absurd (let z : ◌≡◌ {A = ℕ} 0 1 = cc in omega arith)
+  no_entry (x ∷ l) (suc i) m e = let r = no_entry l i m e in (r.0, omega (arith, r.1))
 
--- a line that is refused by itself
-pub line_refused : (x : Outcome Line) (m : ℕ) → x ≡ refused m → 0 < m
-    → (n : ℕ) (order cells : List ℕ) (ds : List Float) (order' cells' : List ℕ) (ds' : List Float) → Adds x m n order cells ds order' cells' ds'
-unfolding line_by_line
-line_refused x m e z n order cells ds order' cells' ds' lines ok h = rw e (refl, λ k. absurd (let y : ⊥ = omega arith in y))
+  pub an_entry : (l : List A) (i : ℕ) (x d : A) → value x ≡ entry_of l i → (i < length l) × (get_or l i d ≡ x)
+  an_entry [] i x d e = absurd (let z : ◌≡◌ {A = ℕ} 0 1 = cc in omega arith)
+  an_entry (y ∷ l) zero x d e = (omega arith, cc)
+  an_entry (y ∷ l) (suc i) x d e = let r = an_entry l i x d e in (omega (arith, r.0), r.1)
 
--- ---- the line at i
+  past : (l : List A) (i : ℕ) (d : A) → length l ≤ i → get_or l i d ≡ d
+  past [] i d h = refl
+  past (x ∷ l) zero d h = absurd (let z : ⊥ = omega arith in z)
+  past (x ∷ l) (suc i) d h = past l i d (omega arith)
+
+-- what `get` finds
+pub entry_got : {A : Type 0} (l : List A) (i : ℕ) (o : Option (Bor A)) → is_some o ≡ ltb i (length l) → IfSome o (λ x. x.now ≡ get_or l i x.now)
+    → answered (ok_or (option_copied o) ListsUnequal) ≡ entry_of l i
+entry_got l i None e h = missing l i (omega (arith, ltb-false i (length l) (sym e)))
+  where
+    missing : {A : Type 0} (l : List A) (i : ℕ) → length l ≤ i → refused 12 ≡ entry_of l i
+    missing [] i h = refl
+    missing (x ∷ l) zero h = absurd (let z : ⊥ = omega arith in z)
+    missing (x ∷ l) (suc i) h = missing l i (omega arith)
+entry_got l i (Some x) e h = found l i x.now (ltb-true i (length l) (sym e)) h
+  where
+    found : {A : Type 0} (l : List A) (i : ℕ) (x : A) → i < length l → x ≡ get_or l i x → value x ≡ entry_of l i
+    found [] i x b e = absurd (let z : ⊥ = omega arith in z)
+    found (y ∷ l) zero x b e = ap (λ (z : _). value z) e
+    found (y ∷ l) (suc i) x b e = found l i x (omega arith) e
+
+-- lines of notes
+note_row : (ks : List ℕ) (ns : List ℤ) (ds : List Float) (i : ℕ) (d : Outcome Line) → i < length ks → i < length ns → i < length ds
+    → get_or (note_lines ks ns ds) i d ≡ note_line (get_or ks i 0) (get_or ns i (pos 0)) (get_or ds i nan)
+unfolding note_lines
+note_row [] ns ds i d hk hn hd = absurd (let z : ⊥ = omega arith in z)
+note_row (k ∷ ks) [] ds i d hk hn hd = absurd (let z : ⊥ = omega arith in z)
+note_row (k ∷ ks) (n ∷ ns) [] i d hk hn hd = absurd (let z : ⊥ = omega arith in z)
+note_row (k ∷ ks) (n ∷ ns) (x ∷ ds) zero d hk hn hd = refl
+note_row (k ∷ ks) (n ∷ ns) (x ∷ ds) (suc i) d hk hn hd = note_row ks ns ds i d (omega arith) (omega arith) (omega arith)
+
+note_rows : (ks : List ℕ) (ns : List ℤ) (ds : List Float)
+    → (length (note_lines ks ns ds) ≤ length ks) × (length (note_lines ks ns ds) ≤ length ns) × (length (note_lines ks ns ds) ≤ length ds)
+unfolding note_lines
+note_rows [] ns ds = (omega arith, omega arith, omega arith)
+note_rows (k ∷ ks) [] ds = (omega arith, omega arith, omega arith)
+note_rows (k ∷ ks) (n ∷ ns) [] = (omega arith, omega arith, omega arith)
+note_rows (k ∷ ks) (n ∷ ns) (x ∷ ds) = let r = note_rows ks ns ds in (omega (arith, r.0), omega (arith, r.1), omega (arith, r.2))
+
 module _ (ks : List ℕ) (ns : List ℤ) (ds : List Float) (i : ℕ) where
-  pub note_line_at : i < length ks → i < length ns → i < length ds
-      → note_lines (drop i ks) (drop i ns) (drop i ds) ≡ note_line (get_or ks i 0) (get_or ns i (pos 0)) (get_or ds i nan) ∷ note_lines (drop (i + 1) ks)
-      (drop (i + 1) ns) (drop (i + 1) ds)
-  unfolding note_lines
-  note_line_at hk hn hd = rw (add-one, drop-cons ks i 0 hk, drop-cons ns i (pos 0) hn, drop-cons ds i nan hd)
+  no_row : (m : ℕ) → m ≡ 12 → length (note_lines ks ns ds) ≤ i → refused m ≡ get_or (note_lines ks ns ds) i (refused 12)
+  no_row m e h = ap (λ (n : ℕ). refused n) e ∙ sym (past (note_lines ks ns ds) i (refused 12) h)
 
-  pub note_lines_end : length ks ≤ i → note_lines (drop i ks) (drop i ns) (drop i ds) ≡ []
-  unfolding note_lines
-  note_lines_end h = rw (drop_of_length-le ks {i = i} h)
+  pub no_key : (m : ℕ) → refused m ≡ entry_of ks i → refused m ≡ get_or (note_lines ks ns ds) i (refused 12)
+  no_key m e = let r = no_entry ks i m e in no_row m r.0 (omega (arith, r.1, (note_rows ks ns ds).0))
+
+  pub no_note : (m : ℕ) → refused m ≡ entry_of ns i → refused m ≡ get_or (note_lines ks ns ds) i (refused 12)
+  no_note m e = let r = no_entry ns i m e in no_row m r.0 (omega (arith, r.1, (note_rows ks ns ds).1))
+
+  pub no_detuning : (m : ℕ) → refused m ≡ entry_of ds i → refused m ≡ get_or (note_lines ks ns ds) i (refused 12)
+  no_detuning m e = let r = no_entry ds i m e in no_row m r.0 (omega (arith, r.1, (note_rows ks ns ds).2))
+
+  pub the_note_line : (k : ℕ) (n : ℤ) (d : Float) → value k ≡ entry_of ks i → value n ≡ entry_of ns i → value d ≡ entry_of ds i
+      → get_or (note_lines ks ns ds) i (refused 12) ≡ note_line k n d
+  the_note_line k n d ek en ed =
+      let a = an_entry ks i k 0 ek in
+      let b = an_entry ns i n (pos 0) en in
+      let c = an_entry ds i d nan ed in
+      note_row ks ns ds i (refused 12) a.0 b.0 c.0 ∙ (λ j. note_line (a.1 j) (b.1 j) (c.1 j))
+
+-- lines of pitches
+pitch_row : (ks : List ℕ) (hzs : List Float) (i : ℕ) (d : Outcome Line) → i < length ks → i < length hzs
+    → get_or (pitch_lines ks hzs) i d ≡ pitch_line (get_or ks i 0) (get_or hzs i nan)
+unfolding pitch_lines
+pitch_row [] hzs i d hk hz = absurd (let z : ⊥ = omega arith in z)
+pitch_row (k ∷ ks) [] i d hk hz = absurd (let z : ⊥ = omega arith in z)
+pitch_row (k ∷ ks) (x ∷ hzs) zero d hk hz = refl
+pitch_row (k ∷ ks) (x ∷ hzs) (suc i) d hk hz = pitch_row ks hzs i d (omega arith) (omega arith)
+
+pitch_rows : (ks : List ℕ) (hzs : List Float) → (length (pitch_lines ks hzs) ≤ length ks) × (length (pitch_lines ks hzs) ≤ length hzs)
+unfolding pitch_lines
+pitch_rows [] hzs = (omega arith, omega arith)
+pitch_rows (k ∷ ks) [] = (omega arith, omega arith)
+pitch_rows (k ∷ ks) (x ∷ hzs) = let r = pitch_rows ks hzs in (omega (arith, r.0), omega (arith, r.1))
 
 module _ (ks : List ℕ) (hzs : List Float) (i : ℕ) where
-  pub pitch_line_at : i < length ks → i < length hzs
-      → pitch_lines (drop i ks) (drop i hzs) ≡ pitch_line (get_or ks i 0) (get_or hzs i nan) ∷ pitch_lines (drop (i + 1) ks) (drop (i + 1) hzs)
-  unfolding pitch_lines
-  pitch_line_at hk hd = rw (add-one, drop-cons ks i 0 hk, drop-cons hzs i nan hd)
+  no_pitch_row : (m : ℕ) → m ≡ 12 → length (pitch_lines ks hzs) ≤ i → refused m ≡ get_or (pitch_lines ks hzs) i (refused 12)
+  no_pitch_row m e h = ap (λ (n : ℕ). refused n) e ∙ sym (past (pitch_lines ks hzs) i (refused 12) h)
 
-  pub pitch_lines_end : length ks ≤ i → pitch_lines (drop i ks) (drop i hzs) ≡ []
-  unfolding pitch_lines
-  pitch_lines_end h = rw (drop_of_length-le ks {i = i} h)
+  pub no_pitched_key : (m : ℕ) → refused m ≡ entry_of ks i → refused m ≡ get_or (pitch_lines ks hzs) i (refused 12)
+  no_pitched_key m e = let r = no_entry ks i m e in no_pitch_row m r.0 (omega (arith, r.1, (pitch_rows ks hzs).0))
+
+  pub no_pitch : (m : ℕ) → refused m ≡ entry_of hzs i → refused m ≡ get_or (pitch_lines ks hzs) i (refused 12)
+  no_pitch m e = let r = no_entry hzs i m e in no_pitch_row m r.0 (omega (arith, r.1, (pitch_rows ks hzs).1))
+
+  pub the_pitch_line : (k : ℕ) (hz : Float) → value k ≡ entry_of ks i → value hz ≡ entry_of hzs i
+      → get_or (pitch_lines ks hzs) i (refused 12) ≡ pitch_line k hz
+  the_pitch_line k hz ek eh =
+      let a = an_entry ks i k 0 ek in
+      let b = an_entry hzs i hz nan eh in
+      pitch_row ks hzs i (refused 12) a.0 b.0 ∙ (λ j. pitch_line (a.1 j) (b.1 j))
+
+-- equally long lists have a line for each key
+note_lines_long : (ks : List ℕ) (ns : List ℤ) (ds : List Float) → length ns ≡ length ks → length ds ≡ length ks → length (note_lines ks ns ds) ≡ length ks
+unfolding note_lines
+note_lines_long [] ns ds e f = refl
+note_lines_long (k ∷ ks) [] ds e f = absurd (let z : ⊥ = omega arith in z)
+note_lines_long (k ∷ ks) (n ∷ ns) [] e f = absurd (let z : ⊥ = omega arith in z)
+note_lines_long (k ∷ ks) (n ∷ ns) (x ∷ ds) e f = ap suc (note_lines_long ks ns ds (omega arith) (omega arith))
+
+-- so many are counted
+pub notes_counted : (ks : List ℕ) (ns : List ℤ) (ds : List Float) → length ns ≡ length ks → length ds ≡ length ks
+    → value (length ks) ≡ (refuse lists_unequal unless eqb (length ns) (length ks) && eqb (length ds) (length ks) then value (length (note_lines ks ns ds)))
+notes_counted ks ns ds e f =
+    rw (eq-eqb (length ns) (length ks) e, eq-eqb (length ds) (length ks) f) (ap (λ (n : ℕ). value n) (sym (note_lines_long ks ns ds e f)))
+
+pitch_lines_long : (ks : List ℕ) (hzs : List Float) → length hzs ≡ length ks → length (pitch_lines ks hzs) ≡ length ks
+unfolding pitch_lines
+pitch_lines_long [] hzs e = refl
+pitch_lines_long (k ∷ ks) [] e = absurd (let z : ⊥ = omega arith in z)
+pitch_lines_long (k ∷ ks) (x ∷ hzs) e = ap suc (pitch_lines_long ks hzs (omega arith))
+
+pub pitches_counted : (ks : List ℕ) (hzs : List Float) → length hzs ≡ length ks
+    → value (length ks) ≡ (refuse lists_unequal unless eqb (length hzs) (length ks) then value (length (pitch_lines ks hzs)))
+pitches_counted ks hzs e = rw (eq-eqb (length hzs) (length ks) e) (ap (λ (n : ℕ). value n) (sym (pitch_lines_long ks hzs e)))
 
 -- ---- a line by itself
 module _ (k : ℕ) (n : ℤ) (d : Float) where
@@ -193,31 +321,3 @@ a_pitch_line k hz n d e = rw (sym e)
 pub no_pitch_line : (k : ℕ) (hz : Float) (n : ℕ) → refused n ≡ nearest_rule hz → pitch_line k hz ≡ refused n
 unfolding pitch_line
 no_pitch_line k hz n e = rw (sym e)
-
--- ---- the lists' lengths
-module _ (ks : List ℕ) (ns : List ℤ) (ds : List Float) where
-  pub note_lists_equal : length ns ≡ length ks → length ds ≡ length ks → note_lists ks ns ds ≡ line_by_line [] (note_lines ks ns ds)
-  unfolding note_lists
-  note_lists_equal e f = rw (eq-eqb (length ns) (length ks) e, eq-eqb (length ds) (length ks) f)
-
-  pub note_lists_unequal : (length ns ≡ length ks → length ds ≡ length ks → ⊥) → note_lists ks ns ds ≡ refused 12
-  unfolding note_lists
-  note_lists_unequal h = elim (outcome (eqb (length ns) (length ks) && eqb (length ds) (length ks))) [
-    | passed e ↦
-        let a = eqb (length ns) (length ks) in
-        let b = eqb (length ds) (length ks) in
-        absurd (h (equal (length ns) (length ks) (and_l a b (true→T e))) (equal (length ds) (length ks) (and_r a b (true→T e))))
-    | failed e ↦ rw e
-  ]
-    where
-      equal : (a b : ℕ) → T (eqb a b) → a ≡ b
-      equal a b t = lib.Dec.eqb→eq a b t
-
-module _ (ks : List ℕ) (hzs : List Float) where
-  pub pitch_lists_equal : length hzs ≡ length ks → pitch_lists ks hzs ≡ line_by_line [] (pitch_lines ks hzs)
-  unfolding pitch_lists
-  pitch_lists_equal e = rw (eq-eqb (length hzs) (length ks) e)
-
-  pub pitch_lists_unequal : (length hzs ≡ length ks → ⊥) → pitch_lists ks hzs ≡ refused 12
-  unfolding pitch_lists
-  pitch_lists_unequal h = rw (ne_eqb (length hzs) (length ks) h)

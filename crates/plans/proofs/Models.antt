@@ -8,7 +8,7 @@ use borrow.Author.Tests.{le-leb, lt-leb}
 use lib.Dec.{leb}
 use lib.IntN.{ℤ}
 use lib.Ieee.{Float}
-use lib.ListN.{length}
+use lib.ListN.{length, replicate}
 use Rattle.arithmetic.specs.Outcome.{value}
 use Rattle.plans.specs.declared.aot.GroupBy.{GroupBy}
 use Rattle.plans.specs.Line.{Line, group, same}
@@ -16,7 +16,6 @@ use Rattle.plans.specs.Walk.{count}
 use Rattle.plans.specs.Plan.{KeyRecord, Model, tuned, untuned, empty, holding, planned, is_in, records_of, key_in, counts, highest}
 use Rattle.channels.specs.Lists.{Each}
 use Rattle.channels.specs.Places.{note_of}
-use Rattle.plans.proofs.SortedKeys.{zeros}
 
 pub same_model : (m n : Model) → m.channels ≡ n.channels → m.group_by ≡ n.group_by → m.tuned ≡ n.tuned → m.num_channels ≡ n.num_channels
     → ((k : ℕ) → m.keys k ≡ n.keys k) → ((c : ℕ) (g : ℤ) → m.detunings c g ≡ n.detunings c g) → m ≡ n
@@ -27,8 +26,8 @@ same_model m n a b t d e f =
 abbrev pub AllOut : List KeyRecord → Type 0
 AllOut rs = Each (λ (r : KeyRecord). is_in r ≡ false) rs
 
-pub none_in : (n : ℕ) (ds : List Float) → AllOut (records_of (zeros n) ds)
-unfolding records_of zeros is_in note_of
+pub none_in : (n : ℕ) (ds : List Float) → AllOut (records_of (replicate n 0) ds)
+unfolding records_of is_in note_of
 none_in zero ds = tt
 none_in (suc n) [] = tt
 none_in (suc n) (d ∷ ds) = (refl, none_in n ds)

@@ -1,30 +1,34 @@
 -- The next entry: the least group from a number on that has a detuning on a channel is the first that the list of all groups shows. Assumes nothing.
-use mathlib.Core.Path.{◌≡◌, refl, sym, ap, subst}
+use mathlib.Core.Path.{◌≡◌, refl, sym, ap, ◌∙◌, subst}
 use mathlib.Core.Logic.{◌⊎◌, inl, inr}
 use mathlib.Core.Bool.{Bool, true, false, ◌&&◌, cond}
 use mathlib.Core.List.{List, [], ◌∷◌}
 use mathlib.Core.Option.{Option, none, some}
 use Prim.Native.Nat.{ℕ, zero, suc, ◌+◌, ◌<◌, ◌≤◌}
 use native.Mathlib.Omega.{arith}
+use native.Mathlib.Numerals.{add-one}
 use borrow.Author.Tests.{ltb-true, ltb-false, leb-true, leb-false}
 use lib.Dec.{leb}
 use lib.IntN.{ℤ, pos, negsuc, ◌+ℤ◌}
+use lib.ListN.{length, get_or, drop, drop_of_length-le}
+use lib.Seq.{drop-cons}
 use lib.Signed.{le_z, lt_z}
-use lib.Ieee.{Float, le}
+use lib.Ieee.{Float, nan, le}
 use lib.Ieee.Fits.{and_l, and_r}
+use Rattle.std.specs.Prelude.{Some, None}
+use Rattle.std.specs.Prelude.{Option as Optional}
 use Rattle.arithmetic.specs.Note.{is_note, lowest_note, letter_of}
 use Rattle.arithmetic.proofs.Integers.{plus, less, add_parts, same as same_parts}
-use Rattle.plans.proofs.Slots.{group_note}
 use Rattle.arithmetic.proofs.Notes.{bounds, letter_below}
 use Rattle.plans.specs.declared.aot.GroupBy.{GroupBy}
 use Rattle.plans.specs.declared.aot.GroupBy.TheVariants.{Note, NoteLetter, Channel}
 use Rattle.channels.specs.Lists.{Each}
 use Rattle.plans.specs.Line.{group, same}
-use Rattle.plans.specs.Plan.{KeyRecord, is_in, counts, highest, larger, numbers_from, groups, first_entry}
-use Rattle.plans.specs.PlanInternal.{lower, least_from}
+use Rattle.plans.specs.Plan.{KeyRecord, is_in, counts, highest, larger, record_of, records_of, numbers_from, groups, first_entry}
+use Rattle.plans.specs.PlanInternal.{group_up_to, lower, least_from}
 use Rattle.channels.proofs.ListLaws.{outcome, passed, failed, T→true, true→T, not_false}
 use Rattle.plans.proofs.Sweep.{same_eq}
-use Rattle.plans.proofs.Records.{counts_not, counts_other, counts_own, in_note}
+use Rattle.plans.proofs.Records.{counts_up, counts_up_none, counts_up_other, in_note}
 
 -- ---- orders of integers, by their parts
 lt_parts : (a b : ℤ) → lt_z a b ≡ true → plus a + less b < plus b + less a
@@ -59,45 +63,59 @@ parts_le a b h = elim (outcome (le_z a b)) [
 
 -- ---- the scan
 
+-- a step of it, at an index
+module _ (by : GroupBy) (c : ℕ) (from : ℤ) (least : Optional ℤ) (cells : List ℕ) (i : ℕ) where
+  pub least_next : i < length cells
+      → least_from by c from least (drop i cells) ≡ least_from by c from (lower from (group_up_to by c (get_or cells i 0)) least) (drop (i + 1) cells)
+  unfolding least_from
+  least_next h = rw (add-one, drop-cons cells i 0 h)
+
+  pub least_end : length cells ≤ i → least_from by c from least (drop i cells) ≡ least
+  unfolding least_from
+  least_end h = rw (drop_of_length-le cells {i = i} h)
+
+-- h is below the least group, if there is one
+abbrev pub Below : ℤ → Optional ℤ → Type 0
+Below h None = Unit {0}
+Below h (Some g) = plus h + less g < plus g + less h
+
 -- what is below the least group counts nowhere
 module _ (by : GroupBy) (c : ℕ) (from : ℤ) where
-  lower_below : (least : ℤ) (r : KeyRecord) (h : ℤ) → plus from + less h ≤ plus h + less from
-      → plus h + less (lower by c from least r) < plus (lower by c from least r) + less h
-      → (counts by c h r ≡ false) × (plus h + less least < plus least + less h)
-  unfolding lower
-  lower_below least r h f b = elim (outcome (leb r.channel c && is_in r)) [
-    | failed u ↦ (counts_not by c h r u, rw u at b)
-    | passed u ↦ elim (outcome (lt_z (group by r.note) from)) [
-      | passed v ↦
-          let l : plus h + less least < plus least + less h = rw (u, v) at b in (
-            counts_other by c h r (λ e. let k : plus h + less from < plus from + less h = subst (λ (z : ℤ). plus z + less from < plus from + less z) e
-                (lt_parts (group by r.note) from v) in omega arith),
-            l,
-          )
-      | failed v ↦ elim (outcome (le_z least (group by r.note))) [
-        | passed w ↦
-            let l : plus h + less least < plus least + less h = rw (u, v, w) at b in (
-              counts_other by c h r (λ e. let k : plus least + less h ≤ plus h + less least = subst (λ (z : ℤ). plus least + less z ≤ plus z + less least) e
-                  (le_parts least (group by r.note) w) in omega arith),
-              l,
-            )
-        | failed w ↦
-            let l : plus h + less (group by r.note) < plus (group by r.note) + less h = rw (u, v, w) at b in (
-              counts_other by c h r (λ e. let k : plus h + less h < plus h + less h = subst (λ (z : ℤ). plus h + less z < plus z + less h) e l in omega arith),
-              omega (arith, nle_parts least (group by r.note) w),
-            )
-      ]
-    ]
-  ]
+  -- of a group from `from` on: it is not h, and h is below the least so far
+  passed_by : (h g : ℤ) (least : Optional ℤ) → plus from + less h ≤ plus h + less from → Below h (lower from (Some g) least) → (g ≡ h → ⊥) × Below h least
+  passed_by h g None f b = go (le_z from g) refl b
+    where
+      go : (t : Bool) → le_z from g ≡ t → Below h (cond t (Some g) None) → (g ≡ h → ⊥) × Unit {0}
+      go true e b = (λ u. let z : ⊥ = omega (arith, ap plus u, ap less u) in z, tt)
+      go false e b = (λ u. let k = nle_parts from g e in let z : ⊥ = omega (arith, ap plus u, ap less u) in z, tt)
+  passed_by h g (Some l) f b = go (le_z from g) refl (lt_z g l) refl b
+    where
+      go : (t : Bool) → le_z from g ≡ t → (u : Bool) → lt_z g l ≡ u → Below h (cond (t && u) (Some g) (Some l))
+          → (g ≡ h → ⊥) × (plus h + less l < plus l + less h)
+      go true e true i b = (λ q. let z : ⊥ = omega (arith, ap plus q, ap less q) in z, omega (arith, lt_parts g l i))
+      go true e false i b = (λ q. let k = nlt_parts g l i in let z : ⊥ = omega (arith, ap plus q, ap less q) in z, b)
+      go false e u i b = (λ q. let k = nle_parts from g e in let z : ⊥ = omega (arith, ap plus q, ap less q) in z, b)
 
-  pub none_below : (least : ℤ) (rs : List KeyRecord) (h : ℤ) → plus from + less h ≤ plus h + less from
-      → plus h + less (least_from by c from least rs) < plus (least_from by c from least rs) + less h
-      → Each (λ (r : KeyRecord). counts by c h r ≡ false) rs × (plus h + less least < plus least + less h)
-  unfolding least_from
-  none_below least [] h f b = (tt, b)
-  none_below least (r ∷ rs) h f b =
-      let i = none_below (lower by c from least r) rs h f b in
-      let k = lower_below least r h f i.1 in
+  none_below_step : (least : Optional ℤ) (cell : ℕ) (d : Float) (h : ℤ) → plus from + less h ≤ plus h + less from
+      → Below h (lower from (group_up_to by c cell) least)
+      → (counts by c h (record_of cell d) ≡ false) × Below h least
+  none_below_step least cell d h f b = go (group_up_to by c cell) refl b
+    where
+      go : (o : Optional ℤ) → group_up_to by c cell ≡ o → Below h (lower from o least) → (counts by c h (record_of cell d) ≡ false) × Below h least
+      go None e b = (counts_up_none by c cell d h e, b)
+      go (Some g) e b = let p = passed_by h g least f b in (counts_up_other by c cell d h g e p.0, p.1)
+
+  pub none_below : (least : Optional ℤ) (cells : List ℕ) (ds : List Float) (h : ℤ) → plus from + less h ≤ plus h + less from
+      → Below h (least_from by c from least cells)
+      → Each (λ (r : KeyRecord). counts by c h r ≡ false) (records_of cells ds) × Below h least
+  unfolding least_from records_of
+  none_below least [] ds h f b = (tt, b)
+  none_below least (cell ∷ cells) [] h f b =
+      let i = none_below (lower from (group_up_to by c cell) least) cells [] h f b in
+      (tt, (none_below_step least cell nan h f i.1).1)
+  none_below least (cell ∷ cells) (d ∷ ds) h f b =
+      let i = none_below (lower from (group_up_to by c cell) least) cells ds h f b in
+      let k = none_below_step least cell d h f i.1 in
       ((k.0, i.0), k.1)
 
   pub none_highest : (g : ℤ) (rs : List KeyRecord) → Each (λ (r : KeyRecord). counts by c g r ≡ false) rs → highest by c g rs ≡ none
@@ -119,34 +137,43 @@ module _ (by : GroupBy) (c : ℕ) (from : ℤ) where
     | failed u ↦ h (rw u at e)
   ]
 
-  own_some : (r : KeyRecord) (rs : List KeyRecord) → (leb r.channel c && is_in r) ≡ true → highest by c (group by r.note) (r ∷ rs) ≡ none → ⊥
+  own_some : (cell : ℕ) (d : Float) (g : ℤ) (rs : List KeyRecord) → group_up_to by c cell ≡ Some g → highest by c g (record_of cell d ∷ rs) ≡ none → ⊥
   unfolding highest
-  own_some r rs u e = larger_some r.detuning (highest by c (group by r.note) rs) (rw (counts_own by c (group by r.note) r u refl) at e)
+  own_some cell d g rs u e = larger_some d (highest by c g rs) (rw (counts_up by c cell d g u) at e)
 
-  -- the least group is the first number, or one that counts
-  abbrev Attained : ℤ → List KeyRecord → ℤ → Type 0
-  Attained least rs g = (g ≡ least) ⊎ ((plus from + less g ≤ plus g + less from) × (highest by c g rs ≡ none → ⊥))
+  -- the least group is the one at the start, or one that counts
+  abbrev Attained : Optional ℤ → List KeyRecord → Optional ℤ → Type 0
+  Attained least rs o = (o ≡ least) ⊎ ((g : ℤ) × (o ≡ Some g) × (plus from + less g ≤ plus g + less from) × (highest by c g rs ≡ none → ⊥))
 
-  lower_attained : (least : ℤ) (r : KeyRecord) (rs : List KeyRecord) → Attained least (r ∷ rs) (lower by c from least r)
-  unfolding lower
-  lower_attained least r rs = elim (outcome (leb r.channel c && is_in r)) [
-    | failed u ↦ rw u (inl refl)
-    | passed u ↦ elim (outcome (lt_z (group by r.note) from)) [
-      | passed v ↦ rw (u, v) (inl refl)
-      | failed v ↦ elim (outcome (le_z least (group by r.note))) [
-        | passed w ↦ rw (u, v, w) (inl refl)
-        | failed w ↦ rw (u, v, w) (inr (nlt_parts (group by r.note) from v, own_some r rs u))
+  lower_attained : (least : Optional ℤ) (cell : ℕ) (d : Float) (rs : List KeyRecord)
+      → Attained least (record_of cell d ∷ rs) (lower from (group_up_to by c cell) least)
+  lower_attained least cell d rs = go (group_up_to by c cell) refl least
+    where
+      go : (o : Optional ℤ) → group_up_to by c cell ≡ o → (least : Optional ℤ) → Attained least (record_of cell d ∷ rs) (lower from o least)
+      go None e least = inl refl
+      go (Some g) e None = elim (outcome (le_z from g)) [
+        | passed u ↦ rw u (inr (g, refl, le_parts from g u, own_some cell d g rs e))
+        | failed u ↦ rw u (inl refl)
       ]
-    ]
-  ]
+      go (Some g) e (Some l) = elim (outcome (le_z from g)) [
+        | failed u ↦ rw u (inl refl)
+        | passed u ↦ elim (outcome (lt_z g l)) [
+          | passed v ↦ rw (u, v) (inr (g, refl, le_parts from g u, own_some cell d g rs e))
+          | failed v ↦ rw (u, v) (inl refl)
+        ]
+      ]
 
-  pub attained : (least : ℤ) (rs : List KeyRecord) → Attained least rs (least_from by c from least rs)
-  unfolding least_from
-  attained least [] = inl refl
-  attained least (r ∷ rs) = elim (attained (lower by c from least r) rs) [
-    | inl e ↦ subst (Attained least (r ∷ rs)) (sym e) (lower_attained least r rs)
-    | inr h ↦ inr (h.0, more_some (least_from by c from (lower by c from least r) rs) r rs h.1)
-  ]
+  pub attained : (least : Optional ℤ) (cells : List ℕ) (ds : List Float) → length cells ≤ length ds
+      → Attained least (records_of cells ds) (least_from by c from least cells)
+  unfolding least_from records_of
+  attained least [] ds l = inl refl
+  attained least (cell ∷ cells) [] l = absurd (let z : ⊥ = omega arith in z)
+  attained least (cell ∷ cells) (d ∷ ds) l =
+      let rs = records_of cells ds in
+      elim (attained (lower from (group_up_to by c cell) least) cells ds (omega arith)) [
+        | inl e ↦ subst (Attained least (record_of cell d ∷ rs)) (sym e) (lower_attained least cell d rs)
+        | inr h ↦ inr (h.0, h.1, h.2, more_some h.0 (record_of cell d) rs h.3)
+      ]
 
 -- ---- the list of all groups
 next_parts : (z : ℤ) → plus (z +ℤ pos 1) + less z ≡ less (z +ℤ pos 1) + plus z + 1
@@ -170,21 +197,19 @@ module _ (from : ℤ) (f : ℤ → Option Float) where
         rw (q, parts_le from g l, e)
   ]
 
-  first_none : (n : ℕ) (z : ℤ) → ((h : ℤ) → plus z + less h ≤ plus h + less z → plus h + less z < plus z + less h + n → plus from + less h ≤ plus h + less from
-      → f h ≡ none)
-      → none ≡ first_entry from f (numbers_from n z)
+  first_none : (n : ℕ) (z : ℤ) → ((h : ℤ) → plus from + less h ≤ plus h + less from → f h ≡ none) → none ≡ first_entry from f (numbers_from n z)
   unfolding first_entry numbers_from
   first_none zero z h = refl
   first_none (suc n) z h =
-      let i = first_none n (z +ℤ pos 1) (λ k a b c. h k (omega (arith, next_parts z)) (omega (arith, next_parts z)) c) in
+      let i = first_none n (z +ℤ pos 1) h in
       elim (outcome (le_z from z)) [
-        | passed v ↦ rw (v, h z (omega arith) (omega arith) (le_parts from z v)) i
+        | passed v ↦ rw (v, h z (le_parts from z v)) i
         | failed v ↦ rw v i
       ]
 
--- every group of a note is one of the list, and all of the list are below 501
+-- every group of a note is one of the list
 module _ (from : ℤ) (f : ℤ → Option Float) where
-  pub next_found : (by : GroupBy) (n : ℤ) → is_note n ≡ true → (d : Float) → f (group by n) ≡ some d
+  next_found : (by : GroupBy) (n : ℤ) → is_note n ≡ true → (d : Float) → f (group by n) ≡ some d
       → plus from + less (group by n) ≤ plus (group by n) + less from
       → ((h : ℤ) → plus from + less h ≤ plus h + less from → plus h + less (group by n) < plus (group by n) + less h → f h ≡ none)
       → some (group by n, d) ≡ first_entry from f (groups by)
@@ -193,12 +218,11 @@ module _ (from : ℤ) (f : ℤ → Option Float) where
   next_found NoteLetter n i d e l k = first_found from f (pos (letter_of n)) d e l k 12 (pos 0) (omega arith) (omega (arith, letter_below n))
   next_found Channel n i d e l k = first_found from f (pos 0) d e l k 1 (pos 0) (omega arith) (omega arith)
 
-  pub next_none : (by : GroupBy) → ((h : ℤ) → plus h + 0 < 501 + less h → plus from + less h ≤ plus h + less from → f h ≡ none)
-      → none ≡ first_entry from f (groups by)
+  next_none : (by : GroupBy) → ((h : ℤ) → plus from + less h ≤ plus h + less from → f h ≡ none) → none ≡ first_entry from f (groups by)
   unfolding groups
-  next_none Note k = first_none from f 801 lowest_note (λ h a b c. k h (omega arith) c)
-  next_none NoteLetter k = first_none from f 12 (pos 0) (λ h a b c. k h (omega arith) c)
-  next_none Channel k = first_none from f 1 (pos 0) (λ h a b c. k h (omega arith) c)
+  next_none Note k = first_none from f 801 lowest_note k
+  next_none NoteLetter k = first_none from f 12 (pos 0) k
+  next_none Channel k = first_none from f 1 (pos 0) k
 
 -- ---- what the code answers
 
@@ -217,44 +241,49 @@ noted by c g d (r ∷ rs) e = elim (outcome (counts by c g r)) [
       same_eq (group by r.note) g (and_r (leb r.channel c && is_in r) (same (group by r.note) g) (true→T u)),
     ))
 
-module _ (by : GroupBy) (c : ℕ) (from : ℤ) (rs : List KeyRecord) (b : Bool) where
+module _ (by : GroupBy) (c : ℕ) (from : ℤ) (cells : List ℕ) (ds : List Float) (long : length cells ≡ length ds) (b : Bool) where
   abbrev entries : ℤ → Option Float
-  entries h = cond b (highest by c h rs) none
+  entries h = cond b (highest by c h (records_of cells ds)) none
 
-  abbrev least : ℤ
-  least = least_from by c from (pos 501) rs
+  abbrev least : Optional ℤ
+  least = least_from by c from None cells
 
-  none_before : (h : ℤ) → plus from + less h ≤ plus h + less from → plus h + less least < plus least + less h → entries h ≡ none
-  none_before h a k = go b (none_highest by c from h rs (none_below by c from (pos 501) rs h a k).0)
+  none_before : (h : ℤ) → plus from + less h ≤ plus h + less from → Below h least → entries h ≡ none
+  none_before h a k = go b (none_highest by c from h (records_of cells ds) (none_below by c from None cells ds h a k).0)
     where
       go : (t : Bool) {o : Option Float} → o ≡ none → cond t o none ≡ none
       go true e = e
       go false e = refl
 
-  pub entry_found : (d : Float) → entries least ≡ some d → some (least, d) ≡ first_entry from entries (groups by)
-  entry_found d e = go b refl e
-    where
-      go : (t : Bool) → b ≡ t → cond t (highest by c least rs) none ≡ some d → some (least, d) ≡ first_entry from entries (groups by)
-      go false q u = absurd (let z : ◌≡◌ {A = ℕ} 0 1 = cc in omega arith)
-      go true q u =
-          let n = noted by c least d rs u in
-          let low : plus from + less least ≤ plus least + less from = elim (attained by c from (pos 501) rs) [
-            | inl k ↦ absurd (let w : least ≡ pos 501 = k in let i = bounds least (subst (λ (z : ℤ). is_note z ≡ true) n.2 (group_note by n.0 n.1)) in
-                let z : ⊥ = omega (arith, i, ap plus w) in z)
-            | inr h ↦ h.0
-          ] in
-          subst (λ (z : ℤ). some (z, d) ≡ first_entry from entries (groups by)) n.2
-          (next_found from entries by n.0 n.1 d (subst (λ (z : ℤ). entries z ≡ some d) (sym n.2) e)
-          (subst (λ (z : ℤ). plus from + less z ≤ plus z + less from) (sym n.2) low)
-          (λ h a k. none_before h a (subst (λ (z : ℤ). plus h + less z < plus z + less h) n.2 k)))
+  -- no key has such a group
+  pub no_group : None ≡ least → none ≡ first_entry from entries (groups by)
+  no_group e = next_none from entries by (λ h a. none_before h a (subst (Below h) e tt))
 
-  pub entry_lost : entries least ≡ none → none ≡ first_entry from entries (groups by)
-  entry_lost e = next_none from entries by (go b refl e)
-    where
-      go : (t : Bool) → b ≡ t → cond t (highest by c least rs) none ≡ none → (h : ℤ) → plus h + 0 < 501 + less h → plus from + less h ≤ plus h + less from
-          → entries h ≡ none
-      go false q u h a k = rw q
-      go true q u h a k = elim (attained by c from (pos 501) rs) [
-        | inl w ↦ none_before h k (omega (arith, ap plus w, ap less w))
-        | inr w ↦ absurd (w.1 u)
-      ]
+  module _ (g : ℤ) (e : least ≡ Some g) where
+    own : (plus from + less g ≤ plus g + less from) × (highest by c g (records_of cells ds) ≡ none → ⊥)
+    own = elim (attained by c from None cells ds (omega (arith, long))) [
+      | inl k ↦ absurd (let u : None ≡ Some g = sym k ∙ e in let z : ◌≡◌ {A = ℕ} 0 1 = cc in omega arith)
+      | inr h ↦ let q : h.0 ≡ g = let u : Some h.0 ≡ Some g = sym h.1 ∙ e in cc in
+          subst (λ (z : ℤ). (plus from + less z ≤ plus z + less from) × (highest by c z (records_of cells ds) ≡ none → ⊥)) q (h.2, h.3)
+    ]
+
+    -- the least group has its detuning
+    pub entry_found : (d : Float) → entries g ≡ some d → some (g, d) ≡ first_entry from entries (groups by)
+    entry_found d u =
+        let n = noted by c g d (records_of cells ds) (shown b u) in
+        subst (λ (z : ℤ). some (z, d) ≡ first_entry from entries (groups by)) n.2
+        (next_found from entries by n.0 n.1 d (subst (λ (z : ℤ). entries z ≡ some d) (sym n.2) u)
+        (subst (λ (z : ℤ). plus from + less z ≤ plus z + less from) (sym n.2) own.0)
+        (λ h a k. none_before h a (subst (Below h) (sym e) (subst (λ (z : ℤ). plus h + less z < plus z + less h) n.2 k))))
+      where
+        shown : (t : Bool) {o : Option Float} → cond t o none ≡ some d → o ≡ some d
+        shown true u = u
+        shown false u = absurd (let z : ◌≡◌ {A = ℕ} 0 1 = cc in omega arith)
+
+    -- or the channel has none
+    pub entry_lost : entries g ≡ none → none ≡ first_entry from entries (groups by)
+    entry_lost u = next_none from entries by (λ h a. lost b u h)
+      where
+        lost : (t : Bool) → cond t (highest by c g (records_of cells ds)) none ≡ none → (h : ℤ) → cond t (highest by c h (records_of cells ds)) none ≡ none
+        lost true u h = absurd (own.1 u)
+        lost false u h = refl

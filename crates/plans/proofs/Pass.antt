@@ -1,4 +1,4 @@
--- The pass at a key: which lines are done, what the tables of groups and the records of keys then hold, and that the end is the walk's. Assumes nothing.
+-- The pass at a key: which lines are done, what the table of groups and the records of keys then hold, and that the end is the walk's. Assumes nothing.
 use mathlib.Core.Path.{◌≡◌, refl, sym, ap, ◌∙◌, subst}
 use mathlib.Core.Bool.{true, false}
 use mathlib.Core.List.{List, [], ◌∷◌, map}
@@ -19,7 +19,8 @@ use Rattle.plans.specs.PlanLists.{key_count, keys}
 use Rattle.channels.specs.Places.{Place, note_of, channel_of, place_of}
 use Rattle.plans.specs.Walk.{count, seat}
 use Rattle.plans.specs.Plan.{KeyRecord, nobody, is_in, records_of}
-use Rattle.plans.specs.PlanInternal.{Accepted, Placed, Seats, channels_with, line_at, slot_of}
+use Rattle.plans.specs.declared.placing.Run.{Run}
+use Rattle.plans.specs.PlanInternal.{Accepted, Seats, channels_with, line_at, slot_of}
 use Rattle.channels.proofs.ListLaws.{outcome, passed, failed, T→true, true→T, not_false, Each-map, Each-all, Pairwise, own_image}
 use Rattle.plans.proofs.Rising.{Other, other_sym, distinct_apart, rising_Each}
 use Rattle.channels.proofs.RecordNumbers.{place_parts}
@@ -46,46 +47,68 @@ onto_Each P d l h = (go d l h).0
     go [] l h = (tt, h)
     go (x ∷ d) l h = let r = go d (x ∷ l) h in ((r.1.0, r.0), r.1.1)
 
--- what the tables hold of a group: nothing yet, or its last detuning and how many channels it uses
-abbrev pub Agrees : Option Mark → ℕ → Float → Type 0
-Agrees none u f = u ≡ 0
-Agrees (some m) u f = (u ≡ suc m.number) × (f ≡ m.last)
+-- what stands for a group beyond the table
+abbrev pub no_run : Run
+no_run = record { used = 0; last = 0 }
 
-channels_are : (o : Option Mark) (u : ℕ) (f d : Float) → Agrees o u f → channels_with u f d ≡ suc (number_after o d)
+-- what the table holds of a group: nothing yet, or how many channels it uses and a key with its last detuning
+abbrev pub Agrees : List Float → Option Mark → Run → Type 0
+Agrees ds none r = r.used ≡ 0
+Agrees ds (some m) r = (r.used ≡ suc m.number) × (get_or ds r.last nan ≡ m.last)
+
+channels_are : (ds : List Float) (o : Option Mark) (r : Run) (d : Float) → Agrees ds o r
+    → channels_with r.used (get_or ds r.last nan) d ≡ suc (number_after o d)
 unfolding channels_with
-channels_are none u f d h = rw h
-channels_are (some m) u f d h = rw (h.0, h.1) (elim (outcome (joins m.last d)) [ passed e ↦ rw e | failed e ↦ rw e ])
+channels_are ds none r d h = rw h
+channels_are ds (some m) r d h = rw (h.0, h.1) (elim (outcome (joins m.last d)) [ passed e ↦ rw e | failed e ↦ rw e ])
 
 pub some_channel : (u : ℕ) (f d : Float) → 1 ≤ channels_with u f d
 unfolding channels_with
 some_channel zero f d = omega arith
 some_channel (suc u) f d = elim (outcome (joins f d)) [ passed e ↦ rw e (omega arith) | failed e ↦ rw e (omega arith) ]
 
+pub one_more_channel : (u : ℕ) (f d : Float) → channels_with u f d ≤ u + 1
+unfolding channels_with
+one_more_channel zero f d = omega arith
+one_more_channel (suc u) f d = elim (outcome (joins f d)) [ passed e ↦ rw e (omega arith) | failed e ↦ rw e (omega arith) ]
+
+-- the number of a mark is below n
+abbrev Numbered : ℕ → Option Mark → Type 0
+Numbered n none = Unit {0}
+Numbered n (some m) = m.number < n
+
+more_below : (n : ℕ) (o : Option Mark) → Numbered n o → Numbered (suc n) o
+more_below n none b = tt
+more_below n (some m) b = omega arith
+
+next_below : (n : ℕ) (o : Option Mark) (d : Float) → Numbered n o → number_after o d < suc n
+next_below n none d b = omega arith
+next_below n (some m) d b = elim (outcome (joins m.last d)) [ passed j ↦ rw j (omega arith) | failed j ↦ rw j (omega arith) ]
+
 -- a group uses at most as many channels as it has lines
-mark_below : (by : GroupBy) (g : ℤ) (done : List Line) (u : ℕ) (f : Float) → Agrees (mark by g done) u f → u ≤ length done
-mark_below by g [] u f h = omega arith
-mark_below by g (x ∷ done) u f h = elim (outcome (of_group by g x)) [
-  | passed e ↦
-      let a : Agrees (some (record { last = x.detuning; number = number_after (mark by g done) x.detuning })) u f = rw e at h in
-      omega (arith, a.0, next_below (mark by g done) x.detuning (λ v k i. mark_below by g done v k i))
-  | failed e ↦ omega (arith, mark_below by g done u f (rw e at h))
-]
+mark_below : (ds : List Float) (by : GroupBy) (g : ℤ) (done : List Line) (r : Run) → Agrees ds (mark by g done) r → r.used ≤ length done
+mark_below ds by g done r h = go (mark by g done) (number_below done) h
   where
-    next_below : (o : Option Mark) (d : Float) → ((v : ℕ) (k : Float) → Agrees o v k → v ≤ length done) → number_after o d ≤ length done
-    next_below none d i = omega arith
-    next_below (some m) d i =
-        let b = i (suc m.number) m.last (refl, refl) in
-        elim (outcome (joins m.last d)) [ passed j ↦ rw j (omega arith) | failed j ↦ rw j (omega arith) ]
+    number_below : (done : List Line) → Numbered (length done) (mark by g done)
+    number_below [] = tt
+    number_below (x ∷ done) = elim (outcome (of_group by g x)) [
+      | passed e ↦ rw e (next_below (length done) (mark by g done) x.detuning (number_below done))
+      | failed e ↦ rw e (more_below (length done) (mark by g done) (number_below done))
+    ]
+
+    go : (o : Option Mark) → Numbered (length done) o → Agrees ds o r → r.used ≤ length done
+    go none b h = omega arith
+    go (some m) b h = omega (arith, b, h.0)
 
 -- the place of a line's key, on the channel that the pass gives it
 abbrev pub place_in : GroupBy → List Line → Line → Place
 place_in by all l = record { channel = channel_of (find by l.key [] all); note = l.note }
 
-pub record Pass (by : GroupBy) (all : List Line) (cells : List ℕ) (latest : List Float) (used : List ℕ) (n i : ℕ) (rest : List Line) : Type 0 where
+pub record Pass (by : GroupBy) (all : List Line) (ds : List Float) (cells : List ℕ) (runs : List Run) (n i : ℕ) (rest : List Line) : Type 0 where
   pub done : List Line
   pub reached : length done ≡ i
   pub whole : all ≡ onto done rest
-  pub tables : (g : ℤ) → is_note g ≡ true → Agrees (mark by g done) (get_or used (slot_of g) 0) (get_or latest (slot_of g) nan)
+  pub table : (g : ℤ) → is_note g ≡ true → Agrees ds (mark by g done) (get_or runs (slot_of g) no_run)
   pub ahead : Each (λ (l : Line). find by l.key [] all ≡ find by l.key done rest) rest
   pub placed : Each (λ (l : Line). place_of (get_or cells l.key 0) ≡ some (place_in by all l)) done
   pub noted : Each (λ (l : Line). note_of (get_or cells l.key 0) ≡ l.note) rest
@@ -95,22 +118,23 @@ pub record Pass (by : GroupBy) (all : List Line) (cells : List ℕ) (latest : Li
   pub fresh : Each (λ (l : Line). Each (Other l) rest) done
   pub apart : Pairwise Other rest
   pub cells_long : length cells ≡ key_count
-  pub latest_long : length latest ≡ 801
-  pub used_long : length used ≡ 801
+  pub runs_long : length runs ≡ 801
 
-module _ (by : GroupBy) (all : List Line) (cells : List ℕ) (latest : List Float) (used : List ℕ) (n i : ℕ) (x : Line) (rest : List Line) where
+module _ (by : GroupBy) (all : List Line) (ds : List Float) (cells : List ℕ) (runs : List Run) (n i : ℕ) (x : Line) (rest : List Line) where
   abbrev at : ℕ
   at = slot_of (group by x.note)
 
-  module _ (p : Pass by all cells latest used n i (x ∷ rest)) (note : is_note x.note ≡ true) where
-    -- the channels that the group uses with x
-    pub next_is : channels_with (get_or used at 0) (get_or latest at nan) x.detuning ≡ suc (number_of_next by p.done x)
-    next_is = channels_are (mark by (group by x.note) p.done) (get_or used at 0) (get_or latest at nan) x.detuning
-        (p.tables (group by x.note) (group_note by x.note note))
+  abbrev run : Run
+  run = get_or runs at no_run
 
-    pub used_few : get_or used at 0 ≤ i
-    used_few = subst (λ (j : ℕ). get_or used at 0 ≤ j) p.reached
-        (mark_below by (group by x.note) p.done (get_or used at 0) (get_or latest at nan) (p.tables (group by x.note) (group_note by x.note note)))
+  module _ (p : Pass by all ds cells runs n i (x ∷ rest)) (note : is_note x.note ≡ true) where
+    -- the channels that the group uses with x
+    next_is : channels_with run.used (get_or ds run.last nan) x.detuning ≡ suc (number_of_next by p.done x)
+    next_is = channels_are ds (mark by (group by x.note) p.done) run x.detuning (p.table (group by x.note) (group_note by x.note note))
+
+    pub used_few : run.used ≤ i
+    used_few = subst (λ (j : ℕ). run.used ≤ j) p.reached
+        (mark_below ds by (group by x.note) p.done run (p.table (group by x.note) (group_note by x.note note)))
 
     abbrev c : ℕ
     c = number_of_next by p.done x
@@ -118,26 +142,24 @@ module _ (by : GroupBy) (all : List Line) (cells : List ℕ) (latest : List Floa
     abbrev gx : ℤ
     gx = group by x.note
 
-    tables_own : Agrees (mark by gx (x ∷ p.done)) (get_or (set used at (suc c)) at 0) (get_or (set latest at x.detuning) at nan)
-    tables_own =
-        let b : at < 801 = slot_below gx (group_note by x.note note) in
-        rw (
-          own_group by x,
-          get_or-set_same used at (suc c) 0 (omega (arith, p.used_long)),
-          get_or-set_same latest at x.detuning nan
-              (omega (arith, p.latest_long)),
-        ) (refl, refl)
+    -- its group with x
+    abbrev more : Run
+    more = record { used = suc c; last = x.key }
 
-    tables_next : (g : ℤ) → is_note g ≡ true
-        → Agrees (mark by g (x ∷ p.done)) (get_or (set used at (suc c)) (slot_of g) 0) (get_or (set latest at x.detuning) (slot_of g) nan)
-    tables_next g h = elim (outcome (of_group by g x)) [
-      | passed e ↦ subst (λ (i : ℤ). Agrees (mark by i (x ∷ p.done)) (get_or (set used at (suc c)) (slot_of i) 0)
-          (get_or (set latest at x.detuning) (slot_of i) nan)) (group_of_lem by g x e) tables_own
-      | failed e ↦
-          let ne : (slot_of g ≡ at → ⊥) = λ u. not_false e
-          (true→T (subst (λ (i : ℤ). of_group by i x ≡ true) (sym (slot_one g gx h (group_note by x.note note) u)) (own_group by x))) in
-          rw (e, get_or-set_other used at (slot_of g) (suc c) 0 ne, get_or-set_other latest at (slot_of g) x.detuning nan ne) (p.tables g h)
-    ]
+    module _ (own_detuning : get_or ds x.key nan ≡ x.detuning) where
+      table_own : Agrees ds (mark by gx (x ∷ p.done)) (get_or (set runs at more) at no_run)
+      table_own =
+          let b : at < 801 = slot_below gx (group_note by x.note note) in
+          rw (own_group by x, get_or-set_same runs at more no_run (omega (arith, p.runs_long))) (refl, own_detuning)
+
+      table_next : (g : ℤ) → is_note g ≡ true → Agrees ds (mark by g (x ∷ p.done)) (get_or (set runs at more) (slot_of g) no_run)
+      table_next g h = elim (outcome (of_group by g x)) [
+        | passed e ↦ subst (λ (i : ℤ). Agrees ds (mark by i (x ∷ p.done)) (get_or (set runs at more) (slot_of i) no_run)) (group_of_lem by g x e) table_own
+        | failed e ↦
+            let ne : (slot_of g ≡ at → ⊥) = λ u. not_false e
+            (true→T (subst (λ (i : ℤ). of_group by i x ≡ true) (sym (slot_one g gx h (group_note by x.note note) u)) (own_group by x))) in
+            rw (e, get_or-set_other runs at (slot_of g) more no_run ne) (p.table g h)
+      ]
 
     ahead_next : (l : List Line) → Each (Other x) l → Each (λ (y : Line). find by y.key [] all ≡ find by y.key p.done (x ∷ rest)) l
         → Each (λ (y : Line). find by y.key [] all ≡ find by y.key (x ∷ p.done) rest) l
@@ -167,13 +189,13 @@ module _ (by : GroupBy) (all : List Line) (cells : List ℕ) (latest : List Floa
     noted_next cell (l ∷ d) f h = (ap note_of (kept_at cell l.key f.0) ∙ h.0, noted_next cell d f.1 h.1)
 
     -- one key more
-    pass_one : x.key < key_count → (m : ℕ) → m ≡ max n (suc c) → (cell : ℕ) → place_of cell ≡ some (record { channel = channel_of c; note = x.note })
-        → Pass by all (set cells x.key cell) (set latest at x.detuning) (set used at (suc c)) m (i + 1) rest
-    pass_one byte m counts cell found = record {
+    pass_one : get_or ds x.key nan ≡ x.detuning → x.key < key_count → (m : ℕ) → m ≡ max n (suc c) → (cell : ℕ) → place_of cell ≡ some (record { channel = channel_of c; note = x.note })
+        → Pass by all ds (set cells x.key cell) (set runs at more) m (i + 1) rest
+    pass_one own byte m counts cell found = record {
       done = x ∷ p.done;
       reached = omega (arith, p.reached);
       whole = p.whole;
-      tables = tables_next;
+      table = table_next own;
       ahead = ahead_next rest p.apart.0 p.ahead.1;
       placed = (
         ap place_of (get_or-set_same cells x.key cell 0 (omega (arith, p.cells_long))) ∙ found
@@ -186,21 +208,19 @@ module _ (by : GroupBy) (all : List Line) (cells : List ℕ) (latest : List Floa
       fresh = (p.apart.0, Each-map (λ l h. h.1) p.done p.fresh);
       apart = p.apart.1;
       cells_long = simp length-set p.cells_long;
-      latest_long = simp length-set p.latest_long;
-      used_long = simp length-set p.used_long;
+      runs_long = simp length-set p.runs_long;
     }
 
     -- the same of what the code leaves
-    pub pass_next : x.key < key_count → (r : ℕ) (cells' : List ℕ) (latest' : List Float) (used' : List ℕ)
-        → Placed by x.key x.detuning r cells latest used cells' latest' used' → (m : ℕ) → m ≡ max n r
-        → Pass by all cells' latest' used' m (i + 1) rest
-    pass_next byte r cells' latest' used' q m counts =
-        let e : note_of (get_or cells x.key 0) ≡ x.note = p.noted.0 in
-        let r_is : r ≡ suc c = q.channels_are
-        ∙ ap (λ (z : ℤ). channels_with (get_or used (slot_of (group by z)) 0) (get_or latest (slot_of (group by z)) nan) x.detuning) e ∙ next_is in
-        let lower : r - 1 ≡ c = omega arith in
-        rw (q.cells_are, q.latest_is, q.used_is, e, r_is)
-        (pass_one byte m (counts ∙ ap (max n) r_is) q.cell (q.cell_is ∙ λ j. some (record { channel = channel_of (lower j); note = e j })))
+    pub pass_next : get_or ds x.key nan ≡ x.detuning → x.key < key_count → (used : ℕ) → used ≡ channels_with run.used (get_or ds run.last nan) x.detuning
+        → (m : ℕ) → m ≡ max n used → (cell : ℕ) → place_of cell ≡ some (record { channel = channel_of (used - 1); note = x.note })
+        → Pass by all ds (set cells x.key cell) (set runs at (record { used = used; last = x.key })) m (i + 1) rest
+    pass_next own byte used channels m counts cell found =
+        let used_is : used ≡ suc c = channels ∙ next_is in
+        let lower : used - 1 ≡ c = omega arith in
+        subst (λ (j : ℕ). Pass by all ds (set cells x.key cell) (set runs at (record { used = j; last = x.key })) m (i + 1) rest) (sym used_is)
+        (pass_one own byte m (counts ∙ ap (max n) used_is) cell
+        (found ∙ ap (λ (j : ℕ). some (record { channel = channel_of j; note = x.note })) lower))
 
 -- ---- the end
 
@@ -233,9 +253,9 @@ module _ (by : GroupBy) (all : List Line) (ok : Accepted all) (ordered : rising 
       channels_seated few l m.1 b.1 h.1 k.1,
     )
 
-    pub pass_ends : length cells ≡ key_count → Each (λ (l : Line). get_or ds l.key nan ≡ l.detuning) all → (latest : List Float) (used : List ℕ) (n i : ℕ)
-        → Pass by all cells latest used n i [] → Seats by all (records_of cells ds) n
-    pass_ends long detuned latest used n i p =
+    pub pass_ends : length cells ≡ key_count → Each (λ (l : Line). get_or ds l.key nan ≡ l.detuning) all → (kept : List Float) (runs : List Run) (n i : ℕ)
+        → Pass by all kept cells runs n i [] → Seats by all (records_of cells ds) n
+    pass_ends long detuned kept runs n i p =
         let placed = rw (← p.whole) at (Each-onto (λ (l : Line). place_of (get_or cells l.key 0) ≡ some (place_in by all l)) p.done [] p.placed tt) in
         let counted = subst (λ (w : List Line). top (numbers by [] w) ≡ count by all) ordered (one_pass_count by all ok) in
         let below = rising_Each (λ (l : Line). channel by all l.key < count by all) all (below_count by all ok) in
@@ -255,14 +275,15 @@ module _ (by : GroupBy) (all : List Line) (ok : Accepted all) (ordered : rising 
 
   -- ---- the beginning
 
-  pub pass_begins : (cells : List ℕ) (latest : List Float) (used : List ℕ) → Each (λ (l : Line). note_of (get_or cells l.key 0) ≡ l.note) all
-      → ((k : ℕ) → Each (λ (l : Line). eqb l.key k ≡ false) all → is_note (note_of (get_or cells k 0)) ≡ false) → ((k : ℕ) → get_or used k 0 ≡ 0)
-      → length cells ≡ key_count → length latest ≡ 801 → length used ≡ 801 → Pass by all cells latest used 0 0 all
-  pass_begins cells latest used noted out none-used a b c = record {
+  pub pass_begins : (ds : List Float) (cells : List ℕ) (runs : List Run) → Each (λ (l : Line). note_of (get_or cells l.key 0) ≡ l.note) all
+      → ((k : ℕ) → Each (λ (l : Line). eqb l.key k ≡ false) all → is_note (note_of (get_or cells k 0)) ≡ false)
+      → ((k : ℕ) → (get_or runs k no_run).used ≡ 0)
+      → length cells ≡ key_count → length runs ≡ 801 → Pass by all ds cells runs 0 0 all
+  pass_begins ds cells runs noted out none-used a b = record {
     done = [];
     reached = refl;
     whole = refl;
-    tables = λ g h. none-used (slot_of g);
+    table = λ g h. none-used (slot_of g);
     ahead = Each-all (λ (l : Line). find by l.key [] all ≡ find by l.key [] all) (λ l. refl) all;
     placed = tt;
     noted = noted;
@@ -271,8 +292,7 @@ module _ (by : GroupBy) (all : List Line) (ok : Accepted all) (ordered : rising 
     fresh = tt;
     apart = distinct_apart all ok.distinct;
     cells_long = a;
-    latest_long = b;
-    used_long = c;
+    runs_long = b;
   }
 
 -- what the lines of keys say of their own cells and detunings

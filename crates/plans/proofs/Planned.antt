@@ -12,13 +12,17 @@ use lib.ListN.{length, get_or}
 use Rattle.arithmetic.specs.Outcome.{Outcome, value}
 use Rattle.arithmetic.specs.Note.{is_note}
 use Rattle.plans.specs.declared.aot.GroupBy.{GroupBy}
+use Rattle.plans.specs.declared.aot.GroupBy.TheVariants.{Note}
 use Rattle.channels.specs.Lists.{Each, Distinct, member}
 use Rattle.plans.specs.Line.{Line, rising}
 use Rattle.plans.specs.PlanLists.{key_count, keys}
 use Rattle.plans.specs.Walk.{walk, count, seat, seat_from, entry}
-use Rattle.plans.specs.PlanInternal.{Accepted, Checked, Holds, Plans, Ready, Seats, lines_of}
-use Rattle.plans.specs.declared.placing.Planning.{Planning}
-use Rattle.plans.specs.Plan.{Model, Answer, tuned, untuned, empty, holding, planned, Smallest, records_of}
+use Rattle.std.specs.Prelude.{Result, Ok, Err}
+use Rattle.arithmetic.specs.declared.refusal.Refusal.{Refusal}
+use Rattle.arithmetic.specs.Refusal.{number}
+use Rattle.plans.specs.declared.sorted_keys.SortedKeys.{SortedKeys}
+use Rattle.plans.specs.PlanInternal.{Accepted, Checked, Fine, Holds, Ready, lines_of}
+use Rattle.plans.specs.Plan.{Model, Answer, tuned, untuned, empty, holding, planned, Smallest}
 use Rattle.channels.proofs.ListLaws.{Pairwise, false→T}
 use Rattle.plans.proofs.Rising.{Other, Each-rising, rising_Each, length_rising, rising_sorted, rising_of_sorted, absent}
 use Rattle.plans.proofs.Plan.{different}
@@ -66,18 +70,15 @@ absent_key k [] h = refl
 absent_key k (x ∷ lines) h = rw h.0 (absent_key k lines h.1)
 
 -- What the check of the lists holds is a list that the pass takes.
-pub ready : (kind : GroupBy) (order cells : List ℕ) (ds : List Float) (n : ℕ) (lines : List Line) → Accepted lines → Holds order cells ds n lines
-    → Ready order cells ds n
-ready kind order cells ds n lines ok h = record {
-  ok = rw h.ordered (rising_accepted lines ok kind);
+ready : (s : SortedKeys) (lines : List Line) → Accepted lines → Holds s lines → Ready s
+ready s lines ok h = record {
+  ok = rw h.ordered (rising_accepted lines ok Note);
   ordered = rw h.ordered (rising_twice lines ok);
   no_other = λ k o.
-      place_held (get_or cells k 0) ∙ h.marked k
+      place_held (get_or s.records k 0) ∙ h.marked k
       ∙ absent_key k lines (rising_Each (λ (l : Line). eqb l.key k ≡ false) lines (subst (Each (λ (l : Line). eqb l.key k ≡ false)) h.ordered o));
   few = omega (arith, h.counted, accepted_few lines ok);
-  order_long = h.order_long;
-  cells_long = h.cells_long;
-  detunings_long = h.detunings_long;
+  long = h.long;
 }
 
 planned_rising : (m : Model) (lines : List Line) → Accepted lines → planned m (value (rising lines)) ≡ planned m (value lines)
@@ -89,35 +90,44 @@ planned_rising m lines ok =
     λ i. cond (leb (n i) (length m.channels)) (h i, tuned (n i)) (empty m.channels m.group_by, untuned (n i))
 
 -- ---- the check of the lists, and the pass behind it
+module _ (o : Outcome (List Line)) (s : SortedKeys) where
+  pub ready_if : Checked o (Ok tt) s → Ready s
+  ready_if c = go o c
+    where
+      go : (o : Outcome (List Line)) → Checked o (Ok tt) s → Ready s
+      go (value lines) c = ready s lines c.0 c.1
+      go (Outcome.refused k) c = absurd c
 
-pub ready_if : (by : GroupBy) (o : Outcome (List Line)) (answer : ℕ) (order cells : List ℕ) (ds : List Float) (n : ℕ) → Checked o answer order cells ds n
-    → answer ≡ 0
-    → Ready order cells ds n
-ready_if by (value lines) answer order cells ds n c e = ready by order cells ds n lines c.1 c.2
-ready_if by (Outcome.refused k) answer order cells ds n c e = absurd (c.1 (sym c.0 ∙ e))
-
-pub plans : (by : GroupBy) (o : Outcome (List Line)) (answer : ℕ) (order cells : List ℕ) (ds : List Float) (n : ℕ) (p : Planning) (seated : List ℕ)
-    → Checked o answer order cells ds n → p.refusal ≡ answer → (answer ≡ 0 → Seats by (lines_of order cells ds n) (records_of seated ds) p.count)
-    → Plans by o p seated ds
-plans by (value lines) answer order cells ds n p seated c e s =
-    (e ∙ c.0, c.1, subst (λ (l : List Line). Seats by l (records_of seated ds) p.count) c.2.ordered (s c.0))
-plans by (Outcome.refused k) answer order cells ds n p seated c e s = (e ∙ c.0, c.1)
-
--- ---- what the planning of lists comes to is what the rule says, and meets demand 3
-module _ (m : Model) (by : GroupBy) (p : Planning) (cells : List ℕ) (ds : List Float) where
-  pub plan_refused : (o : Outcome (List Line)) → Plans by o p cells ds → (p.refusal ≡ 0 → ⊥) → (m, Answer.refused p.refusal) ≡ planned m o
+  -- lists that are refused
+  pub planned_refused : (m : Model) (r : Refusal) → Checked o (Err r) s → (m, Answer.refused (number r)) ≡ planned m o
   unfolding planned
-  plan_refused (value lines) h ne = absurd (ne h.0)
-  plan_refused (Outcome.refused k) h ne = ap (λ (j : ℕ). (m, Answer.refused j)) h.0
+  planned_refused m r c = go o c
+    where
+      go : (o : Outcome (List Line)) → Checked o (Err r) s → (m, Answer.refused (number r)) ≡ planned m o
+      go (value lines) c = absurd c
+      go (Outcome.refused k) c = ap (λ (j : ℕ). (m, Answer.refused j)) (sym c)
 
-  pub plan_accepted : (o : Outcome (List Line)) → Plans by o p cells ds → p.refusal ≡ 0
-      → (lines : List Line) × Accepted lines × Seats by lines (records_of cells ds) p.count × (planned m (value lines) ≡ planned m o)
-  plan_accepted (value lines) h e = (rising lines, rising_accepted lines h.1 by, h.2, planned_rising m lines h.1)
-  plan_accepted (Outcome.refused k) h e = absurd (h.1 (sym h.0 ∙ e))
+  -- and others: the lines in order are planned as the list is
+  pub planned_lines : (m : Model) → Checked o (Ok tt) s → Accepted (lines_of s) × (planned m (value (lines_of s)) ≡ planned m o)
+  planned_lines m c = go o c
+    where
+      go : (o : Outcome (List Line)) → Checked o (Ok tt) s → Accepted (lines_of s) × (planned m (value (lines_of s)) ≡ planned m o)
+      go (value lines) c = (rw c.1.ordered (rising_accepted lines c.0 m.group_by), rw c.1.ordered (planned_rising m lines c.0))
+      go (Outcome.refused k) c = absurd c
 
-  accepted_lines : (o : Outcome (List Line)) → Plans by o p cells ds → (lines : List Line) → o ≡ value lines → Accepted lines
-  accepted_lines (value lines) h l e = let q : lines ≡ l = cc in subst Accepted q h.1
-  accepted_lines (Outcome.refused k) h l e = absurd (let z : ◌≡◌ {A = ℕ} 0 1 = cc in omega arith)
+  -- what was checked is accepted
+  pub fine : (r : Result (Unit {0}) Refusal) → Checked o r s → Fine o
+  fine r c = go o r c
+    where
+      go : (o : Outcome (List Line)) (r : Result (Unit {0}) Refusal) → Checked o r s → Fine o
+      go (value lines) (Ok u) c = c.0
+      go (value lines) (Err e) c = absurd c
+      go (Outcome.refused k) r c = tt
 
-  pub plan_smallest : (o : Outcome (List Line)) (r : Model × Answer) → Plans by o p cells ds → r ≡ planned m o → Smallest m o r
-  plan_smallest o r h e = subst (Smallest m o) (sym e) (demand_3 m o (accepted_lines o h))
+-- ---- what the planning of lists comes to meets demand 3
+pub plan_smallest : (m : Model) (o : Outcome (List Line)) (r : Model × Answer) → Fine o → r ≡ planned m o → Smallest m o r
+plan_smallest m o r h e = subst (Smallest m o) (sym e) (demand_3 m o (accepted o h))
+  where
+    accepted : (o : Outcome (List Line)) → Fine o → (lines : List Line) → o ≡ value lines → Accepted lines
+    accepted (value lines) h l e = let q : lines ≡ l = cc in subst Accepted q h
+    accepted (Outcome.refused k) h l e = absurd (let z : ◌≡◌ {A = ℕ} 0 1 = cc in omega arith)

@@ -1,11 +1,12 @@
 -- Records by key: what the scans over them find. Assumes nothing.
-use mathlib.Core.Path.{◌≡◌, refl, ap, ◌∙◌}
+use mathlib.Core.Path.{◌≡◌, refl, sym, ap, ◌∙◌}
 use mathlib.Core.Bool.{Bool, true, false, ◌&&◌, cond}
 use mathlib.Core.List.{List, [], ◌∷◌}
 use mathlib.Core.Option.{Option, none, some}
 use native.Mathlib.Numerals.{add-one}
 use Prim.Native.Nat.{ℕ, zero, suc, ◌+◌, ◌-◌, ◌/◌, ◌<◌, ◌≤◌}
 use native.Mathlib.Omega.{arith}
+use borrow.Author.Tests.{le-leb, lt-leb}
 use lib.IntN.{ℤ}
 use lib.Dec.{leb}
 use lib.Ieee.{Float, nan}
@@ -18,10 +19,15 @@ use Rattle.channels.specs.Lists.{Each}
 use Rattle.plans.specs.declared.aot.GroupBy.{GroupBy}
 use Rattle.plans.specs.Line.{group, same}
 use Rattle.plans.specs.Plan.{KeyRecord, nobody, is_in, record_of, records_of, key_in, counts, highest, larger, access_answer}
-use Rattle.channels.specs.Places.{Place, note_of, channel_of, place_of, place}
-use Rattle.channels.specs.declared.keys.AccessKeyResult as AccessKeyResult
-use Rattle.channels.specs.declared.keys.AccessKeyResult.{AccessKeyResult}
-use Rattle.plans.specs.PlanInternal.{lower, least_from}
+use Rattle.channels.specs.Places.{Place, note_of, channel_of, place_of, place, place_in}
+use Rattle.channels.proofs.RecordNumbers.{place_found, place_parts}
+use Rattle.channels.specs.declared.keys.Place as C
+use Rattle.std.specs.Prelude.{Some, None, IsSome}
+use Rattle.std.specs.Option.{option_eq}
+use Rattle.std.specs.Ordering.{int_eq}
+use Rattle.std.proofs.lemmas.Bool.Decides.{Decides-int_eq}
+use Rattle.std.specs.Prelude.{Option as Optional}
+use Rattle.plans.specs.PlanInternal.{group_up_to}
 use Rattle.channels.proofs.ListLaws.{outcome, passed, failed, T→true, true→T}
 use Rattle.plans.proofs.Sweep.{same_eq, same_refl}
 
@@ -66,14 +72,28 @@ pair_of_place cell d = go (is_note (note_of cell))
     go true = refl
     go false = refl
 
-pub key_looked_up : (rs : List KeyRecord) (k cell : ℕ) (d : Float) → get_or rs k nobody ≡ record_of cell d → (r : AccessKeyResult) → place r ≡ place_of cell
+pub key_looked_up : (rs : List KeyRecord) (k cell : ℕ) (d : Float) → get_or rs k nobody ≡ record_of cell d → (r : Optional C.Place) → place r ≡ place_of cell
     → access_answer r ≡ key_in rs k
 unfolding key_in place
 key_looked_up rs k cell d l r e = answer r ∙ ap pair_of e ∙ pair_of_place cell d ∙ rw l
   where
-    answer : (r : AccessKeyResult) → access_answer r ≡ pair_of (place r)
-    answer (AccessKeyResult.TheVariants.Found c n) = unfold place in refl
-    answer AccessKeyResult.TheVariants.NotFound = unfold place in refl
+    answer : (r : Optional C.Place) → access_answer r ≡ pair_of (place r)
+    answer (Some p) = refl
+    answer None = refl
+
+-- a key with a note is found there
+module _ (cell : ℕ) (r : Optional C.Place) (e : place r ≡ place_of cell) where
+  pub noted_found : is_note (note_of cell) ≡ true → IsSome r
+  unfolding place
+  noted_found h = go r (e ∙ sym (place_found cell h))
+    where
+      go : (r : Optional C.Place) {p : Place} → place r ≡ some p → IsSome r
+      go (Some q) u = refl
+      go None u = absurd (let z : ◌≡◌ {A = ℕ} 0 1 = cc in omega arith)
+
+  pub noted_at : (p : C.Place) → r ≡ Some p → p.note.number ≡ note_of cell
+  unfolding place
+  noted_at p h = sym (place_parts cell (place_in p) (sym e ∙ ap place h)).1
 
 -- ---- the largest detuning, from an index on
 module _ (by : GroupBy) (c : ℕ) (g : ℤ) (rs : List KeyRecord) (i : ℕ) (d : KeyRecord) (h : 0 < i) (l : i ≤ length rs) where
@@ -121,13 +141,68 @@ pub in_note : (t : Bool) (r : KeyRecord) → (t && is_in r) ≡ true → is_note
 unfolding is_in
 in_note t r e = T→true (is_note r.note) (and_r t (is_note r.note) (true→T e))
 
--- ---- the least group, from an index on
-module _ (by : GroupBy) (c : ℕ) (from least : ℤ) (rs : List KeyRecord) (i : ℕ) where
-  pub least_next : (d : KeyRecord) → i < length rs
-      → least_from by c from least (drop i rs) ≡ least_from by c from (lower by c from least (get_or rs i d)) (drop (i + 1) rs)
-  unfolding least_from
-  least_next d h = rw (add-one, drop-cons rs i d h)
+-- the group of a key up to a channel, by its place
+module _ (by : GroupBy) (c cell : ℕ) where
+  pub up_to_none : place None ≡ place_of cell → None ≡ group_up_to by c cell
+  unfolding place place_of group_up_to
+  up_to_none e = go (is_note (note_of cell)) e
+    where
+      go : (b : Bool) → ◌≡◌ {A = Option Place} none (cond b (some (record { channel = channel_of (cell / 1024); note = note_of cell })) none)
+          → None ≡ cond (leb (channel_of (cell / 1024)) c && b) (Some (group by (note_of cell))) None
+      go true e = absurd (let z : ◌≡◌ {A = ℕ} 0 1 = cc in omega arith)
+      go false e = rw (and_no (leb (channel_of (cell / 1024)) c))
 
-  pub least_end : length rs ≤ i → least_from by c from least (drop i rs) ≡ least
-  unfolding least_from
-  least_end h = rw (drop_of_length-le rs {i = i} h)
+  module _ (p : C.Place) (e : place (Some p) ≡ place_of cell) where
+    parts : (channel_of (cell / 1024) ≡ p.channel) × (note_of cell ≡ p.note.number) × (is_note p.note.number ≡ true)
+    unfolding place
+    parts = place_parts cell (place_in p) (sym e)
+
+    pub up_to_over : c < p.channel → None ≡ group_up_to by c cell
+    unfolding group_up_to
+    up_to_over h = rw (parts.0, lt-leb p.channel c h)
+
+    pub up_to_own : p.channel ≤ c → Some (group by p.note.number) ≡ group_up_to by c cell
+    unfolding group_up_to
+    up_to_own h = rw (parts.0, le-leb p.channel c h, parts.1, parts.2)
+
+  -- what it says of the key's record
+  module _ (d : Float) where
+    abbrev r : KeyRecord
+    r = record_of cell d
+
+    up_to : {g : ℤ} → group_up_to by c cell ≡ Some g → ((leb r.channel c && is_in r) ≡ true) × (group by r.note ≡ g)
+    unfolding group_up_to is_in
+    up_to {g} e = go (leb (channel_of (cell / 1024)) c && is_note (note_of cell)) e
+      where
+        go : (b : Bool) → cond b (Some (group by (note_of cell))) None ≡ Some g → (b ≡ true) × (group by (note_of cell) ≡ g)
+        go true e = (refl, cc)
+        go false e = absurd (let z : ◌≡◌ {A = ℕ} 0 1 = cc in omega arith)
+
+    pub counts_up : (g : ℤ) → group_up_to by c cell ≡ Some g → counts by c g r ≡ true
+    counts_up g e = let u = up_to e in counts_own by c g r u.0 u.1
+
+    pub counts_up_other : (g h : ℤ) → group_up_to by c cell ≡ Some h → (h ≡ g → ⊥) → counts by c g r ≡ false
+    counts_up_other g h e ne = let u = up_to e in counts_other by c g r (λ f. ne (sym u.1 ∙ f))
+
+    pub counts_up_none : (g : ℤ) → group_up_to by c cell ≡ None → counts by c g r ≡ false
+    unfolding group_up_to is_in
+    counts_up_none g e = counts_not by c g r (go (leb (channel_of (cell / 1024)) c && is_note (note_of cell)) e)
+      where
+        go : (b : Bool) → cond b (Some (group by (note_of cell))) None ≡ None → b ≡ false
+        go true e = absurd (let z : ◌≡◌ {A = ℕ} 0 1 = cc in omega arith)
+        go false e = refl
+
+-- ---- what `==` says of two groups
+module _ (g : ℤ) where
+  pub same_group : (o : Optional ℤ) → true ≡ option_eq int_eq o (Some g) → o ≡ Some g
+  same_group None e = absurd (true→T (sym e))
+  same_group (Some h) e = ap Some ((Decides-int_eq h g).0 (sym e))
+
+  -- a record of another group, or of none, does not count
+  pub other_group : (by : GroupBy) (c cell : ℕ) (d : Float) → false ≡ option_eq int_eq (group_up_to by c cell) (Some g)
+      → counts by c g (record_of cell d) ≡ false
+  other_group by c cell d e = go (group_up_to by c cell) refl e
+    where
+      go : (o : Optional ℤ) → group_up_to by c cell ≡ o → false ≡ option_eq int_eq o (Some g) → counts by c g (record_of cell d) ≡ false
+      go None u e = counts_up_none by c cell d g u
+      go (Some h) u e = counts_up_other by c cell d g h u (λ q. absurd (true→T (e ∙ (Decides-int_eq h g).1 q)))

@@ -8,17 +8,17 @@ use native.Mathlib.Omega.{arith}
 use lib.Dec.{T, eqb, eqb→eq, eqb_refl}
 use lib.Ieee.{Float, nan, binary64, fits, le}
 use lib.Ieee.Positive.{positive}
-use lib.ListN.{length, get_or, take, set, length-map, length-set, length-append}
+use lib.ListN.{length, get_or, take, drop, set, replicate, length-replicate, length-map, length-set, length-append}
 use lib.Seq.{get_or-set_same, get_or-set_other}
 use Rattle.arithmetic.specs.Note.{is_note}
 use Rattle.channels.specs.Lists.{Each, member, Distinct}
 use Rattle.plans.specs.Line.{Line, rising}
 use Rattle.plans.specs.PlanLists.{key_count, keys}
 use Rattle.channels.specs.Places.{is_held, note_of, place_of}
-use Rattle.plans.specs.PlanInternal.{Accepted, Holds, Rises, Room, line_at, lines_of, before, put_in}
+use Rattle.plans.specs.declared.sorted_keys.SortedKeys.{SortedKeys}
+use Rattle.plans.specs.PlanInternal.{Accepted, Holds, Long, Rises, line_at, lines_of, before, put_in}
 use Rattle.channels.proofs.ListLaws.{outcome, passed, failed, true→T, T→false, false→T, not_false, or_left, Each-map, Each-image, at_member, pigeonhole}
 use Rattle.channels.proofs.ListLaws.{below, below_length, below_member}
-use Rattle.plans.proofs.Joins.{lt_not_le}
 use Rattle.channels.proofs.RecordNumbers.{place_parts}
 use Rattle.plans.proofs.Rising.{Sorted, append, Each-rising, rising_sorted, rising_snoc}
 
@@ -82,15 +82,13 @@ module _ (cells : List ℕ) (ds : List Float) where
   abbrev at : ℕ → Line
   at k = line_at cells ds k
 
-  put_is : (k : ℕ) (xs : List ℕ) → Positive (at k) → Each Positive (map at xs) → map at (put_in ds (get_or ds k nan) k xs) ≡ append (at k) (map at xs)
+  put_is : (k : ℕ) (xs : List ℕ) → map at (put_in ds (get_or ds k nan) k xs) ≡ append (at k) (map at xs)
   unfolding put_in before append
-  put_is k [] p h = refl
-  put_is k (y ∷ xs) p h =
-      let e = lt_not_le (at k).detuning (at y).detuning p h.0 in
-      elim (outcome (le (at y).detuning (at k).detuning)) [
-        | passed u ↦ rw (u, e ∙ ap not u) (ap (λ (l : List Line). at y ∷ l) (put_is k xs p h.1))
-        | failed u ↦ rw (u, e ∙ ap not u)
-      ]
+  put_is k [] = refl
+  put_is k (y ∷ xs) = elim (outcome (le (get_or ds y nan) (get_or ds k nan))) [
+    | passed u ↦ rw u (ap (λ (l : List Line). at y ∷ l) (put_is k xs))
+    | failed u ↦ rw u
+  ]
 
   each_keys : (P : Line → Type 0) (xs : List ℕ) → Each P (map at xs) → Each (λ (k : ℕ). P (at k)) xs
   each_keys P [] h = tt
@@ -116,16 +114,15 @@ module _ (cells : List ℕ) (ds : List Float) (k cell : ℕ) (d : Float) where
       let ne = differs y k h.0 in
       rw (get_or-set_other cells k y cell 0 ne, get_or-set_other ds k y d nan ne, others_kept xs h.1)
 
-  les_kept : (x : Float) (xs : List ℕ) → Each (λ (y : ℕ). eqb y k ≡ false) xs → Each (λ (y : ℕ). T (le x (get_or ds y nan))) xs
-      → Each (λ (y : ℕ). T (le x (get_or (set ds k d) y nan))) xs
-  les_kept x [] o h = tt
-  les_kept x (y ∷ xs) o h = (rw (get_or-set_other ds k y d nan (differs y k o.0)) h.0, les_kept x xs o.1 h.1)
-
-  pub rises_kept : (xs : List ℕ) → Each (λ (y : ℕ). eqb y k ≡ false) xs → Rises ds xs → Rises (set ds k d) xs
-  rises_kept [] o r = tt
-  rises_kept (y ∷ xs) o r =
-      let e = get_or-set_other ds k y d nan (differs y k o.0) in
-      (rw e r.0, rw e (les_kept (get_or ds y nan) xs o.1 r.1), rises_kept xs o.1 r.2)
+-- nor does the place among other keys
+before_kept : (cells : List ℕ) (ds : List Float) (k : ℕ) (d : Float) (xs : List ℕ) → Each (λ (l : Line). eqb l.key k ≡ false) (map (line_at cells ds) xs)
+    → put_in ds d k xs ≡ put_in (set ds k d) d k xs
+unfolding put_in before
+before_kept cells ds k d xs h = ap (λ (b : ℕ). take b xs ++ (k ∷ drop b xs)) (same xs h)
+  where
+    same : (xs : List ℕ) → Each (λ (l : Line). eqb l.key k ≡ false) (map (line_at cells ds) xs) → before ds d xs ≡ before (set ds k d) d xs
+    same [] h = refl
+    same (y ∷ xs) h = rw (get_or-set_other ds k y d nan (differs y k h.0), same xs h.1)
 
 pub others_of : (k : ℕ) (lines : List Line) → member k (keys lines) ≡ false → Each (λ (l : Line). eqb l.key k ≡ false) lines
 others_of k [] h = tt
@@ -135,89 +132,92 @@ others_of k (x ∷ lines) h = elim (outcome (eqb x.key k)) [
 ]
 
 -- no line
-unfoldable pub zeros : ℕ → List ℕ
-zeros zero = []
-zeros (suc n) = 0 ∷ zeros n
-
-pub zeros_at : (n k : ℕ) → get_or (zeros n) k 0 ≡ 0
-unfolding zeros
+pub zeros_at : (n k : ℕ) → get_or {A = ℕ} (replicate n 0) k 0 ≡ 0
 zeros_at zero k = refl
 zeros_at (suc n) zero = refl
 zeros_at (suc n) (suc k) = zeros_at n k
 
-pub holds_none : (order : List ℕ) (ds : List Float) → length order ≡ key_count → length (zeros key_count) ≡ key_count → length ds ≡ key_count
-    → Holds order (zeros key_count) ds 0 []
+pub holds_none : (k : ℕ) (d : Float)
+    → Holds (record { order = replicate key_count k; len = 0; records = replicate key_count 0; detunings = replicate key_count d }) []
 unfolding lines_of rising
-holds_none order ds o l e = record {
+holds_none k d = record {
   ordered = refl;
   counted = refl;
   marked = λ k. ap (λ (c : ℕ). is_held (place_of c)) (zeros_at key_count k) ∙ none_held;
-  order_long = o;
-  cells_long = l;
-  detunings_long = e;
+  long = record {
+    order = length-replicate key_count k;
+    records = length-replicate {A = ℕ} key_count 0;
+    detunings = length-replicate key_count d;
+  };
 }
   where
     none_held : is_held (place_of 0) ≡ false
     none_held = unfold is_held place_of note_of in refl
 
--- the keys in order make room for another one
-pub room_for_lem : (order cells : List ℕ) (ds : List Float) (n key : ℕ) (lines : List Line) → Holds order cells ds n lines → Accepted lines
-    → member key (keys lines) ≡ false → key < key_count → n < key_count
-    → Room order ds n key
+-- the keys in order have detunings that rise
+pub rises_in : (s : SortedKeys) (lines : List Line) → Holds s lines → Accepted lines → Rises s.detunings (take s.len s.order)
 unfolding lines_of
-room_for_lem order cells ds n key lines h ok new b few =
-    let over : (P : Line → Type 0) → Each P lines → Each P (map (line_at cells ds) (take n order)) = λ P e. rw h.ordered (Each-rising P lines e) in
-    record {
-      few = few;
-      byte = b;
-      bytes = each_keys cells ds (λ (l : Line). l.key < key_count) (take n order) (over (λ (l : Line). l.key < key_count) ok.bytes);
-      others = each_keys cells ds (λ (l : Line). eqb l.key key ≡ false) (take n order)
-          (over (λ (l : Line). eqb l.key key ≡ false) (others_of key lines new));
-      rises = sorted_rises cells ds (take n order) (over Positive ok.detunings) (rw h.ordered (rising_sorted lines ok.detunings));
-    }
+rises_in s lines h ok =
+    sorted_rises s.records s.detunings (take s.len s.order) (rw h.ordered (Each-rising Positive lines ok.detunings))
+    (rw h.ordered (rising_sorted lines ok.detunings))
 
--- one key more in the lists: `cell` is the record of the line x
-module _ (order order' cells : List ℕ) (ds : List Float) (n cell : ℕ) (x : Line) (lines : List Line) (h : Holds order cells ds n lines) (ok : Accepted lines)
+pub few_in : (s : SortedKeys) (lines : List Line) → Holds s lines → Accepted lines → s.len ≤ key_count
+few_in s lines h ok = omega (arith, h.counted, accepted_few lines ok)
+
+-- there is room for one key more
+pub room_in : (s : SortedKeys) (lines : List Line) → Holds s lines → Accepted lines → (x : Line) → Accepted (lines ++ (x ∷ [])) → s.len < key_count
+room_in s lines h ok x more = omega (arith, h.counted, accepted_few (lines ++ (x ∷ [])) more, length-append lines (x ∷ []))
+
+-- one key more: `cell` is the record of the line x
+module _ (s : SortedKeys) (order : List ℕ) (cell : ℕ) (x : Line) (lines : List Line) (h : Holds s lines) (ok : Accepted lines)
     (new : member x.key (keys lines) ≡ false) (byte : x.key < key_count) (above : Positive x)
-    (found : place_of cell ≡ some (record { channel = 0; note = x.note })) (long : length order' ≡ length order)
-    (put : take (n + 1) order' ≡ put_in (set ds x.key x.detuning) x.detuning x.key (take n order)) where
+    (found : place_of cell ≡ some (record { channel = 0; note = x.note })) (long : length order ≡ key_count)
+    (put : take (s.len + 1) order ≡ put_in s.detunings x.detuning x.key (take s.len s.order)) where
   abbrev k : ℕ
   k = x.key
 
+  abbrev cells : List ℕ
+  cells = set s.records k cell
+
+  abbrev ds : List Float
+  ds = set s.detunings k x.detuning
+
   abbrev after : ℕ → Line
-  after = line_at (set cells k cell) (set ds k x.detuning)
+  after = line_at cells ds
 
   own : after k ≡ x
   own = rw (
-    get_or-set_same cells k cell 0 (omega (arith, h.cells_long)),
-    get_or-set_same ds k x.detuning nan
-        (omega (arith, h.detunings_long)),
+    get_or-set_same s.records k cell 0 (omega (arith, h.long.records)),
+    get_or-set_same s.detunings k x.detuning nan
+        (omega (arith, h.long.detunings)),
     (place_parts cell (record { channel = 0; note = x.note }) found).1,
   )
 
-  ordered_with : lines_of order' (set cells k cell) (set ds k x.detuning) (n + 1) ≡ rising (lines ++ (x ∷ []))
+  ordered_with : map after (take (s.len + 1) order) ≡ rising (lines ++ (x ∷ []))
   unfolding lines_of
   ordered_with =
       let d = x.detuning in
-      let e = get_or-set_same ds k d nan (omega (arith, h.detunings_long)) in
+      let ks = take s.len s.order in
+      let e = get_or-set_same s.detunings k d nan (omega (arith, h.long.detunings)) in
       let others = rw (sym h.ordered) at (Each-rising (λ (l : Line). eqb l.key k ≡ false) lines (others_of k lines new)) in
-      let kept : map after (take n order) ≡ rising lines = others_kept cells ds k cell d (take n order) others ∙ h.ordered in
-      ap (map after) (put ∙ ap (λ (f : Float). put_in (set ds k d) f k (take n order)) (sym e))
-      ∙ put_is (set cells k cell) (set ds k d) k (take n order) (rw e above) (rw kept (Each-rising Positive lines ok.detunings))
+      let kept : map after ks ≡ rising lines = others_kept s.records s.detunings k cell d ks others ∙ h.ordered in
+      ap (map after)
+      (put ∙ before_kept s.records s.detunings k d ks others ∙ ap (λ (f : Float). put_in ds f k ks) (sym e))
+      ∙ put_is cells ds k ks
       ∙ rw (kept, own) (sym (rising_snoc lines x ok.detunings above))
 
   held : is_held (place_of cell) ≡ true
   unfolding is_held
   held = rw found
 
-  marked_with : (j : ℕ) → is_held (place_of (get_or (set cells k cell) j 0)) ≡ member j (keys (lines ++ (x ∷ [])))
+  marked_with : (j : ℕ) → is_held (place_of (get_or cells j 0)) ≡ member j (keys (lines ++ (x ∷ [])))
   marked_with j = elim (outcome (eqb k j)) [
     | passed e ↦
-        subst (λ (i : ℕ). is_held (place_of (get_or (set cells k cell) i 0)) ≡ true) (eqb→eq k j (true→T e))
-        (rw (get_or-set_same cells k cell 0 (omega (arith, h.cells_long))) held)
+        subst (λ (i : ℕ). is_held (place_of (get_or cells i 0)) ≡ true) (eqb→eq k j (true→T e))
+        (rw (get_or-set_same s.records k cell 0 (omega (arith, h.long.records))) held)
         ∙ sym (rw (keys_snoc lines x, member_snoc j k (keys lines), e) (or_yes (member j (keys lines))))
     | failed e ↦
-        ap (λ (c : ℕ). is_held (place_of c)) (get_or-set_other cells k j cell 0 (λ u. not_false e (subst (λ (i : ℕ). T (eqb k i)) (sym u) (eqb_refl k))))
+        ap (λ (c : ℕ). is_held (place_of c)) (get_or-set_other s.records k j cell 0 (λ u. not_false e (subst (λ (i : ℕ). T (eqb k i)) (sym u) (eqb_refl k))))
         ∙ h.marked j
         ∙ sym (rw (keys_snoc lines x, member_snoc j k (keys lines), e) (or-false (member j (keys lines))))
   ]
@@ -226,12 +226,15 @@ module _ (order order' cells : List ℕ) (ds : List Float) (n cell : ℕ) (x : L
       or_yes true = refl
       or_yes false = refl
 
-  pub holds_more : Holds order' (set cells k cell) (set ds k x.detuning) (n + 1) (lines ++ (x ∷ []))
+  pub holds_more : Holds (record { order = order; len = s.len + 1; records = cells; detunings = ds }) (lines ++ (x ∷ []))
+  unfolding lines_of
   holds_more = record {
     ordered = ordered_with;
     counted = omega (arith, h.counted, length-append lines (x ∷ []));
     marked = marked_with;
-    order_long = long ∙ h.order_long;
-    cells_long = length-set cells k cell ∙ h.cells_long;
-    detunings_long = length-set ds k x.detuning ∙ h.detunings_long;
+    long = record {
+      order = long;
+      records = length-set s.records k cell ∙ h.long.records;
+      detunings = length-set s.detunings k x.detuning ∙ h.long.detunings;
+    };
   }

@@ -3,12 +3,15 @@
 ghost use Rattle.std.specs.Prelude.{◌≡◌};
 ghost use Rattle.arithmetic.specs.Answers.{optional, outcome_by};
 ghost use Rattle.channels.specs.ChannelList.{entries};
-ghost use Rattle.plans.specs.PlanBlock.{group_by_of};
-ghost use Rattle.plans.specs.Plan.{Smallest, Tunes, access_answer, empty, next_rule, open_rule, plan_answer, plan_of, planned};
+ghost use Rattle.plans.specs.PlanBlock.{detuning_of, group_by_of};
+ghost use Rattle.plans.specs.Plan.{Smallest, Tunes, access_answer, empty, larger, next_rule, open_rule, plan_answer, plan_of, planned};
+ghost use Rattle.plans.specs.PlanInternal.{group_up_to, least_from, lower};
 
 use crate::lists::TuningLists;
+use crate::placing::{group_of, place_keys};
+use crate::sorted_keys::SortedKeys;
 use arithmetic::refusal::Refusal;
-use channels::keys::{KEYS, Place};
+use channels::keys::{KEYS, Place, place_of};
 use channels::list::ChannelList;
 
 // What a sound module retunes together: one note, one note letter, or a whole channel.
@@ -87,12 +90,28 @@ impl AotTuningModel {
     // Example: open([0, 1], Channel); set_tuning([1, 2], [69, 69], [1, 33/32]) is tuned, channels used 2
     // Example: open([0, 1], Channel); set_tuning([1, 2, 3], [69, 69, 69], [1, 33/32, 31/32]) is untuned, channels needed 3
     // Example: open([0, 1], Channel); set_tuning([1, 1], [69, 69], [1, 1]) is refused (5)
-    // Example: open([0, 1], Channel); set_tuning_of_pitches([1, 2, 3], [440, 445, 880]) is tuned, channels used 2
+    // Example: open([0, 1], Channel); set_tuning(pitches [1, 2, 3], [440, 445, 880]) is tuned, channels used 2
+    // Example: open([0, 1], Channel); set_tuning(pitches [1, 2], [440, 445]) is tuned, channels used 2
     pub fn set_tuning<L: TuningLists>(&mut self, lists: &L) -> Result<Planned, Refusal>
         ensures tunes { Tunes (planned (plan_of self.old) (L.lines lists.now)) self.old self.new (plan_answer result) }
         ensures smallest { Smallest (plan_of self.old) (L.lines lists.now) (plan_of self.new, plan_answer result) }
     {
-        unreachable!()
+        let channels = self.channels();
+        let by = self.group_by();
+        let mut keys = SortedKeys::none();
+        keys.add_all(lists)?;
+        let count = place_keys(&mut keys, by);
+        let present = channels.len() as u16;
+        let few = present < count;
+        if few {
+            *self = AotTuningModel::new(channels, by);
+            return Ok(Planned::Untuned(count));
+        }
+        self.records = keys.records;
+        self.detunings = keys.detunings;
+        self.num_channels = count;
+        self.tuned = 1;
+        Ok(Planned::Tuned(count))
     }
 
     // A lookup: the channel and the note of a key of the plan.
@@ -101,7 +120,7 @@ impl AotTuningModel {
     pub fn access_key(&self, key: u8) -> Option<Place>
         ensures { access_answer result ≡ (plan_of self.now).keys key }
     {
-        unreachable!()
+        place_of(self.records[key as usize])
     }
 
     // How many channels the plan uses, and without a plan how many there are.
@@ -138,7 +157,17 @@ impl AotTuningModel {
     pub fn detuning(&self, channel: u16, group: i32) -> Option<f64>
         ensures { optional result ≡ (plan_of self.now).detunings channel group }
     {
-        unreachable!()
+        if self.num_channels <= channel {
+            return None;
+        }
+        let by = self.group_by();
+        let mut largest: Option<f64> = None;
+        for key in (0..KEYS).rev() {
+            if group_up_to(self.records[key], by, channel) == Some(group) {
+                largest = larger(number_or_zero(self.detunings[key]), largest);
+            }
+        }
+        largest
     }
 
     // The first of a channel's detunings whose group is `from` or higher, with its group: they are listed by rising group.
@@ -146,6 +175,59 @@ impl AotTuningModel {
     pub fn next_detuning(&self, channel: u16, from: i32) -> Option<(i32, f64)>
         ensures { optional result ≡ next_rule (plan_of self.now) channel from }
     {
-        unreachable!()
+        let by = self.group_by();
+        let group = least_group(&self.records, by, channel, from)?;
+        let detuning = self.detuning(channel, group)?;
+        Some((group, detuning))
+    }
+}
+
+// The least group, not below `from`, of the keys in the plan on a channel or one before it.
+fn least_group(records: &[u16], by: GroupBy, channel: u16, from: i32) -> Option<i32>
+    ensures { result ≡ least_from by channel from None records.now }
+{
+    let mut least = None;
+    for &cell in records {
+        least = lower(group_up_to(cell, by, channel), from, least);
+    }
+    least
+}
+
+// A group, if it is not below `from` and lower than the least so far; else that one.
+fn lower(group: Option<i32>, from: i32, least: Option<i32>) -> Option<i32>
+    ensures { result ≡ lower from group least }
+{
+    match (group, least) {
+        (Some(g), Some(other)) if from <= g && g < other => group,
+        (Some(g), None) if from <= g => group,
+        _ => least,
+    }
+}
+
+// The group of a record's key, if that is in the plan on a channel or one before it.
+fn group_up_to(cell: u16, by: GroupBy, channel: u16) -> Option<i32>
+    ensures { result ≡ group_up_to by channel cell }
+{
+    let place = place_of(cell)?;
+    if channel < place.channel as u16 {
+        return None;
+    }
+    Some(group_of(by, place.note))
+}
+
+// A detuning as it is read: programs in C may have put a NaN there.
+fn number_or_zero(detuning: f64) -> f64
+    ensures { result ≡ detuning_of detuning }
+{
+    if detuning.is_nan() { 0.0 } else { detuning }
+}
+
+// The larger of a detuning and another one, if there is one.
+fn larger(detuning: f64, other: Option<f64>) -> Option<f64>
+    ensures { optional result ≡ larger detuning (optional other) }
+{
+    match other {
+        Some(d) if detuning <= d => other,
+        _ => Some(detuning),
     }
 }

@@ -3,3 +3,5 @@
 
 pub mod aot;
 pub mod lists;
+mod placing;
+mod sorted_keys;

@@ -1,17 +1,54 @@
-// The lists of a tuning: keys with their notes and detunings, or with their pitches.
+// The lists of a tuning: keys with their notes and detunings, or with their pitches. Line i is entry i of each.
 
-ghost use Rattle.plans.specs.PlanLists.{note_lists, pitch_lists};
-ghost use Rattle.plans.specs.Line.{Line};
+ghost use Rattle.std.specs.Prelude.{Bool, List, ◌≡◌, T};
+ghost use Rattle.std.specs.Float.Ieee.Positive.{positive};
 ghost use Rattle.arithmetic.specs.Outcome.{Outcome};
-ghost use Rattle.std.specs.Prelude.{List};
+ghost use Rattle.plans.specs.Line.{Line};
+ghost use Rattle.plans.specs.PlanLists.{is_planned};
+ghost use Rattle.plans.specs.Entries.{entry_of};
+ghost use Rattle.arithmetic.specs.Answers.{outcome};
 
-// Lists of keys and what each is to sound. Line i is entry i of each.
+use arithmetic::note::Note;
+use arithmetic::pitch::Pitch;
+use arithmetic::refusal::Refusal;
+use arithmetic::tuning::find_by_pitch;
+
+// A key, its note, and its detuning: the pitch that it wants divided by the note's.
+#[derive(Clone, Copy)]
+pub struct KeyTuning {
+    pub key: u8,
+    pub note: Note,
+    pub detuning: f64,
+    ghost above_zero: { T (positive detuning) },
+}
+
+// Lists of keys and what each is to sound.
 pub trait TuningLists {
+    ghost use Rattle.std.specs.Prelude.{get_or, [], length};
+    ghost use Rattle.arithmetic.specs.Outcome.{value, refused, refuse◌unless◌then◌};
+    ghost use Rattle.arithmetic.specs.Refusal.{lists_unequal};
+    ghost use Rattle.arithmetic.specs.Answers.{outcome_by};
+    ghost use Rattle.plans.specs.PlanLists.{line_by_line};
+    ghost use Rattle.plans.specs.KeyLine.{key_line};
+
     // The lines, or the first refusal.
     ghost lines: { Self → Outcome (List Line) };
 
+    // Whether the lists have as many entries, each.
+    ghost equally_long: { Self → Bool };
+
+    // Each line by itself.
+    ghost rows: { Self → List (Outcome Line) };
+
     // How many lines there are. Refuses 12.
-    fn len(&self) -> usize;
+    fn len(&self) -> Result<usize, Refusal>
+        ensures { outcome result ≡ (refuse lists_unequal unless equally_long self.now then value (length (rows self.now))) };
+
+    // Line i by itself. Refuses 12 where a list has no entry i.
+    fn line(&self, i: usize) -> Result<KeyTuning, Refusal>
+        ensures { outcome_by key_line result ≡ get_or (rows self.now) i (refused lists_unequal) };
+
+    ghost lines_are: { (s : Self) → lines s ≡ (refuse lists_unequal unless equally_long s then line_by_line [] (rows s)) };
 }
 
 // Keys with their notes and detunings. Refuses 12, then line by line 4, 3, 5.
@@ -23,10 +60,37 @@ pub struct NoteLists<'a> {
 }
 
 impl<'a> TuningLists for NoteLists<'a> {
+    ghost use Rattle.std.specs.Prelude.{eqb, ◌&&◌, length};
+    ghost use Rattle.std.proofs.Common.{refl};
+    ghost use Rattle.plans.specs.PlanLists.{note_lines, note_lists};
+
     ghost lines = { λ s. note_lists s.keys.now s.notes.now s.detunings.now };
 
-    fn len(&self) -> usize {
-        self.keys.len()
+    ghost equally_long = { λ s. eqb (length s.notes.now) (length s.keys.now) && eqb (length s.detunings.now) (length s.keys.now) };
+
+    ghost rows = { λ s. note_lines s.keys.now s.notes.now s.detunings.now };
+
+    ghost lines_are = { λ s. unfold note_lists in refl };
+
+    fn len(&self) -> Result<usize, Refusal> {
+        let len = self.keys.len();
+        let equal = self.notes.len() == len && self.detunings.len() == len;
+        if equal { Ok(len) } else { Err(Refusal::ListsUnequal) }
+    }
+
+    fn line(&self, i: usize) -> Result<KeyTuning, Refusal> {
+        let key = entry(self.keys, i)?;
+        let number = entry(self.notes, i)?;
+        let detuning = entry(self.detunings, i)?;
+        let note = Note::try_from(number)?;
+        if !is_planned(detuning) {
+            return Err(Refusal::DetuningOutOfRange);
+        }
+        Ok(KeyTuning {
+            key,
+            note,
+            detuning,
+        })
     }
 }
 
@@ -38,9 +102,46 @@ pub struct PitchLists<'a> {
 }
 
 impl<'a> TuningLists for PitchLists<'a> {
+    ghost use Rattle.std.specs.Prelude.{eqb, length};
+    ghost use Rattle.std.proofs.Common.{refl};
+    ghost use Rattle.plans.specs.PlanLists.{pitch_lines, pitch_lists};
+
     ghost lines = { λ s. pitch_lists s.keys.now s.pitches.now };
 
-    fn len(&self) -> usize {
-        self.keys.len()
+    ghost equally_long = { λ s. eqb (length s.pitches.now) (length s.keys.now) };
+
+    ghost rows = { λ s. pitch_lines s.keys.now s.pitches.now };
+
+    ghost lines_are = { λ s. unfold pitch_lists in refl };
+
+    fn len(&self) -> Result<usize, Refusal> {
+        let len = self.keys.len();
+        let equal = self.pitches.len() == len;
+        if equal { Ok(len) } else { Err(Refusal::ListsUnequal) }
     }
+
+    fn line(&self, i: usize) -> Result<KeyTuning, Refusal> {
+        let key = entry(self.keys, i)?;
+        let hz = entry(self.pitches, i)?;
+        let nearest = find_by_pitch(Pitch::from_hz(hz))?;
+        Ok(KeyTuning {
+            key,
+            note: nearest.note,
+            detuning: nearest.detuning,
+        })
+    }
+}
+
+// Entry i of a list. Refuses 12 where there is none.
+fn entry<T: Copy>(list: &[T], i: usize) -> Result<T, Refusal>
+    ensures { outcome result ≡ entry_of list.now i }
+{
+    list.get(i).copied().ok_or(Refusal::ListsUnequal)
+}
+
+// A detuning that can be planned: 0.5 to 2.
+fn is_planned(detuning: f64) -> bool
+    ensures { result ≡ is_planned detuning }
+{
+    0.5 <= detuning && detuning <= 2.0
 }

@@ -205,6 +205,7 @@ impl JitTuningModel {
     // Example: open([0], Channel, Stop); register_key(1, 440 Hz); register_key(1, 440 Hz) is refused (11)
     // Example: open([0], Channel, Stop); register_key(1, 440 Hz); register_key(2, 880 Hz) is channel 0, note 81, detuning 1, stopped note 69
     // Example: open([0], Channel, Block); register_key(1, 440 Hz); register_key(2, 880 Hz) is rejected
+    // Example: open([0, 1], Channel, Stop); register_key(1, 445 Hz) is channel 0, note 69, detuning 1.011363...
     pub fn register_key(&mut self, key: u8, pitch: Pitch) -> Result<Option<Registered>, Refusal>
         ensures told { press result ≡ (replied (state_of self.old) (register_rule (state_of self.old) key pitch.hz)).0 }
         ensures moved { Moves (register_rule (state_of self.old) key pitch.hz) self.old self.new }

@@ -5,23 +5,9 @@ use Prim.Native.Nat.{ℕ, suc, ◌+◌, ◌*◌, ◌/◌, ◌%◌, ◌≤◌, �
 use native.Mathlib.Omega.{arith}
 use lib.Dec.{leb, ltb}
 use lib.IntN.{ℤ, pos, negsuc, nat_abs, ◌+ℤ◌, ◌-ℤ◌, +ℤ-neg_ℤ_cancel}
-use lib.Signed.{lt_z, le_z}
-use borrow.Author.Tests.{ltb-false, ltb-true, leb-true, le-leb, lt-leb, le-ltb}
+use borrow.Author.Tests.{leb-true, le-ltb}
 use Rattle.senders.specs.Message.{is_bend}
 use Rattle.senders.specs.Midi.{bend_low, bend_high}
-
--- what the code's test `a < b` says of the rule's `b ≤ a`
-pub not_lt : (a b : ℤ) → lt_z a b ≡ false → le_z b a ≡ true
-not_lt (pos a) (pos b) h = le-leb b a (ltb-false a b h)
-not_lt (pos a) (negsuc b) h = refl
-not_lt (negsuc a) (pos b) h = sym h
-not_lt (negsuc a) (negsuc b) h = le-leb a b (ltb-false b a h)
-
-pub lt_not : (a b : ℤ) → lt_z a b ≡ true → le_z b a ≡ false
-lt_not (pos a) (pos b) h = lt-leb b a (ltb-true a b h)
-lt_not (pos a) (negsuc b) h = sym h
-lt_not (negsuc a) (pos b) h = refl
-lt_not (negsuc a) (negsuc b) h = lt-leb a b (ltb-true b a h)
 
 -- a bend in range is a number of 14 bits from -8192 on
 pub data InRange : ℤ → Type 0 where

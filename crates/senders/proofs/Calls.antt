@@ -1,5 +1,5 @@
 -- What the calls of a pool tuner come to: a press by the model's answer, and a release. Assumes nothing.
-use mathlib.Core.Path.{◌≡◌, refl, sym, ap, ◌∙◌}
+use mathlib.Core.Path.{◌≡◌, refl, sym, ap}
 use mathlib.Core.Option.{Option}
 use mathlib.Core.List.{List, []}
 use Prim.Native.Nat.{ℕ, ◌<◌}
@@ -8,18 +8,22 @@ use lib.IntN.{ℤ}
 use lib.Ieee.{Float}
 use lib.ListN.{length}
 use borrow.Author.Tests.{lt-ltb}
+use Rattle.std.specs.Prelude.{Result, Ok, Err}
+use Rattle.std.specs.Result.{IsOk}
+use Rattle.arithmetic.specs.declared.refusal.Refusal.{Refusal}
+use Rattle.arithmetic.specs.Answers.{outcome}
 use Rattle.channels.specs.Outcome.{Outcome, value, refused}
 use Rattle.pools.specs.Pool.{State, found, released, accepted, rejected, register_rule, replied}
-use Rattle.pools.specs.Block.{state_of, kind_at}
-use Rattle.channels.specs.TuningValue.{sent_as}
-use Rattle.channels.specs.declared.tuning_value.TuningKind.{TuningKind}
+use Rattle.pools.specs.Block.{state_of}
+use Rattle.pools.specs.declared.jit.JitTuningModel.{JitTuningModel}
+use Rattle.channels.specs.TuningValue.{sent_as, kind_of}
 use Rattle.senders.specs.Lent.{Effect, sends, sent, Answers, Steps}
 use Rattle.senders.specs.Midi.{bytes_of}
 use Rattle.senders.specs.Tuner.{on_channel, press_messages, key_messages}
-use Rattle.senders.specs.Jit.{Tuner, view, tuner, with_pool, Pressed, sounds, rejects, note_on_rule, note_off_rule}
+use Rattle.senders.specs.Jit.{Tuner, view, with_pool, Pressed, sounds, rejects, note_on_rule, note_off_rule}
 use Rattle.senders.specs.declared.tuner.NoteMessage.TheVariants.{Off}
 use Rattle.senders.specs.declared.jit.JitTuner.{JitTuner}
-use Rattle.senders.proofs.Lent.{counted, ends_written, steps_held}
+use Rattle.senders.proofs.Lent.{counted, ends_written}
 
 -- ---- the model's reply
 
@@ -33,9 +37,14 @@ unfolding replied
 reply_refused s (value r) {n} e = let z : ◌≡◌ {A = ℕ} 0 1 = cc in absurd (omega arith)
 reply_refused s (refused m) {n} e = let same : m ≡ n = cc in ap refused same
 
--- the tuner of a block whose pool has changed
-pub view_moved : (l m : List ℕ) {u : State} → state_of m ≡ u → kind_at m ≡ kind_at l → view m ≡ with_pool (view l) u
-view_moved l m {u} e k = ap (λ (s : State). record { pool = s; kind = kind_at m }) e ∙ ap (λ (d : TuningKind). record { pool = u; kind = d }) k
+-- a call's answer is a value, so it is no refusal
+pub is_value : {A : Type 0} (r : Result A Refusal) {x : A} → outcome r ≡ value x → IsOk r
+is_value (Ok x) e = refl
+is_value (Err n) e = let z : ◌≡◌ {A = ℕ} 0 1 = cc in absurd (omega arith)
+
+-- the tuner whose pool has changed
+pub view_moved : (t : JitTuner) (m : JitTuningModel) {u : State} → state_of m ≡ u → view (record t { model = m }) ≡ with_pool (view t) u
+view_moved t m {u} e = ap (λ (s : State). record { pool = s; kind = kind_of t.kind }) e
 
 -- ---- the press
 
@@ -75,10 +84,3 @@ release_bytes t key v = bytes_of (key_messages Off t.pool.channels v (found t.po
 
 pub release_sent_lem : (t : Tuner) (key v : ℕ) → v < 128 → note_off_rule t key v ≡ sends (release_bytes t key v) (with_pool t (released t.pool key))
 release_sent_lem t key v low = rw (lt-ltb v 128 low)
-
--- ---- a call in place, and the call by value made of it
-
-pub by_value :
-    {R : Type 0} {rule : Outcome (Effect R Tuner)} {old new : List ℕ} {answer : Outcome R} (t : JitTuner) (cells : List ℕ)
-    → Steps view rule t.cells old answer cells new → Steps tuner rule t old answer (record { cells = cells }) new
-by_value t cells s = steps_held (λ l. record { cells = l }) t.cells cells refl s

@@ -1,23 +1,23 @@
 -- Messages on the channels of a tuner's list: which MIDI channel, how many bytes. Assumes nothing.
-use mathlib.Core.Path.{◌≡◌, refl, sym, ap, ◌∙◌}
+use mathlib.Core.Path.{◌≡◌, ap, ◌∙◌}
 use mathlib.Core.Option.{Option, some, none}
 use mathlib.Core.List.{List, [], ◌∷◌, ◌++◌, append-nil}
-use Prim.Native.Nat.{ℕ, zero, suc, ◌+◌, ◌*◌, ◌≤◌, ◌<◌}
+use Prim.Native.Nat.{ℕ, zero, suc, ◌+◌, ◌≤◌, ◌<◌}
 use native.Mathlib.Omega.{arith}
 use lib.IntN.{ℤ}
-use lib.ListN.{length, take, get_or, get_elem?, length-append}
+use lib.ListN.{length, take, get_or, get_elem?}
 use Rattle.channels.specs.ChannelList.{entries}
 use Rattle.channels.specs.declared.list.ChannelList.{ChannelList}
 use Rattle.channels.proofs.ChannelLists.{entries_low}
 use Rattle.channels.specs.Outcome.{value}
-use Rattle.senders.specs.Message.{Message, Valid}
+use Rattle.senders.specs.Message.{Valid}
 use Rattle.senders.specs.Midi.{bytes, bytes_of, meant}
 use Rattle.senders.specs.Tuner.{note_messages, each, on_entry, on_channel}
 use Rattle.senders.specs.declared.midi.ChannelMessageType.{ChannelMessageType}
 use Rattle.senders.specs.declared.tuner.NoteMessage.{NoteMessage}
-use Rattle.senders.proofs.Each.{bytes_more, bytes_passed}
-use Rattle.senders.proofs.Messages.{record_length, checked_valid, valid_checked}
-use Rattle.senders.proofs.Sizes.{note_size, note_small}
+use Rattle.senders.proofs.Each.{bytes_more}
+use Rattle.senders.proofs.Messages.{checked_valid, valid_checked}
+use Rattle.senders.proofs.Sizes.{note_small}
 
 -- ---- entries
 
@@ -41,30 +41,16 @@ entry_is [] i {c} e = let z : ◌≡◌ {A = ℕ} 0 1 = cc in absurd (omega arit
 entry_is (x ∷ l) zero {c} e = (omega arith, (cc))
 entry_is (x ∷ l) (suc i) e = let r = entry_is l i e in (omega arith, r.1)
 
-module _ (channels : List ℕ) (i : ℕ) (messages : ℕ → List Message) where
-  pub on_entry_lem : {c : ℕ} → get_elem? channels i ≡ some c → on_channel channels i messages ≡ messages c
-  on_entry_lem e = rw e
-
-  pub past_entries : get_elem? channels i ≡ none → on_channel channels i messages ≡ []
-  past_entries e = rw e
-
 -- ---- bytes
 
-module _ (kind : NoteMessage) (channels : List ℕ) (i : ℕ) (note : ℤ) (v : ℕ) where
-  pub key_size :
-      length (bytes_of (on_channel channels i (λ ch. note_messages kind ch note v))) ≡ length (bytes_of (on_channel channels i (λ ch. note_messages kind ch note 0)))
-  key_size = go (get_elem? channels i)
-    where
-      go : (o : Option ℕ) → length (bytes_of (on_entry (λ ch. note_messages kind ch note v) o)) ≡ length (bytes_of (on_entry (λ ch. note_messages kind ch note 0) o))
-      go (some c) = note_size kind c note v ∙ sym (note_size kind c note 0)
-      go none = refl
-
-  pub key_small : length (bytes_of (on_channel channels i (λ ch. note_messages kind ch note v))) ≤ 64
-  key_small = go (get_elem? channels i)
-    where
-      go : (o : Option ℕ) → length (bytes_of (on_entry (λ ch. note_messages kind ch note v) o)) ≤ 64
-      go (some c) = note_small kind c note v
-      go none = omega arith
+pub key_small :
+    (kind : NoteMessage) (channels : List ℕ) (i : ℕ) (note : ℤ) (v : ℕ)
+    → length (bytes_of (on_channel channels i (λ ch. note_messages kind ch note v))) ≤ 3
+key_small kind channels i note v = go (get_elem? channels i)
+  where
+    go : (o : Option ℕ) → length (bytes_of (on_entry (λ ch. note_messages kind ch note v) o)) ≤ 3
+    go (some c) = note_small kind c note v
+    go none = omega arith
 
 -- ---- a message to each of a list
 
@@ -80,22 +66,3 @@ module _ (m : ChannelMessageType) (cs : List ℕ) (i : ℕ) {ch : ℕ} (e : get_
       bytes_more (λ c. meant c m ∷ []) cs i 0 k.0
       ∙ ap (λ (l : List ℕ). bytes_of (each (λ c. meant c m ∷ []) (take i cs)) ++ l)
       (append-nil (bytes (meant (get_or cs i 0) m)) ∙ ap (λ (c : ℕ). bytes (meant c m)) k.1)
-
-  pub all_room :
-      length (bytes_of (each (λ c. meant c m ∷ []) (take i cs))) + length (bytes (meant ch m)) ≤ length (bytes_of (each (λ c. meant c m ∷ []) cs))
-  all_room =
-      omega (
-        arith,
-        ap length all_more,
-        length-append (bytes_of (each (λ c. meant c m ∷ []) (take i cs))) (bytes (meant ch m)),
-        bytes_passed (λ c. meant c m ∷ []) cs (i + 1),
-      )
-
-pub all_size : (m : ChannelMessageType) (cs : List ℕ) → length (bytes_of (each (λ ch. meant ch m ∷ []) cs)) ≡ length cs * length (bytes (meant 0 m))
-all_size m [] = omega arith
-all_size m (c ∷ cs) =
-    let rest = all_size m cs in
-    let here = length-append (bytes (meant c m)) (bytes_of (each (λ ch. meant ch m ∷ []) cs)) in
-    let one = record_length (meant c m) in
-    let same = record_length (meant 0 m) in
-    rw same (omega (arith, rw same at rest))

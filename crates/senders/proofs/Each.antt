@@ -1,16 +1,14 @@
 -- Messages for each of a list, one behind the other: their bytes as a loop writes them. Assumes nothing.
 use mathlib.Core.Path.{◌≡◌, refl, sym, ap, ◌∙◌}
 use mathlib.Core.List.{List, [], ◌∷◌, ◌++◌, append_assoc, append-nil}
-use Prim.Native.Nat.{ℕ, ◌+◌, ◌≤◌, ◌<◌}
+use Prim.Native.Nat.{ℕ, ◌+◌, ◌<◌}
 use native.Mathlib.Numerals.{add-one}
-use native.Mathlib.Omega.{arith}
-use lib.ListN.{length, take, drop, get_or, take-append-drop}
+use lib.ListN.{length, take, get_or}
 use lib.Seq.{take-suc}
 use Rattle.senders.specs.Message.{Message}
 use Rattle.senders.specs.Midi.{bytes_of}
 use Rattle.senders.specs.Tuner.{each}
 use Rattle.senders.proofs.Messages.{bytes_append}
-use Rattle.senders.proofs.Sizes.{size_append}
 
 module _ {A : Type 0} (messages : A → List Message) where
   pub each_append : (xs ys : List A) → each messages (xs ++ ys) ≡ each messages xs ++ each messages ys
@@ -31,11 +29,3 @@ module _ {A : Type 0} (messages : A → List Message) where
       ∙ ap bytes_of (each_append (take i xs) (x ∷ []))
       ∙ bytes_append (each messages (take i xs)) (messages x ++ [])
       ∙ ap (λ (l : List Message). bytes_of (each messages (take i xs)) ++ bytes_of l) (append-nil (messages x))
-
-  -- the entries passed take no more than all of them
-  pub bytes_passed : (xs : List A) (i : ℕ) → length (bytes_of (each messages (take i xs))) ≤ length (bytes_of (each messages xs))
-  bytes_passed xs i =
-      let e : each messages xs ≡ each messages (take i xs) ++ each messages (drop i xs) =
-      ap (each messages) (sym (take-append-drop i xs)) ∙ each_append (take i xs) (drop i xs) in
-      let s = ap (λ (l : List Message). length (bytes_of l)) e ∙ size_append (each messages (take i xs)) (each messages (drop i xs)) in
-      omega arith

@@ -1,13 +1,12 @@
 -- Laws of `Put`, bytes put into a lent buffer one behind the other, of a buffer's rest, and of `Steps`: the three ways a call ends. Assumes nothing.
 use mathlib.Core.Path.{◌≡◌, refl, sym, ap, ◌∙◌}
-use mathlib.Core.List.{List, [], ◌∷◌, ◌++◌, append_assoc, append-nil}
-use Prim.Native.Nat.{ℕ, suc, ◌+◌, ◌-◌, ◌≤◌, ◌<◌}
+use mathlib.Core.List.{List, [], ◌++◌, append_assoc, append-nil}
+use Prim.Native.Nat.{ℕ, ◌+◌, ◌-◌, ◌≤◌, ◌<◌}
 use native.Mathlib.Nat.{add_assoc, zero-add, add-zero, le_of_eq}
-use native.Mathlib.Numerals.{add-one}
 use native.Mathlib.Omega.{arith}
 use lib.Dec.{leb}
-use lib.ListN.{length, take, drop, get_or, set, length-append, length-drop, drop_of_length-le, take-append-drop}
-use lib.Seq.{sets-eq, take_all, length-take-le, take_at, drop_at, drop-drop}
+use lib.ListN.{length, take, drop, length-append, length-drop, drop_of_length-le, take-append-drop}
+use lib.Seq.{take_all, length-take-le, take_at, drop_at, drop-drop}
 use borrow.Author.Tests.{lt-leb, le-leb}
 use mathlib.Core.Bool.{Bool, true, false, cond}
 use Rattle.channels.specs.Outcome.{Outcome, value, refused}
@@ -15,18 +14,6 @@ use Rattle.channels.specs.Refusal.{buffer_too_short}
 use Rattle.senders.specs.Lent.{Effect, sends, sent, told, written, left, fitted, Moved, Steps, Answers, Put, settled}
 
 -- ---- bytes put into a buffer
-
--- a record of three bytes stored in a row
-pub stores :
-    (l : List ℕ) (at : ℕ) (bs : List ℕ) → length bs ≡ 3 → at + 3 ≤ length l
-    → set (set (set l at (get_or bs 0 0)) (at + 1) (get_or bs 1 0)) (at + 2) (get_or bs 2 0) ≡ take at l ++ bs ++ drop (at + length bs) l
-stores l at (a ∷ b ∷ c ∷ []) e h =
-    let f : at + 2 ≡ suc (suc at) = omega arith in
-    rw (add-one, f) (sets-eq (a ∷ b ∷ c ∷ []) l at h)
-stores l at [] e h = absurd (let z : ⊥ = omega arith in z)
-stores l at (a ∷ []) e h = absurd (let z : ⊥ = omega arith in z)
-stores l at (a ∷ b ∷ []) e h = absurd (let z : ⊥ = omega arith in z)
-stores l at (a ∷ b ∷ c ∷ d ∷ bs) e h = absurd (let z : ⊥ = omega arith in z)
 
 -- nothing is put
 pub put_none : (at : ℕ) (l : List ℕ) → Put at [] at l l
@@ -162,15 +149,6 @@ module _ {R S T : Type 0} {view : T → S} {rule : Outcome (Effect R S)} {s : T}
       by false h a l =
           let k : buffer_too_short ≡ n = cc in
           record { told_is = simp (e, h, k); moved_is = rw (e, h) refl; left_is = rw (e, h) l }
-
--- sent, by a call that answers how many bytes it sent
-pub ends_written_counted :
-    {S T : Type 0} {view : T → S} {rule : Outcome (Effect ℕ S)} {s back : T} {next : S} {bs old new : List ℕ} {n : ℕ} → rule ≡ sends bs next
-    → Answers (sent bs) old (value n) new → view back ≡ next → Steps view rule s old (value n) back new
-ends_written_counted {view = view} {rule = rule} {s = s} {back = back} {next = next} {bs = bs} {old = old} {new = new} {n = n} e p m =
-    let f : Effect ℕ _ = record { says = length bs; bytes = bs; next = next } in
-    let q : length bs ≡ n = sym (counted {bs = bs} {old = old} {new = new} p) in
-    rw q at (ends_written {view = view} {s = s} {old = old} {new = new} {f = f} {n = n} {back = back} e p m)
 
 -- the tuner that a call hands back is the one that its rule goes on to
 pub handed_back :

@@ -47,6 +47,10 @@ two_held a b o e =
     let q = test_held 8 (ltb b 128) o p.1 in
     (ltb-true a 128 p.0, ltb-true b 128 q.0, q.1)
 
+-- a byte that passes its test is a data byte
+pub data_checked : (b : ℕ) {x : Unit {0}} → value x ≡ checked (ProgramChange b) passes → b < 128
+data_checked b e = ltb-true b 128 (test_held 8 (ltb b 128) passes (sym e)).0
+
 -- A message that passes its tests is valid on each of the 16 channels.
 pub checked_valid :
     {A : Type 0} (m : ChannelMessageType) (o : Outcome A) {x : A} → checked m o ≡ value x → (ch : ℕ) → ch < 16 → Valid (meant ch m)
@@ -94,6 +98,10 @@ valid_channel ch (PitchBendChange b) h = h.0
 pub message_accepted : (ch : ℕ) (m : ChannelMessageType) → Valid (meant ch m) → message_rule ch m ≡ sent (bytes (meant ch m))
 message_accepted ch m h = rw (lt-ltb ch 16 (valid_channel ch m h)) (valid_checked ch m (sent (bytes (meant ch m))) h)
 
+-- A message that fails a test on one of the 16 channels is refused.
+pub message_refused : (ch : ℕ) (m : ChannelMessageType) {n : ℕ} → ch < 16 → refused n ≡ checked m passes → message_rule ch m ≡ refused n
+message_refused ch m h e = rw (lt-ltb ch 16 h) (checked_refused m (sent (bytes (meant ch m))) (sym e))
+
 -- ---- lengths and bytes
 
 -- every message is a record of three bytes
@@ -105,10 +113,6 @@ record_length (control ch n v) = refl
 record_length (program ch p) = refl
 record_length (channel_pressure ch p) = refl
 record_length (bend ch b) = refl
-
--- the channel does not matter
-pub length_any : (ch : ℕ) (m : ChannelMessageType) → length (bytes (meant ch m)) ≡ length (bytes (meant 0 m))
-length_any ch m = record_length (meant ch m) ∙ sym (record_length (meant 0 m))
 
 pub bytes_append : (ms ns : List Message) → bytes_of (ms ++ ns) ≡ bytes_of ms ++ bytes_of ns
 bytes_append [] ns = refl

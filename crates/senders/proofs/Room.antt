@@ -15,38 +15,19 @@ use Rattle.channels.specs.Places.{Place}
 use Rattle.pools.specs.Pool.{State, Press, accepted, rejected, found, released, register_rule, repitch_rule}
 use Rattle.channels.specs.TuningValue.{sent_as}
 use Rattle.channels.specs.declared.tuning_value.Tuning.{Tuning}
-use Rattle.channels.specs.declared.tuning_value.Tuning.TheVariants.{Fine, Bend}
 use Rattle.senders.specs.Lent.{Effect, sends}
 use Rattle.senders.specs.Message.{Message, is_data}
-use Rattle.senders.specs.Midi.{bytes_of, meant}
+use Rattle.senders.specs.Midi.{bytes_of}
 use Rattle.senders.specs.Mts.{tuning_messages}
-use Rattle.senders.specs.Tuner.{number_of, note_type, numbered, note_messages, stop_messages, press_messages, on_entry, key_messages}
+use Rattle.senders.specs.Tuner.{note_messages, press_messages, on_entry, key_messages}
 use Rattle.senders.specs.Jit.{Tuner, Pressed, with_pool, sounds, rejects, sound_messages, says, press_effect, repitch_messages, repitch_effect, note_on_rule, note_off_rule, note_pitch_rule}
-use Rattle.senders.specs.declared.tuner.NoteMessage.{NoteMessage}
-use Rattle.senders.specs.declared.tuner.NoteMessage.TheVariants.{Off, On, Pressure}
-use Rattle.senders.proofs.Sizes.{press_parts}
+use Rattle.senders.specs.declared.tuner.NoteMessage.TheVariants.{Off, On}
+use Rattle.senders.proofs.Sizes.{press_parts, note_small, stop_small, tuning_short}
 
 -- ---- how many bytes the messages take
 
-numbered_bytes : (kind : NoteMessage) (ch v : ℕ) (k : Option ℕ) → length (bytes_of (numbered (λ k. meant ch (note_type kind k v)) k)) ≤ 3
-numbered_bytes Off ch v (some k) = omega arith
-numbered_bytes On ch v (some k) = omega arith
-numbered_bytes Pressure ch v (some k) = omega arith
-numbered_bytes kind ch v none = omega arith
-
-note_bytes : (kind : NoteMessage) (ch : ℕ) (note : ℤ) (v : ℕ) → length (bytes_of (note_messages kind ch note v)) ≤ 3
-note_bytes kind ch note v = numbered_bytes kind ch v (number_of note)
-
-stop_bytes : (ch : ℕ) (s : Option ℤ) (v : ℕ) → length (bytes_of (stop_messages ch s v)) ≤ 3
-stop_bytes ch none v = omega arith
-stop_bytes ch (some note) v = note_bytes Off ch note v
-
-tuning_bytes : (ch : ℕ) (t : Tuning) → length (bytes_of (tuning_messages ch t)) ≤ 12
-tuning_bytes ch (Fine v) = omega arith
-tuning_bytes ch (Bend b) = omega arith
-
 press_bytes_lem : (ch : ℕ) (s : Option ℤ) (t : Tuning) (note : ℤ) (v : ℕ) → length (bytes_of (press_messages ch s t note v)) ≤ 18
-press_bytes_lem ch s t note v = omega (arith, press_parts ch s t note v, stop_bytes ch s v, tuning_bytes ch t, note_bytes On ch note v)
+press_bytes_lem ch s t note v = omega (arith, press_parts ch s t note v, stop_small ch s v, tuning_short ch t, note_small On ch note v)
 
 entry_bytes : (messages : ℕ → List Message) → ((ch : ℕ) → length (bytes_of (messages ch)) ≤ 18) → (o : Option ℕ) → length (bytes_of (on_entry messages o)) ≤ 18
 entry_bytes messages h (some ch) = h ch
@@ -81,7 +62,7 @@ press_counts count c z t key hz v =
 
 key_bytes : (t : Tuner) (v : ℕ) (p : Option Place) → length (bytes_of (key_messages Off t.pool.channels v p)) ≤ 18
 key_bytes t v (some p) =
-    entry_bytes (λ ch. note_messages Off ch p.note v) (λ ch. omega (arith, note_bytes Off ch p.note v)) (get_elem? t.pool.channels p.channel)
+    entry_bytes (λ ch. note_messages Off ch p.note v) (λ ch. omega (arith, note_small Off ch p.note v)) (get_elem? t.pool.channels p.channel)
 key_bytes t v none = omega arith
 
 pub release_counts : (t : Tuner) (key v : ℕ) → Counts (λ n. n) (note_off_rule t key v)
@@ -91,7 +72,7 @@ release_counts t key v =
 
 repitch_bytes : (t : Tuner) (r : Option (Place × Float)) → length (bytes_of (repitch_messages t r)) ≤ 18
 repitch_bytes t (some r) =
-    entry_bytes (λ ch. tuning_messages ch (sent_as t.kind r.1)) (λ ch. omega (arith, tuning_bytes ch (sent_as t.kind r.1))) (get_elem? t.pool.channels r.0.channel)
+    entry_bytes (λ ch. tuning_messages ch (sent_as t.kind r.1)) (λ ch. omega (arith, tuning_short ch (sent_as t.kind r.1))) (get_elem? t.pool.channels r.0.channel)
 repitch_bytes t none = omega arith
 
 repitch_effect_lem : (t : Tuner) (o : Outcome (Option (Place × Float))) → Counts (λ n. n) (repitch_effect t o)

@@ -1,4 +1,4 @@
--- How many bytes the messages of a tuner take: neither the channel nor a note's value matters. Assumes nothing.
+-- How many bytes the messages of a tuner take. Assumes nothing.
 use mathlib.Core.Path.{◌≡◌, refl, ap, ◌∙◌}
 use mathlib.Core.Option.{Option, some, none}
 use mathlib.Core.List.{List, ◌++◌}
@@ -26,55 +26,37 @@ size ms = length (bytes_of ms)
 pub size_append : (ms ns : List Message) → length (bytes_of (ms ++ ns)) ≡ length (bytes_of ms) + length (bytes_of ns)
 size_append ms ns = ap length (bytes_append ms ns) ∙ length-append (bytes_of ms) (bytes_of ns)
 
--- ---- no more than so many, so that their sums fit
+-- ---- at most so many
 
-numbered_small : (kind : NoteMessage) (ch v : ℕ) (k : Option ℕ) → size (numbered (λ k. meant ch (note_type kind k v)) k) ≤ 64
+numbered_small : (kind : NoteMessage) (ch v : ℕ) (k : Option ℕ) → size (numbered (λ k. meant ch (note_type kind k v)) k) ≤ 3
 numbered_small Off ch v (some k) = omega arith
 numbered_small On ch v (some k) = omega arith
 numbered_small Pressure ch v (some k) = omega arith
 numbered_small kind ch v none = omega arith
 
-pub note_small : (kind : NoteMessage) (ch : ℕ) (note : ℤ) (v : ℕ) → length (bytes_of (note_messages kind ch note v)) ≤ 64
+pub note_small : (kind : NoteMessage) (ch : ℕ) (note : ℤ) (v : ℕ) → length (bytes_of (note_messages kind ch note v)) ≤ 3
 note_small kind ch note v = numbered_small kind ch v (number_of note)
 
-pub stop_small : (ch : ℕ) (s : Option ℤ) (v : ℕ) → length (bytes_of (stop_messages ch s v)) ≤ 64
+pub stop_small : (ch : ℕ) (s : Option ℤ) (v : ℕ) → length (bytes_of (stop_messages ch s v)) ≤ 3
 stop_small ch none v = omega arith
 stop_small ch (some note) v = note_small Off ch note v
 
+pub tuning_short : (ch : ℕ) (t : Tuning) → length (bytes_of (tuning_messages ch t)) ≤ 12
+tuning_short ch (Fine v) = omega arith
+tuning_short ch (Bend b) = omega arith
+
 pub tuning_small : (ch : ℕ) (t : Tuning) → length (bytes_of (tuning_messages ch t)) ≤ 64
-tuning_small ch (Fine v) = omega arith
-tuning_small ch (Bend b) = omega arith
+tuning_small ch t = omega (arith, tuning_short ch t)
 
--- ---- on every channel the same
+-- ---- a tuning, on every channel and by any detuning the same
 
-numbered_size :
-    (kind : NoteMessage) (ch v : ℕ) (k : Option ℕ)
-    → size (numbered (λ k. meant ch (note_type kind k v)) k) ≡ size (numbered (λ k. meant 0 (note_type kind k 0)) k)
-numbered_size Off ch v (some k) = refl
-numbered_size On ch v (some k) = refl
-numbered_size Pressure ch v (some k) = refl
-numbered_size kind ch v none = refl
-
-pub note_size :
-    (kind : NoteMessage) (ch : ℕ) (note : ℤ) (v : ℕ)
-    → length (bytes_of (note_messages kind ch note v)) ≡ length (bytes_of (note_messages kind 0 note 0))
-note_size kind ch note v = numbered_size kind ch v (number_of note)
-
-pub stop_size : (ch : ℕ) (s : Option ℤ) (v : ℕ) → length (bytes_of (stop_messages ch s v)) ≡ length (bytes_of (stop_messages 0 s 0))
-stop_size ch none v = refl
-stop_size ch (some note) v = note_size Off ch note v
-
-pub tuning_size_lem : (ch : ℕ) (t : Tuning) → length (bytes_of (tuning_messages ch t)) ≡ length (bytes_of (tuning_messages 0 t))
-tuning_size_lem ch (Fine v) = refl
-tuning_size_lem ch (Bend b) = refl
-
--- by any detuning the same
 pub sent_size : (kind : TuningKind) (ch : ℕ) (v : Float) → length (bytes_of (tuning_messages ch (sent_as kind v))) ≡ tuning_size kind
 unfolding sent_as tuning_of tuning_size
 sent_size FineTuning ch v = refl
 sent_size Bends ch v = refl
 
--- a press takes what its parts take
+-- ---- a press takes what its parts take
+
 pub press_parts :
     (ch : ℕ) (s : Option ℤ) (t : Tuning) (note : ℤ) (v : ℕ)
     → length (bytes_of (press_messages ch s t note v))
@@ -82,11 +64,3 @@ pub press_parts :
 press_parts ch s t note v =
     size_append (stop_messages ch s v ++ tuning_messages ch t) (note_messages On ch note v)
     ∙ ap (λ (n : ℕ). n + size (note_messages On ch note v)) (size_append (stop_messages ch s v) (tuning_messages ch t))
-
-pub press_size :
-    (ch : ℕ) (s : Option ℤ) (t : Tuning) (note : ℤ) (v : ℕ)
-    → length (bytes_of (press_messages ch s t note v)) ≡ length (bytes_of (press_messages 0 s t note 0))
-press_size ch s t note v =
-    let a = press_parts ch s t note v in
-    let b = press_parts 0 s t note 0 in
-    omega (arith, stop_size ch s v, tuning_size_lem ch t, note_size On ch note v)

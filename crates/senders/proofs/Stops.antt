@@ -1,81 +1,48 @@
--- The releases that `stop` sends, as a walk over the found keys counts and writes them. Assumes nothing.
-use mathlib.Core.Path.{◌≡◌, refl, sym, ap, ◌∙◌}
-use mathlib.Core.Option.{some, none}
-use mathlib.Core.List.{List, [], ◌++◌, append_assoc, append-nil}
-use Prim.Native.Nat.{ℕ, ◌+◌, ◌≤◌}
-use native.Mathlib.Omega.{arith}
-use lib.ListN.{length, length-append}
-use Rattle.channels.specs.Lists.{first}
-use Rattle.pools.specs.Pool.{Held, held_keys}
-use Rattle.pools.proofs.HeldKeys.{next_met, next_none, walked}
+-- The releases shat `stop` sends, as a walk over the found keys puts them one behind the other. Assumes nothing.
+use Rattle.std.proofs.Common.{◌≡◌, ℕ, suc, ◌≤◌, List, [], ◌∷◌, ◌++◌, length, sym, ap, ◌∙◌, append_assoc, append-nil, arith}
+use Rattle.std.proofs.Math.Option.{Option, some, none}
+use Rattle.std.proofs.lemmas.List.{length-map}
+use Rattle.channels.specs.Places.{Place, place_of}
+use Rattle.pools.specs.Block.{state_of, state_with}
+use Rattle.pools.specs.declared.jit.JitTuningModel.{JitTuningModel}
+use Rattle.pools.specs.Pool.{State, Held, held_from, held_keys}
 use Rattle.senders.specs.Message.{Message}
 use Rattle.senders.specs.Midi.{bytes_of}
-use Rattle.senders.specs.Lent.{Put}
 use Rattle.senders.specs.Tuner.{each, key_messages}
-use Rattle.senders.specs.Jit.{Tuner}
 use Rattle.senders.specs.declared.tuner.NoteMessage.TheVariants.{Off}
-use Rattle.senders.proofs.Lent.{put_none, put_then}
+use Rattle.senders.proofs.Channels.{key_small}
 use Rattle.senders.proofs.Messages.{bytes_append}
 
-abbrev pub release : Tuner → Held → List Message
-release t h = key_messages Off t.pool.channels 0 (some h.place)
+abbrev pub release : State → Held → List Message
+release s h = key_messages Off s.channels 0 (some h.place)
 
--- the releases of the keys from a number on
-abbrev pub releases : Tuner → ℕ → List ℕ
-releases t from = bytes_of (each (release t) (held_keys t.pool from))
+-- the releases of some found keys
+abbrev pub releases : State → List Held → List ℕ
+releases s hs = bytes_of (each (release s) hs)
 
-module _ (t : Tuner) (from : ℕ) where
-  -- the next found key's release comes first
-  pub release_next :
-      (h : Held) → first (held_keys t.pool from) ≡ some h → releases t from ≡ bytes_of (release t h) ++ releases t (h.key + 1)
-  release_next h e =
-      ap (λ (l : List Held). bytes_of (each (release t) l)) (next_met t.pool from h e).left
-      ∙ bytes_append (release t h) (each (release t) (held_keys t.pool (h.key + 1)))
+module _ (s : State) (front : List ℕ) (gs : List Held) {all : List ℕ} (p : front ++ releases s gs ≡ all) where
+  -- the next release is put
+  pub release_next : (h : Held) (hs : List Held) {more : List ℕ} → gs ≡ h ∷ hs → more ≡ front ++ bytes_of (release s h) → more ++ releases s hs ≡ all
+  release_next h hs e m =
+      rw (m, append_assoc)
+      (ap (λ (l : List ℕ). front ++ l) (sym (ap (releases s) e ∙ bytes_append (release s h) (each (release s) hs))) ∙ p)
 
-  pub release_none : first (held_keys t.pool from) ≡ none → releases t from ≡ []
-  release_none e = ap (λ (l : List Held). bytes_of (each (release t) l)) (next_none t.pool from e)
+  -- the last one was put
+  pub release_last : gs ≡ [] → front ≡ all
+  release_last e = sym (append-nil front) ∙ ap (λ (l : List Held). front ++ releases s l) (sym e) ∙ p
 
-  pub release_past : length t.pool.keys ≤ from → releases t from ≡ []
-  release_past h = ap (λ (l : List Held). bytes_of (each (release t) l)) (walked t.pool from h)
+-- ---- how long they are
 
--- ---- counted
+pub release_small : (s : State) (h : Held) → length (bytes_of (release s h)) ≤ 3
+release_small s h = key_small Off s.channels h.place.channel h.place.note 0
 
-pub next_counted :
-    (t : Tuner) (from : ℕ) (h : Held) → first (held_keys t.pool from) ≡ some h
-    → length (releases t from) ≡ length (bytes_of (release t h)) + length (releases t (h.key + 1))
-next_counted t from h e = ap length (release_next t from h e) ∙ length-append (bytes_of (release t h)) (releases t (h.key + 1))
+held_some : (key : ℕ) (l : List (Option Place)) → length (held_from key l) ≤ length l
+unfolding held_from
+held_some key [] = omega arith
+held_some key (some p ∷ l) = let rest = held_some (suc key) l in omega arith
+held_some key (none ∷ l) = let rest = held_some (suc key) l in omega arith
 
--- ---- written
-
--- the releases of the keys before `from` were put into `old`, up to `at`
-pub record Passed (t : Tuner) (from at : ℕ) (old new : List ℕ) : Type 0 where
-  pub done : List ℕ
-  pub put : Put 0 done at old new
-  pub parts : releases t 0 ≡ done ++ releases t from
-  pub same : length new ≡ length old
-
-pub passed_none : (t : Tuner) (old : List ℕ) → Passed t 0 0 old old
-passed_none t old = record { done = []; put = put_none 0 old; parts = refl; same = refl }
-
-module _ (t : Tuner) (from at : ℕ) {old new : List ℕ} (p : Passed t from at old new) where
-  pub passed_room :
-      (h : Held) → first (held_keys t.pool from) ≡ some h → length (releases t 0) ≤ length old → at + length (bytes_of (release t h)) ≤ length new
-  passed_room h e r =
-      omega (arith, p.put.next_is, p.same, ap length p.parts, length-append p.done (releases t from), next_counted t from h e)
-
-  pub passed_next :
-      (h : Held) → first (held_keys t.pool from) ≡ some h → {r : ℕ} {newer : List ℕ} → Put at (bytes_of (release t h)) r new newer
-      → length newer ≡ length new → Passed t (h.key + 1) r old newer
-  passed_next h e q k =
-      record {
-        done = p.done ++ bytes_of (release t h);
-        put = put_then p.put q (omega arith);
-        parts =
-            p.parts
-            ∙ ap (λ (l : List ℕ). p.done ++ l) (release_next t from h e)
-            ∙ sym (append_assoc p.done (bytes_of (release t h)) (releases t (h.key + 1)));
-        same = k ∙ p.same;
-      }
-
-  pub passed_all : releases t from ≡ [] → Put 0 (releases t 0) at old new
-  passed_all e = rw (p.parts ∙ ap (λ (l : List ℕ). p.done ++ l) e ∙ append-nil p.done) p.put
+-- no more keys are found than there are records
+pub held_few : (m : JitTuningModel) → length (held_keys (state_of m) 0) ≤ length m.records
+unfolding held_keys state_of state_with
+held_few m = omega (arith, held_some 0 (state_of m).keys, length-map m.records place_of)

@@ -1,23 +1,36 @@
 // The pool tuner: a pool model whose presses, releases and repitches are sent as they happen. Each call decides, tests its room, writes its bytes, and only then
 // changes the tuner.
 
-ghost use Rattle.std.specs.Prelude.{◌≡◌};
+ghost use Rattle.std.specs.Prelude.{◌≡◌, ◌++◌, ◌+◌, ◌≤◌, ◌<◌, true, length, Some};
+ghost use Rattle.std.specs.Float.Ieee.Positive.{positive};
 ghost use Rattle.arithmetic.specs.Answers.{outcome, outcome_by};
 ghost use Rattle.channels.specs.ChannelList.{entries};
 ghost use Rattle.channels.specs.Places.{place};
-ghost use Rattle.channels.specs.TuningValue.{kind_of};
+ghost use Rattle.channels.specs.TuningValue.{kind_of, sent_as};
 ghost use Rattle.pools.specs.Block.{state_of};
+ghost use Rattle.pools.specs.PoolAnswers.{told, retuned, stopped_note};
 ghost use Rattle.pools.specs.Pool.{found};
-ghost use Rattle.senders.specs.Lent.{Answers, Steps};
+ghost use Rattle.senders.specs.Lent.{Answers, Steps, sent};
+ghost use Rattle.senders.specs.Midi.{bytes_of};
+ghost use Rattle.senders.specs.Tuner.{stop_messages, key_rule};
 ghost use Rattle.senders.specs.Answers.{press_answer};
-ghost use Rattle.senders.specs.Jit.{view, start_rule, Starts, note_on_rule, note_off_rule, note_pitch_rule, note_attr_rule, global_attr_rule, stop_rule};
+ghost use Rattle.senders.specs.Jit.{view, start_rule, Starts, note_on_rule, note_off_rule, note_pitch_rule, note_attr_rule, global_attr_rule, stop_rule, sound_messages, repitch_messages, release_messages};
 
-use crate::midi::ChannelMessageType;
-use channels::keys::Place;
+use crate::midi::{ChannelMessageType, RECORD_LEN, check_data};
+use crate::mts::{LONGEST_TUNING, put_tuning};
+use crate::outgoing::Outgoing;
+use crate::tuner::{NoteMessage, put_key, put_note, send_checked_key, send_checked_to_all};
+use channels::keys::{KEYS, Place};
 use channels::list::ChannelList;
-use channels::tuning_value::TuningKind;
-use channels::{Pitch, Refusal};
-use pools::jit::{JitTuningModel, PoolGroupBy, PoolingMode};
+use channels::tuning_value::{Tuning, TuningKind, tuning_of};
+use channels::{Note, Pitch, Ratio, Refusal};
+use pools::jit::{JitTuningModel, PoolGroupBy, PoolingMode, Registered, Repitched};
+
+// A note-off, a tuning, a note-on.
+const LONGEST_PRESS: usize = RECORD_LEN + LONGEST_TUNING + RECORD_LEN;
+
+// A note-off of every key.
+const LONGEST_STOP: usize = KEYS * RECORD_LEN;
 
 // A tuner of a pool model. Every content is some tuner, since it lies in the memory of programs in C.
 #[repr(C)]
@@ -40,8 +53,8 @@ impl JitTuner {
     }
 
     // A tuner of the channels of a list, in which no key is found. Refuses 6 or 7 as the channel list does; the tuner has no channels then.
-    // Example: JitTuner::open([0, 1], Bend, Stop) is channels listed 2
-    pub fn open(
+    // Example: JitTuner::start([0, 1], Bend, Stop) is channels listed 2
+    pub fn start(
         channels: &[u8],
         kind: TuningKind,
         pooling_mode: PoolingMode,
@@ -53,7 +66,8 @@ impl JitTuner {
     }
 
     // The tuner becomes one of the channels of a list, in which no key is found. Refuses 6 or 7 as the channel list does; the tuner stays then.
-    pub fn start(
+    #[tactic(auto, unfolding(pools::specs::Pool::open_rule))]
+    pub fn restart(
         &mut self,
         channels: &[u8],
         kind: TuningKind,
@@ -78,7 +92,8 @@ impl JitTuner {
     }
 
     // A press: the note-off of the note it stops, the tuning, the note-on; how many bytes were sent, or nothing where no channel is free. Refuses 8, 1, 11, 10.
-    // Example: JitTuner::open([0, 1], Bend, Stop); note_on(1, 445 Hz, 100) is e0 21 46 90 45 64
+    // Example: JitTuner::start([0, 1], Bend, Stop); note_on(1, 445 Hz, 100) is e0 21 46 90 45 64
+    // Example: JitTuner::start([0, 1], Bend, Stop); note_on(1, 440 Hz, 100) is e0 00 40 90 45 64
     pub fn note_on(
         &mut self,
         key: u8,
@@ -88,46 +103,61 @@ impl JitTuner {
     ) -> Result<Option<usize>, Refusal>
         ensures { Steps view (note_on_rule (view self.old) key pitch.hz velocity) self.old out.old (press_answer result) self.new out.new }
     {
-        unreachable!()
+        check_data(velocity)?;
+        let Some(press) = self.model.allocate_key(key, pitch)? else {
+            return Ok(None);
+        };
+        let sent = self.send_press(press, velocity, out)?;
+        let note = press.started_note.number();
+        let _ = self.model.register_note(key, note, press.detuning);
+        Ok(Some(sent))
     }
 
     // A release: the note-off of a key that is found. Refuses 8, 10.
-    // Example: JitTuner::open([0, 1], Bend, Stop); note_on(1, 440 Hz, 100); note_off(1, 64) is 80 45 40
+    // Example: JitTuner::start([0, 1], Bend, Stop); note_on(1, 440 Hz, 100); note_off(1, 64) is 80 45 40
     pub fn note_off(&mut self, key: u8, velocity: u8, out: &mut [u8]) -> Result<usize, Refusal>
         ensures { Steps view (note_off_rule (view self.old) key velocity) self.old out.old (outcome result) self.new out.new }
     {
-        unreachable!()
+        let sent = self.send_key(key, NoteMessage::Off, velocity, out)?;
+        self.model.deregister_key(key);
+        Ok(sent)
     }
 
     // The tuning of the channel of a key that is found, by the pitch. Refuses 1, and 10 where the key is found.
-    // Example: JitTuner::open([0, 1], Bend, Stop); note_on(1, 440 Hz, 100); note_pitch(1, 445 Hz) is e0 21 46
+    // Example: JitTuner::start([0, 1], Bend, Stop); note_on(1, 440 Hz, 100); note_pitch(1, 445 Hz) is e0 21 46
+    #[tactic(auto, using(pools::proofs::PoolPresses::repitch_measurable))]
     pub fn note_pitch(&self, key: u8, pitch: Pitch, out: &mut [u8]) -> Result<usize, Refusal>
         ensures { Answers (note_pitch_rule (view self.now) key pitch.hz) out.old (outcome result) out.new }
     {
-        unreachable!()
+        let Some(repitch) = self.model.repitch_key(key, pitch)? else {
+            return Ok(0);
+        };
+        self.send_tuning(repitch, out)
     }
 
     // The pressure of a key that is found. Refuses 8, 10.
     pub fn note_attr(&self, key: u8, pressure: u8, out: &mut [u8]) -> Result<usize, Refusal>
         ensures { Answers (note_attr_rule (view self.now) key pressure) out.old (outcome result) out.new }
     {
-        unreachable!()
+        self.send_key(key, NoteMessage::Pressure, pressure, out)
     }
 
     // A message to every channel, except bends of a tuner that tunes by bends. Refuses 8 from left, 9, also where nothing is sent, and 10.
-    // Example: JitTuner::open([0, 1], Bend, Stop); global_attr(ControlChange(7, 90)) is b0 07 5a b1 07 5a
+    // Example: JitTuner::start([0, 1], Bend, Stop); global_attr(ControlChange(7, 90)) is b0 07 5a b1 07 5a
     pub fn global_attr(&self, message: ChannelMessageType, out: &mut [u8]) -> Result<usize, Refusal>
         ensures { Answers (global_attr_rule (view self.now) message) out.old (outcome result) out.new }
     {
-        unreachable!()
+        send_checked_to_all(self.kind(), self.model.channels(), message, out)
     }
 
     // Every key that is found is released with velocity 0, by rising key. Refuses 10.
-    // Example: JitTuner::open([0, 1], Bend, Stop); note_on(1, 440 Hz, 100); stop() is 80 45 00
+    // Example: JitTuner::start([0, 1], Bend, Stop); note_on(1, 440 Hz, 100); stop() is 80 45 00
     pub fn stop(&mut self, out: &mut [u8]) -> Result<usize, Refusal>
         ensures { Steps view (stop_rule (view self.old)) self.old out.old (outcome result) self.new out.new }
     {
-        unreachable!()
+        let sent = self.send_releases(out)?;
+        self.model.stop();
+        Ok(sent)
     }
 
     // A lookup: where the key is found.
@@ -135,6 +165,94 @@ impl JitTuner {
         ensures { place result ≡ found (view self.now).pool key }
     {
         self.model.access_key(key)
+    }
+}
+
+// The bytes of a call, written to the buffer's start. Each refuses 10.
+impl JitTuner {
+    // A message of a key's note: nothing for a key that is not found. Refuses 8 too, also for such a key.
+    fn send_key(
+        &self,
+        key: u8,
+        kind: NoteMessage,
+        value: u8,
+        out: &mut [u8],
+    ) -> Result<usize, Refusal>
+        ensures { Answers (key_rule kind (view self.now).pool.channels value (found (view self.now).pool key)) out.old (outcome result) out.new }
+    {
+        let found = self.model.access_key(key);
+        send_checked_key(self.model.channels(), found, kind, value, out)
+    }
+
+    // A press on the channel that the model has found for it: the note-off of the stopped note with the new velocity, the tuning, the note-on.
+    #[tactic(auto, using(crate::proofs::Channels::entry_low, channels::proofs::Values::sent_in_steps, crate::proofs::Sizes::stop_small, crate::proofs::Sizes::tuning_short))]
+    fn send_press(&self, press: Registered, velocity: u8, out: &mut [u8]) -> Result<usize, Refusal>
+        requires low { velocity < 128 }
+        requires measurable { positive press.detuning ≡ true }
+        ensures { Answers (sent (bytes_of (sound_messages (view self.now) velocity (told (Some press))))) out.old (outcome result) out.new }
+    {
+        let mut outgoing = Outgoing::<LONGEST_PRESS>::none();
+        if let Some(channel) = self.model.channels().entry(press.channel) {
+            put_stopped(&mut outgoing, channel, press.stopped_note, velocity);
+            put_tuning(&mut outgoing, channel, self.tuning(press.detuning));
+            put_note(
+                &mut outgoing,
+                channel,
+                NoteMessage::On,
+                press.started_note,
+                velocity,
+            );
+        }
+        outgoing.send(out)
+    }
+
+    // The tuning of the channel of a found key.
+    #[tactic(auto, using(crate::proofs::Channels::entry_low, channels::proofs::Values::sent_in_steps))]
+    fn send_tuning(&self, repitch: Repitched, out: &mut [u8]) -> Result<usize, Refusal>
+        requires { positive repitch.detuning ≡ true }
+        ensures { Answers (sent (bytes_of (repitch_messages (view self.now) (retuned (Some repitch))))) out.old (outcome result) out.new }
+    {
+        let mut outgoing = Outgoing::<LONGEST_TUNING>::none();
+        if let Some(channel) = self.model.channels().entry(repitch.place.channel) {
+            put_tuning(&mut outgoing, channel, self.tuning(repitch.detuning));
+        }
+        outgoing.send(out)
+    }
+
+    // The releases of all found keys. By value: behind a reference the proof does not see that the model has no more than KEYS records.
+    fn send_releases(self, out: &mut [u8]) -> Result<usize, Refusal>
+        ensures { Answers (sent (bytes_of (release_messages (view self)))) out.old (outcome result) out.new }
+    {
+        let channels = self.model.channels();
+        let mut outgoing = Outgoing::<LONGEST_STOP>::none();
+        for held in self.model.held_keys() {
+            put_key(&mut outgoing, channels, held.place, NoteMessage::Off, 0);
+        }
+        outgoing.send(out)
+    }
+
+    // The tuning in which a detuning is sent that can be measured.
+    fn tuning(&self, detuning: f64) -> Tuning
+        requires { positive detuning ≡ true }
+        ensures { result ≡ sent_as (kind_of self.now.kind) detuning }
+    {
+        tuning_of(self.kind(), Ratio::from_float(detuning)).unwrap()
+    }
+}
+
+// Puts the note-off of the note that a press stops, if it stops one.
+fn put_stopped<const N: usize>(
+    outgoing: &mut Outgoing<N>,
+    channel: u8,
+    stopped: Option<Note>,
+    velocity: u8,
+)
+    requires low { (channel < 16) × (velocity < 128) }
+    requires room { length outgoing.old + RECORD_LEN ≤ N }
+    ensures { outgoing.new ≡ outgoing.old ++ bytes_of (stop_messages channel (stopped_note stopped) velocity) }
+{
+    if let Some(note) = stopped {
+        put_note(outgoing, channel, NoteMessage::Off, note, velocity);
     }
 }
 

@@ -1,14 +1,16 @@
 // The messages that tune a channel: the four controllers of a fine tuning, or a bend.
 
-ghost use Rattle.std.specs.Prelude.{◌≡◌, ◌+◌, ◌≤◌, ◌<◌, length};
-ghost use Rattle.senders.specs.Lent.{Put, Answers, sent};
+ghost use Rattle.std.specs.Prelude.{◌≡◌, ◌++◌, ◌+◌, ◌≤◌, ◌<◌, length};
+ghost use Rattle.senders.specs.Lent.{Answers};
 ghost use Rattle.arithmetic.specs.Answers.{outcome};
-ghost use Rattle.senders.specs.Midi.{bytes_of};
+ghost use Rattle.senders.specs.Message.{Valid, control};
+ghost use Rattle.senders.specs.Midi.{bytes, bytes_of};
 ghost use Rattle.channels.specs.TuningValue.{InSteps};
 ghost use Rattle.channels.specs.declared.tuning_value.TuningKind.{TuningKind};
 ghost use Rattle.senders.specs.Mts.{tuning_messages, tuning_size, channel_tuning_rule};
 
-use crate::midi::{ChannelMessageType, HIGHEST_CHANNEL, message_len, put_message};
+use crate::midi::{ChannelMessageType, HIGHEST_CHANNEL, RECORD_LEN};
+use crate::outgoing::Outgoing;
 use channels::tuning_value::{Tuning, TuningKind, tuning_of};
 use channels::{Ratio, Refusal};
 
@@ -25,6 +27,9 @@ const DATA_ENTRY_LSB: u8 = 0x26;
 const CHANNEL_FINE_TUNING_MSB: u8 = 0x00;
 
 const CHANNEL_FINE_TUNING_LSB: u8 = 0x01;
+
+// A fine tuning is longer than a bend.
+pub(crate) const LONGEST_TUNING: usize = 4 * RECORD_LEN;
 
 // Writes the fine tuning of a channel by a detuning to the buffer's start. Refuses 6, 2, 10.
 // Example: channel_fine_tuning(0, 33/32, 12 bytes) is b0 65 00 b0 64 01 b0 06 62 b0 26 0c
@@ -55,104 +60,49 @@ pub fn channel_tuning(
         return Err(Refusal::ChannelOver15);
     }
     let tuning = tuning_of(kind, detuning)?;
-    write_tuning(channel, tuning, out)
+    let mut outgoing = Outgoing::<LONGEST_TUNING>::none();
+    put_tuning(&mut outgoing, channel, tuning);
+    outgoing.send(out)
 }
 
 // How many bytes a tuning of a kind takes, on any channel and by any detuning.
+#[tactic(auto, unfolding(crate::specs::Mts::tuning_size, channels::specs::TuningValue::tuning_of))]
 pub fn channel_tuning_len(kind: TuningKind) -> usize
     ensures { result ≡ tuning_size kind }
 {
     match kind {
-        TuningKind::FineTuning => {
-            let control = message_len(ChannelMessageType::ControlChange {
-                controller: DATA_ENTRY_MSB,
-                value: 0,
-            });
-            control + control + control + control
+        TuningKind::FineTuning => 4 * RECORD_LEN,
+        TuningKind::Bend => RECORD_LEN,
+    }
+}
+
+// Puts the tuning of a channel.
+pub(crate) fn put_tuning<const N: usize>(outgoing: &mut Outgoing<N>, channel: u8, tuning: Tuning)
+    requires in_range { (channel < 16) × InSteps tuning }
+    requires room { length outgoing.old + LONGEST_TUNING ≤ N }
+    ensures { outgoing.new ≡ outgoing.old ++ bytes_of (tuning_messages channel tuning) }
+{
+    match tuning {
+        Tuning::Fine(value) => {
+            let value_msb = (value / 128) as u8;
+            let value_lsb = (value % 128) as u8;
+            put_control(outgoing, channel, RPN_MSB, CHANNEL_FINE_TUNING_MSB);
+            put_control(outgoing, channel, RPN_LSB, CHANNEL_FINE_TUNING_LSB);
+            put_control(outgoing, channel, DATA_ENTRY_MSB, value_msb);
+            put_control(outgoing, channel, DATA_ENTRY_LSB, value_lsb);
         }
-        TuningKind::Bend => message_len(ChannelMessageType::PitchBendChange { value: 0 }),
-    }
-}
-
-// Writes the tuning of a channel to the buffer's start. Refuses 10.
-pub(crate) fn write_tuning(channel: u8, tuning: Tuning, out: &mut [u8]) -> Result<usize, Refusal>
-    requires { (channel < 16) × InSteps tuning }
-    ensures { Answers (sent (bytes_of (tuning_messages channel tuning))) out.old (outcome result) out.new }
-{
-    if out.len() < tuning_len(tuning) {
-        return Err(Refusal::BufferTooShort);
-    }
-    Ok(put_tuning(out, 0, channel, tuning))
-}
-
-// How many bytes a tuning takes, on any channel.
-pub(crate) fn tuning_len(tuning: Tuning) -> usize
-    ensures { result ≡ length (bytes_of (tuning_messages 0 tuning)) }
-{
-    match tuning {
-        Tuning::Fine(_) => channel_tuning_len(TuningKind::FineTuning),
-        Tuning::Bend(_) => channel_tuning_len(TuningKind::Bend),
-    }
-}
-
-// Puts the tuning of a channel from `at` on, and answers the place behind it.
-pub(crate) fn put_tuning(out: &mut [u8], at: usize, channel: u8, tuning: Tuning) -> usize
-    requires { (channel < 16) × InSteps tuning × (at + length (bytes_of (tuning_messages channel tuning)) ≤ length out.old) }
-    ensures { Put at (bytes_of (tuning_messages channel tuning)) result out.old out.new }
-{
-    match tuning {
-        Tuning::Fine(value) => put_fine(out, at, channel, value),
         Tuning::Bend(value) => {
-            put_message(
-                out,
-                at,
-                channel,
-                ChannelMessageType::PitchBendChange { value },
-            )
+            let bend = ChannelMessageType::PitchBendChange { value };
+            outgoing.put(&bend.record(channel));
         }
     }
 }
 
-fn put_fine(out: &mut [u8], at: usize, channel: u8, value: u16) -> usize
-    requires { (channel < 16) × (value < 16384) × (at + length (bytes_of (tuning_messages channel (Tuning.Fine value))) ≤ length out.old) }
-    ensures { Put at (bytes_of (tuning_messages channel (Tuning.Fine value))) result out.old out.new }
+fn put_control<const N: usize>(outgoing: &mut Outgoing<N>, channel: u8, controller: u8, value: u8)
+    requires valid { Valid (control channel controller value) }
+    requires room { length outgoing.old + RECORD_LEN ≤ N }
+    ensures { outgoing.new ≡ outgoing.old ++ bytes (control channel controller value) }
 {
-    let value_msb = (value / 128) as u8;
-    let value_lsb = (value % 128) as u8;
-    let at = put_message(
-        out,
-        at,
-        channel,
-        ChannelMessageType::ControlChange {
-            controller: RPN_MSB,
-            value: CHANNEL_FINE_TUNING_MSB,
-        },
-    );
-    let at = put_message(
-        out,
-        at,
-        channel,
-        ChannelMessageType::ControlChange {
-            controller: RPN_LSB,
-            value: CHANNEL_FINE_TUNING_LSB,
-        },
-    );
-    let at = put_message(
-        out,
-        at,
-        channel,
-        ChannelMessageType::ControlChange {
-            controller: DATA_ENTRY_MSB,
-            value: value_msb,
-        },
-    );
-    put_message(
-        out,
-        at,
-        channel,
-        ChannelMessageType::ControlChange {
-            controller: DATA_ENTRY_LSB,
-            value: value_lsb,
-        },
-    )
+    let message = ChannelMessageType::ControlChange { controller, value };
+    outgoing.put(&message.record(channel));
 }

@@ -1,35 +1,57 @@
-// What a tuner sends on its channels: note messages, the tuning, a press, a message to all. A tuner's methods are made of these.
+// What a tuner sends on its channels: a key's note messages, and a message to all. A tuner's methods are made of these.
 
-ghost use Rattle.std.specs.Prelude.{◌≡◌, true, [], ◌∷◌, ◌+◌, ◌≤◌, ◌<◌, length};
-ghost use Rattle.std.specs.Float.Ieee.Positive.{positive};
-ghost use Rattle.senders.specs.Lent.{Put, Answers, sent};
-ghost use Rattle.arithmetic.specs.Answers.{optional, outcome};
+ghost use Rattle.std.specs.Prelude.{◌≡◌, ◌++◌, ◌+◌, ◌*◌, ◌≤◌, ◌<◌, [], ◌∷◌, length};
+ghost use Rattle.arithmetic.specs.Answers.{outcome};
+ghost use Rattle.channels.specs.ChannelList.{entries};
+ghost use Rattle.channels.specs.Places.{place};
+ghost use Rattle.senders.specs.Lent.{Answers};
 ghost use Rattle.senders.specs.Message.{Valid};
 ghost use Rattle.senders.specs.Midi.{bytes_of, meant};
-ghost use Rattle.senders.specs.Mts.{tuning_messages};
-ghost use Rattle.channels.specs.ChannelList.{entries};
-ghost use Rattle.channels.specs.TuningValue.{InSteps, sent_as};
-ghost use Rattle.channels.specs.Places.{place};
-ghost use Rattle.pools.specs.PoolAnswers.{stopped_note};
-ghost use Rattle.senders.specs.Tuner.{number_of, note_type, note_messages, stop_messages, press_messages, each, on_channel, key_messages, is_kept, to_all, key_rule, to_all_rule};
+ghost use Rattle.senders.specs.Tuner.{note_type, note_messages, each, on_channel, is_kept, key_rule, to_all_rule};
 
-use crate::midi::{ChannelMessageType, HIGHEST_DATA_BYTE, check_message, message_len, put_message};
-use crate::mts::{put_tuning, tuning_len, write_tuning};
+use crate::midi::{ChannelMessageType, RECORD_LEN, check_data};
+use crate::outgoing::Outgoing;
 use arithmetic::note::midi_number;
 use channels::keys::Place;
 use channels::list::ChannelList;
-use channels::tuning_value::{Tuning, TuningKind, tuning_of};
-use channels::{Note, Ratio, Refusal};
+use channels::tuning_value::TuningKind;
+use channels::{Note, Refusal};
+
+// A message on each of the sixteen channels.
+const LONGEST_TO_ALL: usize = 16 * RECORD_LEN;
 
 // The three messages of a note.
-#[derive(Clone, Copy)]
+#[derive(Clone, Copy, PartialEq, Eq, Debug)]
 pub enum NoteMessage {
     Off,
     On,
     Pressure,
 }
 
-// Writes a message of a key's note as `send_key` does, and tests its value. Refuses 8, also for a key that is not found, and 10.
+impl NoteMessage {
+    // The message of a key, with its velocity or pressure.
+    fn of_key(self, key: u8, value: u8) -> ChannelMessageType
+        ensures { result ≡ note_type self key value }
+    {
+        match self {
+            NoteMessage::Off => ChannelMessageType::NoteOff {
+                key,
+                velocity: value,
+            },
+            NoteMessage::On => ChannelMessageType::NoteOn {
+                key,
+                velocity: value,
+            },
+            NoteMessage::Pressure => ChannelMessageType::PolyphonicKeyPressure {
+                key,
+                pressure: value,
+            },
+        }
+    }
+}
+
+// Writes a message of a key's note on its channel to the buffer's start: nothing for a key that is not found. Refuses 8, also for such a key, and 10.
+#[tactic(auto, unfolding(channels::specs::Places::place))]
 pub fn send_checked_key(
     channels: ChannelList,
     found: Option<Place>,
@@ -39,103 +61,17 @@ pub fn send_checked_key(
 ) -> Result<usize, Refusal>
     ensures { Answers (key_rule kind (entries channels) value (place found)) out.old (outcome result) out.new }
 {
-    if HIGHEST_DATA_BYTE < value {
-        return Err(Refusal::DataByteOver127);
+    check_data(value)?;
+    let mut outgoing = Outgoing::<RECORD_LEN>::none();
+    if let Some(place) = found {
+        put_key(&mut outgoing, channels, place, kind, value);
     }
-    send_key(channels, found, kind, value, out)
+    outgoing.send(out)
 }
 
-// Writes a message of a key's note on its channel to the buffer's start: nothing for a key that is not found. Refuses 10.
-pub(crate) fn send_key(
-    channels: ChannelList,
-    found: Option<Place>,
-    kind: NoteMessage,
-    value: u8,
-    out: &mut [u8],
-) -> Result<usize, Refusal>
-    requires { value < 128 }
-    ensures { Answers (sent (bytes_of (key_messages kind (entries channels) value (place found)))) out.old (outcome result) out.new }
-{
-    let Some(place) = found else {
-        return Ok(0);
-    };
-    let (channel, note) = (place.channel, place.note.number());
-    if out.len() < key_len(channels, channel, kind, note) {
-        return Err(Refusal::BufferTooShort);
-    }
-    let end = put_key(out, 0, channels, channel, kind, note, value);
-    Ok(end)
-}
-
-// How many bytes a note's message takes on channel i of a list: none where the list is shorter.
-pub(crate) fn key_len(channels: ChannelList, i: u8, kind: NoteMessage, note: i32) -> usize
-    ensures { result ≡ length (bytes_of (on_channel (entries channels) i (λ ch. note_messages kind ch note 0))) }
-{
-    match channels.entry(i) {
-        Some(_) => note_len(kind, note),
-        None => 0,
-    }
-}
-
-// Puts a note's message on channel i of a list from `at` on, and answers the place behind it.
-pub(crate) fn put_key(
-    out: &mut [u8],
-    at: usize,
-    channels: ChannelList,
-    i: u8,
-    kind: NoteMessage,
-    note: i32,
-    value: u8,
-) -> usize
-    requires { (value < 128) × (at + length (bytes_of (on_channel (entries channels) i (λ ch. note_messages kind ch note value))) ≤ length out.old) }
-    ensures { Put at (bytes_of (on_channel (entries channels) i (λ ch. note_messages kind ch note value))) result out.old out.new }
-{
-    match channels.entry(i) {
-        Some(channel) => put_note(out, at, kind, channel, note, value),
-        None => at,
-    }
-}
-
-// Writes the tuning of channel i of a list to the buffer's start. Refuses 10.
-pub(crate) fn send_tuning(
-    channels: ChannelList,
-    i: u8,
-    tuning: Tuning,
-    out: &mut [u8],
-) -> Result<usize, Refusal>
-    requires { InSteps tuning }
-    ensures { Answers (sent (bytes_of (on_channel (entries channels) i (λ ch. tuning_messages ch tuning)))) out.old (outcome result) out.new }
-{
-    let Some(channel) = channels.entry(i) else {
-        return Ok(0);
-    };
-    write_tuning(channel, tuning, out)
-}
-
-// Writes a press on channel i of a list to the buffer's start. Refuses 10.
-pub(crate) fn send_press(
-    channels: ChannelList,
-    i: u8,
-    stopped: Option<Note>,
-    tuning: Tuning,
-    note: i32,
-    velocity: u8,
-    out: &mut [u8],
-) -> Result<usize, Refusal>
-    requires { InSteps tuning × (velocity < 128) }
-    ensures { Answers (sent (bytes_of (on_channel (entries channels) i (λ ch. press_messages ch (stopped_note stopped) tuning note velocity)))) out.old (outcome result) out.new }
-{
-    let Some(channel) = channels.entry(i) else {
-        return Ok(0);
-    };
-    if out.len() < press_len(stopped, tuning, note) {
-        return Err(Refusal::BufferTooShort);
-    }
-    let end = put_press(out, 0, channel, stopped, tuning, note, velocity);
-    Ok(end)
-}
-
-// Writes a message to every channel as `send_to_all` does, and tests it. Refuses 8 from left, 9, also where nothing is sent, and 10.
+// Writes a message to every channel of a list to the buffer's start, unless the tuner keeps such messages to itself. Refuses 8 from left, 9, also where nothing
+// is sent, and 10.
+#[tactic(auto, using(crate::proofs::Messages::checked_valid, channels::proofs::ChannelLists::entries_few))]
 pub fn send_checked_to_all(
     kind: TuningKind,
     channels: ChannelList,
@@ -144,29 +80,12 @@ pub fn send_checked_to_all(
 ) -> Result<usize, Refusal>
     ensures { Answers (to_all_rule kind (entries channels) message) out.old (outcome result) out.new }
 {
-    check_message(message)?;
-    send_to_all(kind, channels, message, out)
-}
-
-// Writes a message to every channel of a list to the buffer's start, unless the tuner keeps such messages to itself. Refuses 10.
-pub(crate) fn send_to_all(
-    kind: TuningKind,
-    channels: ChannelList,
-    message: ChannelMessageType,
-    out: &mut [u8],
-) -> Result<usize, Refusal>
-    requires { Valid (meant 0 message) }
-    ensures { Answers (sent (bytes_of (to_all kind (entries channels) message))) out.old (outcome result) out.new }
-{
-    if is_kept(kind, message) {
-        return Ok(0);
+    message.check()?;
+    let mut outgoing = Outgoing::<LONGEST_TO_ALL>::none();
+    if !is_kept(kind, message) {
+        put_to_all(&mut outgoing, channels, message);
     }
-    let count = channels.len() as usize;
-    if out.len() < count * message_len(message) {
-        return Err(Refusal::BufferTooShort);
-    }
-    let end = put_to_all(out, channels, message);
-    Ok(end)
+    outgoing.send(out)
 }
 
 // Whether a tuner keeps a message to itself: it tunes by bends, and the message is one.
@@ -176,119 +95,56 @@ fn is_kept(kind: TuningKind, message: ChannelMessageType) -> bool
     kind == TuningKind::Bend && matches!(message, ChannelMessageType::PitchBendChange { .. })
 }
 
-// Puts a message on every channel of a list, in its order, and answers the place behind.
-fn put_to_all(out: &mut [u8], channels: ChannelList, message: ChannelMessageType) -> usize
-    requires { Valid (meant 0 message) × (length (bytes_of (each (λ ch. meant ch message ∷ []) (entries channels))) ≤ length out.old) }
-    ensures { Put 0 (bytes_of (each (λ ch. meant ch message ∷ []) (entries channels))) result out.old out.new }
+// Puts a message on every channel of a list, in its order.
+fn put_to_all<const N: usize>(
+    outgoing: &mut Outgoing<N>,
+    channels: ChannelList,
+    message: ChannelMessageType,
+)
+    requires valid { Valid (meant 0 message) }
+    requires room { length outgoing.old + RECORD_LEN * length (entries channels) ≤ N }
+    ensures { outgoing.new ≡ outgoing.old ++ bytes_of (each (λ ch. meant ch message ∷ []) (entries channels)) }
 {
-    let mut at: usize = 0;
-    let mut i: u8 = 0;
-    while i < channels.len() {
-        // The list has that entry.
-        let Some(channel) = channels.entry(i) else {
-            return at;
-        };
-        at = put_message(out, at, channel, message);
-        i += 1;
-    }
-    at
-}
-
-// The tuning in which a detuning is sent that can be measured.
-pub(crate) fn sent_as(kind: TuningKind, detuning: f64) -> Tuning
-    requires { positive detuning ≡ true }
-    ensures { result ≡ sent_as kind detuning }
-{
-    tuning_of(kind, Ratio::from_float(detuning)).unwrap()
-}
-
-// How many bytes a press takes, on any channel.
-pub(crate) fn press_len(stopped: Option<Note>, tuning: Tuning, note: i32) -> usize
-    ensures { result ≡ length (bytes_of (press_messages 0 (stopped_note stopped) tuning note 0)) }
-{
-    stop_len(stopped) + tuning_len(tuning) + note_len(NoteMessage::On, note)
-}
-
-// Puts a press from `at` on, and answers the place behind it: the stopped note's note-off with the new velocity, the tuning, the note-on.
-pub(crate) fn put_press(
-    out: &mut [u8],
-    at: usize,
-    channel: u8,
-    stopped: Option<Note>,
-    tuning: Tuning,
-    note: i32,
-    velocity: u8,
-) -> usize
-    requires { (channel < 16) × InSteps tuning × (velocity < 128) × (at + length (bytes_of (press_messages channel (stopped_note stopped) tuning note velocity)) ≤ length out.old) }
-    ensures { Put at (bytes_of (press_messages channel (stopped_note stopped) tuning note velocity)) result out.old out.new }
-{
-    let at = put_stop(out, at, channel, stopped, velocity);
-    let at = put_tuning(out, at, channel, tuning);
-    put_note(out, at, NoteMessage::On, channel, note, velocity)
-}
-
-fn stop_len(stopped: Option<Note>) -> usize
-    ensures { result ≡ length (bytes_of (stop_messages 0 (stopped_note stopped) 0)) }
-{
-    match stopped {
-        None => 0,
-        Some(note) => note_len(NoteMessage::Off, note.number()),
+    for i in 0..channels.len() {
+        if let Some(channel) = channels.entry(i) {
+            outgoing.put(&message.record(channel));
+        }
     }
 }
 
-fn put_stop(out: &mut [u8], at: usize, channel: u8, stopped: Option<Note>, velocity: u8) -> usize
-    requires { (channel < 16) × (velocity < 128) × (at + length (bytes_of (stop_messages channel (stopped_note stopped) velocity)) ≤ length out.old) }
-    ensures { Put at (bytes_of (stop_messages channel (stopped_note stopped) velocity)) result out.old out.new }
-{
-    match stopped {
-        None => at,
-        Some(note) => put_note(out, at, NoteMessage::Off, channel, note.number(), velocity),
-    }
-}
-
-// How many bytes a note's message takes, on any channel: none for a note outside 0..127.
-pub(crate) fn note_len(kind: NoteMessage, note: i32) -> usize
-    ensures { result ≡ length (bytes_of (note_messages kind 0 note 0)) }
-{
-    match midi_number(note) {
-        Some(key) => message_len(note_message(kind, key, 0)),
-        None => 0,
-    }
-}
-
-// Puts a note's message, if it has one, from `at` on, and answers the place behind it. `value` is its velocity or pressure.
-pub(crate) fn put_note(
-    out: &mut [u8],
-    at: usize,
+// Puts a message of a note at its place, where the list has such a channel.
+#[tactic(auto, using(crate::proofs::Channels::entry_low))]
+pub(crate) fn put_key<const N: usize>(
+    outgoing: &mut Outgoing<N>,
+    channels: ChannelList,
+    place: Place,
     kind: NoteMessage,
-    channel: u8,
-    note: i32,
     value: u8,
-) -> usize
-    requires { (channel < 16) × (value < 128) × (at + length (bytes_of (note_messages kind channel note value)) ≤ length out.old) }
-    ensures { Put at (bytes_of (note_messages kind channel note value)) result out.old out.new }
+)
+    requires low { value < 128 }
+    requires room { length outgoing.old + RECORD_LEN ≤ N }
+    ensures { outgoing.new ≡ outgoing.old ++ bytes_of (on_channel (entries channels) place.channel (λ ch. note_messages kind ch place.note.number value)) }
 {
-    match midi_number(note) {
-        Some(key) => put_message(out, at, channel, note_message(kind, key, value)),
-        None => at,
+    if let Some(channel) = channels.entry(place.channel) {
+        put_note(outgoing, channel, kind, place.note, value);
     }
 }
 
-fn note_message(kind: NoteMessage, key: u8, value: u8) -> ChannelMessageType
-    ensures { result ≡ note_type kind key value }
+// Puts a note's message, if it has one. `value` is its velocity or pressure.
+#[tactic(auto, using(crate::proofs::Notes::number_is, crate::proofs::Notes::note_silent))]
+pub(crate) fn put_note<const N: usize>(
+    outgoing: &mut Outgoing<N>,
+    channel: u8,
+    kind: NoteMessage,
+    note: Note,
+    value: u8,
+)
+    requires low { (channel < 16) × (value < 128) }
+    requires room { length outgoing.old + RECORD_LEN ≤ N }
+    ensures { outgoing.new ≡ outgoing.old ++ bytes_of (note_messages kind channel note.number value) }
 {
-    match kind {
-        NoteMessage::Off => ChannelMessageType::NoteOff {
-            key,
-            velocity: value,
-        },
-        NoteMessage::On => ChannelMessageType::NoteOn {
-            key,
-            velocity: value,
-        },
-        NoteMessage::Pressure => ChannelMessageType::PolyphonicKeyPressure {
-            key,
-            pressure: value,
-        },
+    let number = midi_number(note.number());
+    if let Some(key) = number {
+        outgoing.put(&kind.of_key(key, value).record(channel));
     }
 }

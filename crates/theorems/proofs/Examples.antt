@@ -1,4 +1,4 @@
--- Document 01's twelve examples, joined in one theorem over one list, about the rules that the contracts cite; and the messages of the console's
+-- Twelve examples, joined in one theorem over one list, about the rules that the contracts cite; and the messages of the console's
 -- sample. Assumes nothing.
 use mathlib.Core.Path.{◌≡◌, refl}
 use mathlib.Core.List.{List, [], ◌∷◌}

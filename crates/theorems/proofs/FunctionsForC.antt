@@ -1,5 +1,5 @@
--- Demand 1 of the interface for C: each function ends in what it does or in a refusal whose number document 01 allows it, and a refused one leaves its
--- block and its buffer as they were.
+-- The interface for C: each function ends in what it does or in a refusal whose number it is allowed, and a refused one leaves its block and its buffer as
+-- they were.
 use Prim.Native.Nat.{ℕ, ◌<◌}
 use mathlib.Core.Path.{◌≡◌, refl, sym, ap, ◌∙◌}
 use mathlib.Core.Bool.{true, not, ◌&&◌}
@@ -32,7 +32,9 @@ use Rattle.senders.specs.Lent.{Effect, fitted, told, Moved, left}
 use Rattle.senders.specs.Midi.{message_rule}
 use Rattle.senders.specs.Mts.{channel_tuning_rule}
 use Rattle.senders.specs.Jit as Jit
+use Rattle.senders.specs.declared.jit.JitTuner.{JitTuner}
 use Rattle.plan_tuner.specs.Aot as Aot
+use Rattle.plan_tuner.specs.declared.aot.AotTuner.{AotTuner}
 use Rattle.capi.specs.Answers.{of_sent, of_press, of_list, of_plan, of_plan_sent, of_registered, of_repitched, of_nearest, of_pitch, of_measure, of_tuning}
 use Rattle.capi.specs.Entry.{EntryMeets}
 use Rattle.capi.specs.declared.answer.Answer.{Answer}
@@ -56,12 +58,10 @@ module _ (ns : List ℕ) where
   among_told (refused n) h = h
 
   sent_ends : {S : Type 0} (f : Outcome (Effect ℕ S)) → Among ns f → Ends ns (of_sent (told f)).outcome (of_sent (told f)).refusal
-  unfolding of_sent
   sent_ends (value e) h = done 0 (omega arith)
   sent_ends (refused n) h = refuses n h
 
   pressed_ends : (o : Outcome Jit.Pressed) → Among ns o → Ends ns (of_press o).outcome (of_press o).refusal
-  unfolding of_press
   pressed_ends (value (Jit.sounds n)) h = done 0 (omega arith)
   pressed_ends (value Jit.rejects) h = done 2 (omega arith)
   pressed_ends (refused n) h = refuses n h
@@ -70,7 +70,6 @@ module _ (ns : List ℕ) where
   press_ends f h = pressed_ends (told f) (among_told f h)
 
   planned_ends : (o : Outcome Aot.Planned) → Among ns o → Ends ns (of_plan_sent o).outcome (of_plan_sent o).refusal
-  unfolding of_plan_sent
   planned_ends (value (Aot.tunes n bytes)) h = done 0 (omega arith)
   planned_ends (value (Aot.cannot n)) h = done 1 (omega arith)
   planned_ends (refused n) h = refuses n h
@@ -79,39 +78,32 @@ module _ (ns : List ℕ) where
   plan_sent_ends f h = planned_ends (told f) (among_told f h)
 
   list_ends : (o : Outcome (List ℕ)) → Among ns o → Ends ns (of_list o).outcome (of_list o).refusal
-  unfolding of_list
   list_ends (value cs) h = done 0 (omega arith)
   list_ends (refused n) h = refuses n h
 
   registered_ends : (o : Outcome Press) → Among ns o → Ends ns (of_registered o).outcome (of_registered o).refusal
-  unfolding of_registered
   registered_ends (value (accepted c s note d)) h = done 0 (omega arith)
   registered_ends (value rejected) h = done 2 (omega arith)
   registered_ends (refused n) h = refuses n h
 
   repitched_ends : (o : Outcome (Option (Place × Float))) → Among ns o → Ends ns (of_repitched o).outcome (of_repitched o).refusal
-  unfolding of_repitched
   repitched_ends (value (some r)) h = done 0 (omega arith)
   repitched_ends (value none) h = done 3 (omega arith)
   repitched_ends (refused n) h = refuses n h
 
   nearest_ends : (o : Outcome (ℤ × Float)) → Among ns o → Ends ns (of_nearest o).outcome (of_nearest o).refusal
-  unfolding of_nearest
   nearest_ends (value r) h = done 0 (omega arith)
   nearest_ends (refused n) h = refuses n h
 
   pitch_ends : (o : Outcome Float) → Among ns o → Ends ns (of_pitch o).outcome (of_pitch o).refusal
-  unfolding of_pitch
   pitch_ends (value hz) h = done 0 (omega arith)
   pitch_ends (refused n) h = refuses n h
 
   measure_ends : (o : Outcome ℤ) → Among ns o → Ends ns (of_measure o).outcome (of_measure o).refusal
-  unfolding of_measure
   measure_ends (value l) h = done 0 (omega arith)
   measure_ends (refused n) h = refuses n h
 
   tuning_ends : (o : Outcome Tuning) → Among ns o → Ends ns (of_tuning o).outcome (of_tuning o).refusal
-  unfolding of_tuning
   tuning_ends (value (Fine v)) h = done 0 (omega arith)
   tuning_ends (value (Bend v)) h = done 0 (omega arith)
   tuning_ends (refused n) h = refuses n h
@@ -124,7 +116,6 @@ module _ (ns : List ℕ) where
   plan_ends :
       (m : M.Model) (lines : Outcome (List Line)) → ((n : ℕ) → lines ≡ refused n → T (member n ns))
       → Ends (ns ++ []) (of_plan (M.planned m lines).1).outcome (of_plan (M.planned m lines).1).refusal
-  unfolding of_plan
   plan_ends m lines h = by (M.planned m lines).1 refl
     where
       by : (a : M.Answer) → (M.planned m lines).1 ≡ a → Ends (ns ++ []) (of_plan a).outcome (of_plan a).refusal
@@ -171,7 +162,7 @@ demand1 (note_pitch note) = pitch_ends _ _ (among_test (allowed (note_pitch note
 demand1 (measure d) = measure_ends _ _ (among_test (allowed (measure d)) 2 (positive d) _ refl tt)
 demand1 (tuning_value kind d) = tuning_ends _ _ (among_test (allowed (tuning_value kind d)) 2 (positive d) _ refl tt)
 
--- The numbers are document 01's, from 1 to 13.
+-- The numbers are those of refusals, from 1 to 13.
 pub numbers_known : (f : Function) → Each (λ (n : ℕ). leb 1 n && leb n 13 ≡ true) (allowed f)
 numbers_known (call c room) = D.numbers_known c
 numbers_known (pool_model_open cs by mode) = (refl, (refl, tt))
@@ -203,40 +194,37 @@ refused_untouched
 
 -- which is so of each of the three
 pub sent_below : (n : ℕ) → (of_sent (value n)).outcome < 4
-unfolding of_sent
 sent_below n = omega arith
 
 pub press_below : (r : Jit.Pressed) → (of_press (value r)).outcome < 4
-unfolding of_press
 press_below (Jit.sounds n) = omega arith
 press_below Jit.rejects = omega arith
 
 pub plan_below : (r : Aot.Planned) → (of_plan_sent (value r)).outcome < 4
-unfolding of_plan_sent
 plan_below (Aot.tunes n bytes) = omega arith
 plan_below (Aot.cannot n) = omega arith
 
 -- of those that open a block
-pub pool_open_untouched : (o : Outcome (List ℕ)) (t : Jit.Tuner) (old new : List ℕ) → Jit.Starts o t old new → (of_list o).outcome ≡ 4 → new ≡ old
-unfolding of_list
+pub pool_open_untouched : (o : Outcome (List ℕ)) (t : Jit.Tuner) (old new : JitTuner) → Jit.Starts o t old new → (of_list o).outcome ≡ 4 → new ≡ old
 pool_open_untouched (value cs) t old new p h = absurd (omega (arith, h))
 pool_open_untouched (refused n) t old new p h = p
 
-pub plan_open_untouched : (o : Outcome (List ℕ)) (t : Aot.Tuner) (old new : List ℕ) → Aot.Starts o t old new → (of_list o).outcome ≡ 4 → new ≡ old
-unfolding of_list
+pub plan_open_untouched : (o : Outcome (List ℕ)) (t : Aot.Tuner) (old new : AotTuner) → Aot.Starts o t old new → (of_list o).outcome ≡ 4 → new ≡ old
 plan_open_untouched (value cs) t old new p h = absurd (omega (arith, h))
 plan_open_untouched (refused n) t old new p h = p
 
--- of a press of a pool model, and of a tuning of a plan model
+-- of a press of a pool model, and of a tuning of a plan model: the model and the kind beside it are the whole block
 pub register_untouched :
-    (s : State) (rule : Outcome (Press × State)) (old new : List ℕ) → Moves rule old new → (of_registered (replied s rule).0).outcome ≡ 4 → new ≡ old
-unfolding of_registered replied
-register_untouched s (value (accepted c stopped note d, next)) old new p h = absurd (omega (arith, h))
-register_untouched s (value (rejected, next)) old new p h = absurd (omega (arith, h))
-register_untouched s (refused n) old new p h = p
+    (s : State) (rule : Outcome (Press × State)) (old new : JitTuner) → Moves rule old.model new.model → new.kind ≡ old.kind
+    → (of_registered (replied s rule).0).outcome ≡ 4 → new ≡ old
+unfolding replied
+register_untouched s (value (accepted c stopped note d, next)) old new p k h = absurd (omega (arith, h))
+register_untouched s (value (rejected, next)) old new p k h = absurd (omega (arith, h))
+register_untouched s (refused n) old new p k h = rw (p, k)
 
-pub tuning_untouched : (rule : M.Model × M.Answer) (old new : List ℕ) → M.Tunes rule old new rule.1 → (of_plan rule.1).outcome ≡ 4 → new ≡ old
-unfolding of_plan
-tuning_untouched (m, M.tuned n) old new p h = absurd (omega (arith, h))
-tuning_untouched (m, M.untuned n) old new p h = absurd (omega (arith, h))
-tuning_untouched (m, M.refused n) old new p h = p.2
+pub tuning_untouched :
+    (rule : M.Model × M.Answer) (old new : AotTuner) → M.Tunes rule old.model new.model rule.1 → new.kind ≡ old.kind → (of_plan rule.1).outcome ≡ 4
+    → new ≡ old
+tuning_untouched (m, M.tuned n) old new p k h = absurd (omega (arith, h))
+tuning_untouched (m, M.untuned n) old new p k h = absurd (omega (arith, h))
+tuning_untouched (m, M.refused n) old new p k h = rw (p.1, k)

@@ -1,4 +1,4 @@
--- Plans: refusals, entries, and the plan key by key. Demand 3, which contracts cite, stands in Demand3 of `models`.
+-- Plans: refusals, entries, and the plan key by key. That no placing needs fewer channels, which contracts cite, stands in Demand3 of `plans`.
 pub mod Refusals
 pub mod Entries
 pub mod PlannedKeys

@@ -1,3 +1,3 @@
--- Demand 1 of the tuners and of messages.
+-- Refusals of the tuners and of messages.
 pub mod Refusals
 pub mod Demand1

@@ -1,4 +1,4 @@
--- The bounds of document 01, as orders between powers: of the nearest note, of the factors of note pitches, and of the values that are sent.
+-- Bounds, as orders between powers: of the nearest note, of the factors of note pitches, and of the values that are sent.
 -- Assumes nothing.
 use Rattle.std.specs.Prelude.{ℕ, ◌*◌, ◌^◌, ◌≤◌, ◌<◌, ◌+◌, ◌-◌, zero, suc, ℤ, pos, ◌+ℤ◌, ◌-ℤ◌, ◌*ℤ◌, negsuc, Float, ◌⊎◌}
 use Rattle.std.proofs.Math.IntN.{suc_ℤ}

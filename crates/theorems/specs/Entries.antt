@@ -1,5 +1,5 @@
--- Demand 1 of the tuners and of messages: each call that can be refused, with the numbers that document 01 allows it, in the order of the tests. The
--- lookups and `tuned` cannot be refused. Assumes nothing.
+-- The tuners and messages: each call that can be refused, with the numbers that it is allowed, in the order of the tests. The lookups and `tuned` cannot be
+-- refused. Assumes nothing.
 use Rattle.std.specs.Prelude.{List, [], ◌∷◌, ℕ, ℤ, Float}
 use Rattle.channels.specs.Outcome.{Outcome}
 use Rattle.channels.specs.declared.tuning_value.TuningKind.{TuningKind}

@@ -1,6 +1,5 @@
--- Demand 1 of the interface for C: each function that can be refused, with what its contract says it answers in the fields `outcome` and `refusal`, and
--- the numbers that document 01 allows it, in the order of the tests. Lookups, releases of a model, detunings of a plan and the seven makers of messages
--- cannot be refused.
+-- The interface for C: each function that can be refused, with what its contract says it answers in the fields `outcome` and `refusal`, and the numbers that
+-- it is allowed, in the order of the tests. Lookups, releases of a model, detunings of a plan and the seven makers of messages cannot be refused.
 use Rattle.std.specs.Prelude.{ℕ, List, [], ◌∷◌, ℤ, Float}
 use Rattle.arithmetic.specs.Nearest.{nearest_rule}
 use Rattle.arithmetic.specs.Pitch.{pitch_rule}

@@ -1,5 +1,5 @@
--- The grammar of the console's lines (document 01, "The console program"): "kind (`on`, `off`, `bend`), key, millihertz (at most 9 digits), velocity,
--- all decimal, parted by commas". It is written without the parser. Assumes nothing.
+-- The grammar of the console's lines: kind (`on`, `off`, `bend`), key, millihertz (at most 9 digits), velocity, all decimal, parted by commas. It is written
+-- without the parser. Assumes nothing.
 use Rattle.std.specs.Prelude.{ℕ, ◌≤◌, ◌≡◌, true, List, ◌∷◌, ◌++◌, length}
 use Rattle.lines.specs.Split.{comma}
 use Rattle.lines.specs.declared.line.Kind.{Kind}

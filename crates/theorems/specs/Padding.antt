@@ -1,5 +1,4 @@
--- The byte 00 behind messages of kinds C and D, which document 01 has and the Specification has not. This page is about our bytes: the reader
--- knows nothing of it. Assumes nothing.
+-- The byte 00 behind messages of kinds C and D, which we send and the Specification has not. This page is about our bytes: the reader knows nothing of it. Assumes nothing.
 use Rattle.std.specs.Prelude.{cond, List, [], ◌∷◌, ◌++◌, ℕ, ◌/◌}
 use Rattle.senders.specs.Message.{Message, note_off, note_on, key_pressure, control, program, channel_pressure, bend}
 use Rattle.theorems.specs.Reader.{has_one}

@@ -1,5 +1,5 @@
--- What a reader that follows the Specification makes of the bytes of messages, whatever it read before: with the padding of document 01's records
--- as it stands, and with the padding dropped. Assumes nothing.
+-- What a reader that follows the Specification makes of the bytes of messages, whatever it read before: with the padding of our records as it
+-- stands, and with the padding dropped. Assumes nothing.
 use mathlib.Core.Path.{◌≡◌, refl, sym, ap, ◌∙◌}
 use mathlib.Core.List.{List, [], ◌∷◌, ◌++◌, append-nil}
 use Prim.Native.Nat.{ℕ}

@@ -1,4 +1,4 @@
--- The nearest note: document 01's bound, and the range of the notes that pitches have.
+-- The nearest note: its bound, and the range of the notes that pitches have.
 use mathlib.Core.Path.{refl, subst}
 use Prim.Native.Nat.{◌^◌}
 use native.Mathlib.Omega.{arith}
@@ -40,7 +40,7 @@ nearest_law v h =
 pub nearest_range : (x : Float) → T (is_pitch x) → (negsuc 275 ≤ℤ nearest_note x) × (nearest_note x ≤ℤ pos 444)
 nearest_range x h = let r = nearest_parts x h in between_parts 444 275 (nearest_note x) r.0 r.1
 
--- document 01's bound: with d = note - 69, v is less than 5001 / 10000 of a semitone from d semitones
+-- the bound: with d = note - 69, v is less than 5001 / 10000 of a semitone from d semitones
 pub nearest_bound : (x : Float) → T (is_pitch x) → NearestBound (nearest_note x -ℤ pos 69) (over_a4 x)
 unfolding nearest_note
 nearest_bound x h =

@@ -1,4 +1,4 @@
--- The pitches of notes: the twelve factors are the ones that document 01 asks for and no others, and every octave pitch is exact.
+-- The pitches of notes: the twelve factors are the nearest f64 of the powers and no others, and every octave pitch is exact.
 use mathlib.Core.Path.{◌≡◌, refl, sym, ap, ◌∙◌}
 use mathlib.Core.Bool.{Bool, true, false, ◌&&◌}
 use Prim.Native.Nat.{ℕ, ◌+◌, ◌-◌, ◌*◌, ◌^◌, ◌<◌}
@@ -50,7 +50,7 @@ all_right : T (all right 12)
 unfolding right significands
 all_right = tt
 
--- the twelve numbers are what document 01 asks, and no others are
+-- the twelve numbers are significands of the factors, and no others are
 pub significand_rule : (k : ℕ) → k < 12 → IsSignificand k (get_or significands k 0)
 unfolding right
 significand_rule k h =

@@ -1,4 +1,4 @@
--- Document 01's examples 9 and 10, computed from the rules that the contracts cite. Assumes nothing.
+-- Two plans, computed from the rules that the contracts cite. Assumes nothing.
 use mathlib.Core.Path.{◌≡◌, refl}
 use mathlib.Core.Bool.{false}
 use mathlib.Core.List.{List, [], ◌∷◌, map}

@@ -1,4 +1,4 @@
--- Demand 1 of plans: which numbers each entry can refuse with, at which line and by which test, and that a refused call leaves the model as it was.
+-- Refusals of plans: which numbers each entry can refuse with, at which line and by which test, and that a refused call leaves the model as it was.
 -- Assumes nothing.
 use mathlib.Core.Path.{◌≡◌, refl, sym, ap, ◌∙◌, subst}
 use mathlib.Core.Logic.{◌⊎◌, inl, inr}

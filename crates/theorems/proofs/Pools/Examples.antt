@@ -1,4 +1,4 @@
--- Document 01's examples 11 and 12, over the rules of the calls, for any pitches. Assumes nothing.
+-- Two examples over the rules of the calls, for any pitches. Assumes nothing.
 use Prim.Native.Nat.{ℕ}
 use mathlib.Core.Path.{◌≡◌, refl, ap, ◌∙◌}
 use mathlib.Core.Bool.{true}

@@ -1,4 +1,4 @@
--- Demand 1 for pools: which numbers each entry gives, exactly when, and in document 01's order; a refusal hands the state back as it was.
+-- Refusals of pools: which numbers each entry gives, exactly when, and in which order; a refusal hands the state back as it was.
 -- A release, a lookup, the next key and `stop` have no refusal. Assumes nothing.
 use Prim.Native.Nat.{ℕ}
 use mathlib.Core.Path.{◌≡◌, refl, ap}

@@ -4,13 +4,13 @@ use mathlib.Core.Path.{◌≡◌, refl, sym, ap, subst, ◌∙◌}
 use mathlib.Core.Bool.{Bool, true, false, cond}
 use mathlib.Core.Option.{Option, some, none}
 use mathlib.Core.List.{List, [], ◌∷◌, ◌++◌}
-use Prim.Native.Nat.{ℕ, zero, suc, ◌+◌, ◌<◌}
+use Prim.Native.Nat.{ℕ, zero, suc, ◌<◌}
 use native.Mathlib.Nat.{zero-add}
 use native.Mathlib.Omega.{arith}
 use lib.Dec.{eqb, eqb→eq, leb}
 use lib.IntN.{pos}
 use lib.Ieee.{Float}
-use lib.ListN.{length, get_or, take, drop, get_elem?}
+use lib.ListN.{length, take, drop, get_elem?}
 use lib.Seq.{take_at}
 use borrow.Author.Tests.{eq-eqb}
 use Rattle.channels.specs.Outcome.{Outcome, value, refused}
@@ -20,8 +20,7 @@ use Rattle.plans.specs.Line.{Line}
 use Rattle.channels.specs.Refusal.{buffer_too_short}
 use Rattle.plans.specs.Walk.{count}
 use Rattle.plans.specs.Plan as M
-use Rattle.plans.specs.Plan.{Model, plan_at, planned, open_rule}
-use Rattle.plans.specs.PlanBlock.{plan_settings, list_at}
+use Rattle.plans.specs.Plan.{Model, plan_of, planned, open_rule}
 use Rattle.channels.specs.TuningValue.{sent_as}
 use Rattle.channels.specs.declared.list.ChannelList.{ChannelList}
 use Rattle.channels.specs.declared.tuning_value.TuningKind.{TuningKind}
@@ -33,7 +32,7 @@ use Rattle.senders.specs.Lent.{Effect, fitted, Moved, Steps, written}
 use Rattle.senders.specs.Message.{Message}
 use Rattle.senders.specs.Midi.{bytes_of}
 use Rattle.senders.specs.Tuner.{each}
-use Rattle.plan_tuner.specs.Aot.{Tuner, tuner, with_plan, Planned, tunes, channel_messages, plan_messages, plan_effect, start_rule}
+use Rattle.plan_tuner.specs.Aot.{Tuner, view, with_plan, Planned, tunes, channel_messages, plan_messages, plan_effect, start_rule}
 use Rattle.theorems.specs.Reader.{State, read}
 use Rattle.theorems.specs.Receiver.{Channel, Receiver, Other, hear_all, hear_bytes}
 use Rattle.theorems.specs.ExpectedEffect.{tuned, in_turn, channel_meant, plan_meant}
@@ -58,35 +57,27 @@ module _ (other : Other) (kind : TuningKind) (l : ChannelList) where
       (sym e)
       (conveys_each other (λ i. channel_messages kind (entries l) i (m.detunings i (pos 0))) (λ i. channel_meant kind (entries l) i (m.detunings i (pos 0))) (upward 0 m.num_channels) (λ i. channel_conveyed i (m.detunings i (pos 0))))
 
--- the channel list of a block
-abbrev pub list_of : List ℕ → ChannelList
-list_of l = record { digits = get_or l (plan_settings + 1) 0; count = get_or l plan_settings 0 }
-
-list_of_lem : (l : List ℕ) → (plan_at l).channels ≡ entries (list_of l)
-unfolding entries list_at
-list_of_lem l = refl
-
 module _ (other : Other) (st : State) (r : Receiver) (t : Tuner) (o : Model × M.Answer) {s back : AotTuner} {old new : List ℕ} {n w : ℕ}
-    (call : Steps tuner (plan_effect t o) s old (value (tunes n w)) back new) where
+    (call : Steps view (plan_effect t o) s old (value (tunes n w)) back new) where
   -- what was sent was the tunings of the plan that the tuner now has
   record Sent : Type 0 where
-    kind_is : t.kind ≡ (tuner back).kind
-    starts : take w new ≡ bytes_of (plan_messages (tuner back).kind (tuner back).plan)
+    kind_is : t.kind ≡ (view back).kind
+    starts : take w new ≡ bytes_of (plan_messages (view back).kind (view back).plan)
 
   sent_plan : Sent
   sent_plan = by o call
     where
-      by : (o : Model × M.Answer) → Steps tuner (plan_effect t o) s old (value (tunes n w)) back new → Sent
+      by : (o : Model × M.Answer) → Steps view (plan_effect t o) s old (value (tunes n w)) back new → Sent
       by (m, M.tuned k) p =
           let a = accepted p in
           let bs : List ℕ = bytes_of (plan_messages t.kind m) in
           let e : Effect Planned Tuner = record { says = tunes k (length bs); bytes = bs; next = with_plan t m } in
           let same : e ≡ a.effect = cc in
-          let next : tuner back ≡ with_plan t m = a.next_is ∙ sym (ap (λ (x : Effect Planned Tuner). x.next) same) in
+          let next : view back ≡ with_plan t m = a.next_is ∙ sym (ap (λ (x : Effect Planned Tuner). x.next) same) in
           let says : tunes n w ≡ tunes k (length bs) = a.answer_is ∙ sym (ap (λ (x : Effect Planned Tuner). x.says) same) in
           let long : w ≡ length bs = cc in
-          let kinds : (tuner back).kind ≡ t.kind = ap (λ (x : Tuner). x.kind) next in
-          let models : (tuner back).plan ≡ m = ap (λ (x : Tuner). x.plan) next in
+          let kinds : (view back).kind ≡ t.kind = ap (λ (x : Tuner). x.kind) next in
+          let models : (view back).plan ≡ m = ap (λ (x : Tuner). x.plan) next in
           record {
             kind_is = sym kinds;
             starts =
@@ -94,7 +85,7 @@ module _ (other : Other) (st : State) (r : Receiver) (t : Tuner) (o : Model × M
                 ∙ ap (λ (x : Effect Planned Tuner). take w (written x.bytes old)) (sym same)
                 ∙ take_at bs (drop (length bs) old) w (sym long)
                 ∙ ap (λ (x : TuningKind). bytes_of (plan_messages x m)) (sym kinds)
-                ∙ ap (λ (x : Model). bytes_of (plan_messages (tuner back).kind x)) (sym models);
+                ∙ ap (λ (x : Model). bytes_of (plan_messages (view back).kind x)) (sym models);
           }
       by (m, M.untuned k) p =
           let a = accepted p in
@@ -105,15 +96,16 @@ module _ (other : Other) (st : State) (r : Receiver) (t : Tuner) (o : Model × M
           let z : ◌≡◌ {A = ℕ} 0 1 = cc in
           absurd (omega arith)
 
-  conveyed : Conveys other (plan_messages (tuner back).kind (tuner back).plan) (plan_meant (tuner back).kind (tuner back).plan)
-  conveyed = plan_conveyed other (tuner back).kind (list_of back.cells) (tuner back).plan (list_of_lem back.cells)
+  conveyed : Conveys other (plan_messages (view back).kind (view back).plan) (plan_meant (view back).kind (view back).plan)
+  unfolding plan_of
+  conveyed = plan_conveyed other (view back).kind back.model.channels (view back).plan refl
 
   -- After a tuned answer a reader finds the tunings of the plan's channels.
-  pub plan_read : read st (take w new) ≡ plan_messages (tuner back).kind (tuner back).plan
-  plan_read = ap (read st) sent_plan.starts ∙ read_plain st (plan_messages (tuner back).kind (tuner back).plan) conveyed.plain
+  pub plan_read : read st (take w new) ≡ plan_messages (view back).kind (view back).plan
+  plan_read = ap (read st) sent_plan.starts ∙ read_plain st (plan_messages (view back).kind (view back).plan) conveyed.plain
 
   -- And a receiver has them.
-  pub plan_received : hear_bytes other st (take w new) r ≡ plan_meant (tuner back).kind (tuner back).plan r
+  pub plan_received : hear_bytes other st (take w new) r ≡ plan_meant (view back).kind (view back).plan r
   plan_received = ap (λ (x : List Message). hear_all other x r) plan_read ∙ conveyed.heard r
 
 -- ---- channel by channel
@@ -236,45 +228,45 @@ planned_kept m (value lines) = by (leb (count m.group_by lines) (length m.channe
 -- A tuning, of whatever lists and however it ends, leaves the channels.
 pub channels_kept :
     (s back : AotTuner) (lines : Outcome (List Line)) {old new : List ℕ} {answer : Outcome Planned}
-    → Steps tuner (plan_effect (tuner s) (planned (tuner s).plan lines)) s old answer back new → (tuner back).plan.channels ≡ (tuner s).plan.channels
-channels_kept s back lines {old} p = by (planned (tuner s).plan lines) (planned_kept (tuner s).plan lines).0 p.moved_is
+    → Steps view (plan_effect (view s) (planned (view s).plan lines)) s old answer back new → (view back).plan.channels ≡ (view s).plan.channels
+channels_kept s back lines {old} p = by (planned (view s).plan lines) (planned_kept (view s).plan lines).0 p.moved_is
   where
     at :
-        (e : Effect Planned Tuner) → e.next.plan.channels ≡ (tuner s).plan.channels → (b : Bool) → Moved tuner (cond b (value e) (refused buffer_too_short)) s back
-        → (tuner back).plan.channels ≡ (tuner s).plan.channels
+        (e : Effect Planned Tuner) → e.next.plan.channels ≡ (view s).plan.channels → (b : Bool) → Moved view (cond b (value e) (refused buffer_too_short)) s back
+        → (view back).plan.channels ≡ (view s).plan.channels
     at e q true h = ap (λ (x : Tuner). x.plan.channels) h ∙ q
-    at e q false h = ap (λ (x : AotTuner). (tuner x).plan.channels) h
+    at e q false h = ap (λ (x : AotTuner). (view x).plan.channels) h
 
     by :
-        (o : Model × M.Answer) → o.0.channels ≡ (tuner s).plan.channels → Moved tuner (fitted (length old) (plan_effect (tuner s) o)) s back
-        → (tuner back).plan.channels ≡ (tuner s).plan.channels
-    by (m, M.tuned n) q h = at _ q (leb (length (bytes_of (plan_messages (tuner s).kind m))) (length old)) h
+        (o : Model × M.Answer) → o.0.channels ≡ (view s).plan.channels → Moved view (fitted (length old) (plan_effect (view s) o)) s back
+        → (view back).plan.channels ≡ (view s).plan.channels
+    by (m, M.tuned n) q h = at _ q (leb (length (bytes_of (plan_messages (view s).kind m))) (length old)) h
     by (m, M.untuned n) q h = at _ q (leb 0 (length old)) h
-    by (m, M.refused n) q h = ap (λ (x : AotTuner). (tuner x).plan.channels) h
+    by (m, M.refused n) q h = ap (λ (x : AotTuner). (view x).plan.channels) h
 
 pub tuned_sound :
     (s back : AotTuner) (lines : Outcome (List Line)) {old new : List ℕ} {answer : Outcome Planned}
-    → Steps tuner (plan_effect (tuner s) (planned (tuner s).plan lines)) s old answer back new → Sound (tuner s) → Sound (tuner back)
+    → Steps view (plan_effect (view s) (planned (view s).plan lines)) s old answer back new → Sound (view s) → Sound (view back)
 tuned_sound s back lines p f = subst (Channels []) (sym (channels_kept s back lines p)) f
 
 -- ---- what a plan comes to
 
 module _ (other : Other) (st : State) (r : Receiver) (t : Tuner) (o : Model × M.Answer) {s back : AotTuner} {old new : List ℕ} {n w : ℕ}
-    (call : Steps tuner (plan_effect t o) s old (value (tunes n w)) back new) (ch : ℕ) where
+    (call : Steps view (plan_effect t o) s old (value (tunes n w)) back new) (ch : ℕ) where
   -- After a tuned answer each channel of the plan is tuned by its detuning, from whatever it was.
   pub plan_tunes :
-      Sound (tuner back) → (i : ℕ) (d : Float) → i < (tuner back).plan.num_channels → get_elem? (tuner back).plan.channels i ≡ some ch
-      → (tuner back).plan.detunings i (pos 0) ≡ some d → hear_bytes other st (take w new) r ch ≡ tuned (sent_as (tuner back).kind d) (r ch)
+      Sound (view back) → (i : ℕ) (d : Float) → i < (view back).plan.num_channels → get_elem? (view back).plan.channels i ≡ some ch
+      → (view back).plan.detunings i (pos 0) ≡ some d → hear_bytes other st (take w new) r ch ≡ tuned (sent_as (view back).kind d) (r ch)
   plan_tunes f i d h e q =
-      let m = (tuner back).plan in
+      let m = (view back).plan in
       ap (λ (x : Receiver). x ch) (plan_received other st r t o call)
-      ∙ touched (tuner back).kind m.channels (λ j. m.detunings j (pos 0)) ch m.num_channels i d r h e q (λ j g. only_place [] m.channels ch i j f e g)
+      ∙ touched (view back).kind m.channels (λ j. m.detunings j (pos 0)) ch m.num_channels i d r h e q (λ j g. only_place [] m.channels ch i j f e g)
 
   -- Every other channel is as it was.
   pub plan_spares :
-      ((i : ℕ) → i < (tuner back).plan.num_channels → get_elem? (tuner back).plan.channels i ≡ some ch → ⊥)
+      ((i : ℕ) → i < (view back).plan.num_channels → get_elem? (view back).plan.channels i ≡ some ch → ⊥)
       → hear_bytes other st (take w new) r ch ≡ r ch
   plan_spares h =
-      let m = (tuner back).plan in
+      let m = (view back).plan in
       ap (λ (x : Receiver). x ch) (plan_received other st r t o call)
-      ∙ untouched (tuner back).kind m.channels (λ j. m.detunings j (pos 0)) ch m.num_channels r h
+      ∙ untouched (view back).kind m.channels (λ j. m.detunings j (pos 0)) ch m.num_channels r h

@@ -3,34 +3,30 @@
 use mathlib.Core.Path.{◌≡◌, refl, sym, ap, subst, ◌∙◌}
 use mathlib.Core.Bool.{Bool, true, false, cond}
 use mathlib.Core.Option.{Option, some, none}
-use mathlib.Core.List.{List, [], ◌∷◌, ◌++◌, map}
-use Prim.Native.Nat.{ℕ, zero, suc, ◌<◌, ◌≤◌, min}
+use mathlib.Core.List.{List, [], ◌∷◌, ◌++◌}
+use Prim.Native.Nat.{ℕ, zero, suc, ◌<◌}
 use native.Mathlib.Omega.{arith}
 use lib.Dec.{ltb, eqb}
 use lib.IntN.{ℤ, pos, negsuc}
 use lib.Ieee.{Float}
-use lib.ListN.{length, take, drop, get_or, get_elem?, length-take, length-map}
+use lib.ListN.{length, take, drop, get_or, get_elem?}
 use lib.Seq.{take_at}
 use borrow.Author.Tests.{lt-ltb, ltb-true, eq-eqb}
 use Rattle.arithmetic.specs.Nearest.{nearest_note}
 use Rattle.arithmetic.specs.Pitch.{detuning_of}
 use Rattle.channels.specs.Outcome.{Outcome, value}
-use Rattle.channels.specs.Places.{Place, channel_of}
+use Rattle.channels.specs.Places.{Place}
 use Rattle.pools.specs.Pool.{State as Pools, Held, accepted, found, register_rule, repitch_rule, held_from, held_keys}
 use Rattle.channels.specs.TuningValue.{sent_as}
 use Rattle.theorems.specs.Bounds.{value_of, StepBound}
-use Rattle.channels.specs.ChannelList.{entries}
-use Rattle.pools.specs.Block.{settings, queue_of, queue_at, channels_at, state_of, state_with}
-use Rattle.channels.specs.declared.list.ChannelList.{ChannelList}
-use Rattle.channels.proofs.ChannelLists.{number, Low, digits_number}
+use Rattle.pools.specs.Block.{state_of, state_with}
 use Rattle.theorems.proofs.Pools.Pitches.{press_pitch, press_law}
 use Rattle.channels.proofs.Values.{sent_in_steps}
 use Rattle.senders.specs.Lent.{Effect, sent, Steps, Answers, written}
 use Rattle.senders.specs.Message.{Message}
 use Rattle.senders.specs.Midi.{bytes_of}
-use Rattle.senders.specs.Mts.{tuning_messages}
 use Rattle.senders.specs.Tuner.{key_messages, on_channel, press_messages}
-use Rattle.senders.specs.Jit.{Tuner, tuner, with_pool, Pressed, sounds, note_on_rule, note_off_rule, note_pitch_rule, repitch_messages, release_messages, stop_rule}
+use Rattle.senders.specs.Jit.{Tuner, view, with_pool, Pressed, sounds, note_on_rule, note_off_rule, note_pitch_rule, repitch_messages, release_messages, stop_rule}
 use Rattle.theorems.specs.Reader.{State, read}
 use Rattle.theorems.specs.Receiver.{Channel, Receiver, Other, with_note, hear_all, hear_bytes}
 use Rattle.theorems.specs.ExpectedEffect.{tuned, noted, pressed, on_listed, key_meant, in_turn, value_in}
@@ -42,35 +38,6 @@ use Rattle.theorems.proofs.Receiver.Conveyed.{Conveys, conveys_none, conveys_eac
 use Rattle.theorems.proofs.Bytes.Accepted.{accepted as done}
 use Rattle.senders.proofs.Messages.{test_held}
 use Rattle.theorems.proofs.Receiver.Received.{pressed_value}
-
--- ---- the channels of a block are those of some channel list
-
-queue_few : (l : List ℕ) → length l ≤ 17 → length (queue_of l) ≤ 16
-unfolding queue_of
-queue_few [] h = omega arith
-queue_few (n ∷ xs) h = omega (arith, length-take n xs)
-
-channels_few : (l : List ℕ) → length (channels_at l) ≤ 16
-unfolding channels_at queue_at
-channels_few l = omega (arith, length-map (queue_of (take 17 (drop settings l))) channel_of, queue_few (take 17 (drop settings l)) (omega (arith, length-take 17 (drop settings l))))
-
-remainders_low : (l : List ℕ) → Low (map channel_of l)
-remainders_low [] i h = absurd (omega arith)
-remainders_low (x ∷ l) zero h = omega arith
-remainders_low (x ∷ l) (suc i) h = remainders_low l i (omega arith)
-
-channels_low : (l : List ℕ) → Low (channels_at l)
-unfolding channels_at
-channels_low l = remainders_low (queue_at l settings)
-
-list_of : List ℕ → ChannelList
-list_of l = record { digits = number (channels_at l); count = length (channels_at l) }
-
-list_of_lem : (l : List ℕ) → entries (list_of l) ≡ (state_of l).channels
-unfolding entries state_of state_with list_of
-list_of_lem l =
-    let all : min (length (channels_at l)) 16 ≡ length (channels_at l) = omega (arith, channels_few l) in
-    rw all (digits_number (channels_at l) (channels_low l))
 
 -- what a press says it wrote stands at the buffer's start
 pub sounding_starts :
@@ -89,104 +56,101 @@ sounding_starts {bs = bs} {old = old} {new = new} {n = n} e p =
 
 module _ (other : Other) (st : State) (r : Receiver) (self : JitTuner) where
   abbrev channels : List ℕ
-  channels = (tuner self).pool.channels
+  channels = (view self).pool.channels
 
   module _ {back : JitTuner} {old new : List ℕ} {n : ℕ} where
     -- An accepted press: a reader finds its messages; the stopped note is off, the channel tuned, and the new note on.
     module _
         (key : ℕ) (hz : Float) (v : ℕ) {i : ℕ} {stopped : Option ℤ} {note : ℤ} {d : Float} {u : Pools}
-        (e : register_rule (tuner self).pool key hz ≡ value (accepted i stopped note d, u))
-        (p : Steps tuner (note_on_rule (tuner self) key hz v) self old (value (sounds n)) back new) where
+        (e : register_rule (view self).pool key hz ≡ value (accepted i stopped note d, u))
+        (p : Steps view (note_on_rule (view self) key hz v) self old (value (sounds n)) back new) where
       abbrev press_sent : List Message
-      press_sent = on_channel channels i (λ ch. press_messages ch stopped (sent_as (tuner self).kind d) note v)
+      press_sent = on_channel channels i (λ ch. press_messages ch stopped (sent_as (view self).kind d) note v)
 
       low : v < 128
       low = ltb-true v 128 (test_held 8 (ltb v 128) _ (done p).rule_is).0
 
-      press_conveyed : Conveys other press_sent (on_listed (get_elem? channels i) (pressed stopped (sent_as (tuner self).kind d) note v))
-      press_conveyed =
-          subst (λ (cs : List ℕ). Conveys other (on_channel cs i (λ ch. press_messages ch stopped (sent_as (tuner self).kind d) note v)) (on_listed (get_elem? cs i) (pressed stopped (sent_as (tuner self).kind d) note v))) (list_of_lem self.cells)
-          (conveys_press other (list_of self.cells) i stopped (sent_as (tuner self).kind d) note v (sent_in_steps (tuner self).kind d) low)
+      press_conveyed : Conveys other press_sent (on_listed (get_elem? channels i) (pressed stopped (sent_as (view self).kind d) note v))
+      unfolding state_of state_with
+      press_conveyed = conveys_press other self.model.channels i stopped (sent_as (view self).kind d) note v (sent_in_steps (view self).kind d) low
 
       pub press_read : read st (take n new) ≡ press_sent
       press_read =
           let starts : take n new ≡ bytes_of press_sent =
-          sounding_starts {next = with_pool (tuner self) u} {bs = bytes_of press_sent} (press_sent_lem (tuner self) key hz v low e) p in
+          sounding_starts {next = with_pool (view self) u} {bs = bytes_of press_sent} (press_sent_lem (view self) key hz v low e) p in
           ap (read st) starts ∙ read_plain st press_sent press_conveyed.plain
 
-      pub press_received : hear_bytes other st (take n new) r ≡ on_listed (get_elem? channels i) (pressed stopped (sent_as (tuner self).kind d) note v) r
+      pub press_received : hear_bytes other st (take n new) r ≡ on_listed (get_elem? channels i) (pressed stopped (sent_as (view self).kind d) note v) r
       press_received = ap (λ (l : List Message). hear_all other l r) press_read ∙ press_conveyed.heard r
 
       -- An accepted press is heard at its pitch: its note is the nearest one, and the channel has the value of the pitch's detuning from that note,
       -- unclamped and within the bound of its kind.
       pub press_near :
           (ch : ℕ) → get_elem? channels i ≡ some ch
-          → (note ≡ nearest_note hz) × (d ≡ detuning_of hz note) × StepBound (tuner self).kind (value_in (tuner self).kind (hear_bytes other st (take n new) r ch)) d
+          → (note ≡ nearest_note hz) × (d ≡ detuning_of hz note) × StepBound (view self).kind (value_in (view self).kind (hear_bytes other st (take n new) r ch)) d
       press_near ch f =
-          let made = press_pitch (tuner self).pool key hz e in
-          let value_is : value_in (tuner self).kind (hear_bytes other st (take n new) r ch) ≡ value_of (sent_as (tuner self).kind d) =
-          ap (λ (q : Receiver). value_in (tuner self).kind (q ch)) press_received ∙ rw (f, eq-eqb ch ch refl) (pressed_value (tuner self).kind d stopped note v (r ch)) in
-          (made.1, made.2, subst (λ (k : ℤ). StepBound (tuner self).kind k d) (sym value_is) (press_law (tuner self).pool key hz e (tuner self).kind))
+          let made = press_pitch (view self).pool key hz e in
+          let value_is : value_in (view self).kind (hear_bytes other st (take n new) r ch) ≡ value_of (sent_as (view self).kind d) =
+          ap (λ (q : Receiver). value_in (view self).kind (q ch)) press_received ∙ rw (f, eq-eqb ch ch refl) (pressed_value (view self).kind d stopped note v (r ch)) in
+          (made.1, made.2, subst (λ (k : ℤ). StepBound (view self).kind k d) (sym value_is) (press_law (view self).pool key hz e (view self).kind))
 
     -- A release: a reader finds its message; the key's note is off.
-    module _ (key v : ℕ) (p : Steps tuner (note_off_rule (tuner self) key v) self old (value n) back new) where
+    module _ (key v : ℕ) (p : Steps view (note_off_rule (view self) key v) self old (value n) back new) where
       abbrev release_sent : List Message
-      release_sent = key_messages Off channels v (found (tuner self).pool key)
+      release_sent = key_messages Off channels v (found (view self).pool key)
 
       release_low : v < 128
       release_low = ltb-true v 128 (test_held 8 (ltb v 128) _ (done p).rule_is).0
 
-      release_conveyed : Conveys other release_sent (key_meant Off channels v (found (tuner self).pool key))
-      release_conveyed =
-          subst (λ (cs : List ℕ). Conveys other (key_messages Off cs v (found (tuner self).pool key)) (key_meant Off cs v (found (tuner self).pool key))) (list_of_lem self.cells)
-          (conveys_key other (list_of self.cells) Off v (found (tuner self).pool key) release_low)
+      release_conveyed : Conveys other release_sent (key_meant Off channels v (found (view self).pool key))
+      unfolding state_of state_with
+      release_conveyed = conveys_key other self.model.channels Off v (found (view self).pool key) release_low
 
       pub release_read : read st (take n new) ≡ release_sent
-      release_read = sent_read_plain st release_sent (release_sent_lem (tuner self) key v release_low) p release_conveyed.plain
+      release_read = sent_read_plain st release_sent (release_sent_lem (view self) key v release_low) p release_conveyed.plain
 
-      pub release_received : hear_bytes other st (take n new) r ≡ key_meant Off channels v (found (tuner self).pool key) r
-      release_received = sent_conveyed other st release_sent r release_conveyed (release_sent_lem (tuner self) key v release_low) p
+      pub release_received : hear_bytes other st (take n new) r ≡ key_meant Off channels v (found (view self).pool key) r
+      release_received = sent_conveyed other st release_sent r release_conveyed (release_sent_lem (view self) key v release_low) p
 
     -- `stop`: a reader finds a release with velocity 0 for every key that was found, by rising key, and so a receiver hears it.
-    module _ (p : Steps tuner (stop_rule (tuner self)) self old (value n) back new) where
-      stop_conveyed : Conveys other (release_messages (tuner self)) (in_turn (λ (h : Held). key_meant Off channels 0 (some h.place)) (held_keys (tuner self).pool 0))
-      stop_conveyed = conveys_each other (λ (h : Held). key_messages Off channels 0 (some h.place)) (λ (h : Held). key_meant Off channels 0 (some h.place)) (held_keys (tuner self).pool 0) (λ h.
-          subst (λ (cs : List ℕ). Conveys other (key_messages Off cs 0 (some h.place)) (key_meant Off cs 0 (some h.place))) (list_of_lem self.cells)
-          (conveys_key other (list_of self.cells) Off 0 (some h.place) (omega arith)))
+    module _ (p : Steps view (stop_rule (view self)) self old (value n) back new) where
+      stop_conveyed : Conveys other (release_messages (view self)) (in_turn (λ (h : Held). key_meant Off channels 0 (some h.place)) (held_keys (view self).pool 0))
+      unfolding state_of state_with
+      stop_conveyed = conveys_each other (λ (h : Held). key_messages Off channels 0 (some h.place)) (λ (h : Held). key_meant Off channels 0 (some h.place)) (held_keys (view self).pool 0) (λ h.
+          conveys_key other self.model.channels Off 0 (some h.place) (omega arith))
 
-      pub stop_read : read st (take n new) ≡ release_messages (tuner self)
-      stop_read = sent_read_plain st (release_messages (tuner self)) refl p stop_conveyed.plain
+      pub stop_read : read st (take n new) ≡ release_messages (view self)
+      stop_read = sent_read_plain st (release_messages (view self)) refl p stop_conveyed.plain
 
-      pub stop_received : hear_bytes other st (take n new) r ≡ in_turn (λ (h : Held). key_meant Off channels 0 (some h.place)) (held_keys (tuner self).pool 0) r
-      stop_received = sent_conveyed other st (release_messages (tuner self)) r stop_conveyed refl p
+      pub stop_received : hear_bytes other st (take n new) r ≡ in_turn (λ (h : Held). key_meant Off channels 0 (some h.place)) (held_keys (view self).pool 0) r
+      stop_received = sent_conveyed other st (release_messages (view self)) r stop_conveyed refl p
 
   module _ {old new : List ℕ} {n : ℕ} where
     -- A repitch of a found key: a reader finds the tuning, and the key's channel is tuned; that of an unknown key changes nothing.
     module _
-        (key : ℕ) (hz : Float) (p : Place) (d : Float) (e : repitch_rule (tuner self).pool key hz ≡ value (some (p, d)))
-        (a : Answers (note_pitch_rule (tuner self) key hz) old (value n) new) where
+        (key : ℕ) (hz : Float) (p : Place) (d : Float) (e : repitch_rule (view self).pool key hz ≡ value (some (p, d)))
+        (a : Answers (note_pitch_rule (view self) key hz) old (value n) new) where
       abbrev repitch_sent : List Message
-      repitch_sent = repitch_messages (tuner self) (some (p, d))
+      repitch_sent = repitch_messages (view self) (some (p, d))
 
-      repitch_conveyed : Conveys other repitch_sent (on_listed (get_elem? channels p.channel) (tuned (sent_as (tuner self).kind d)))
-      repitch_conveyed =
-          subst (λ (cs : List ℕ). Conveys other (on_channel cs p.channel (λ ch. tuning_messages ch (sent_as (tuner self).kind d))) (on_listed (get_elem? cs p.channel) (tuned (sent_as (tuner self).kind d)))) (list_of_lem self.cells)
-          (conveys_tuning other (list_of self.cells) p.channel (sent_as (tuner self).kind d) (sent_in_steps (tuner self).kind d))
+      repitch_conveyed : Conveys other repitch_sent (on_listed (get_elem? channels p.channel) (tuned (sent_as (view self).kind d)))
+      unfolding state_of state_with
+      repitch_conveyed = conveys_tuning other self.model.channels p.channel (sent_as (view self).kind d) (sent_in_steps (view self).kind d)
 
-      sent_repitch : note_pitch_rule (tuner self) key hz ≡ sent (bytes_of repitch_sent)
+      sent_repitch : note_pitch_rule (view self) key hz ≡ sent (bytes_of repitch_sent)
       sent_repitch = rw e
 
       pub repitch_read : read st (take n new) ≡ repitch_sent
       repitch_read = sent_read_plain st repitch_sent sent_repitch a repitch_conveyed.plain
 
-      pub repitch_received : hear_bytes other st (take n new) r ≡ on_listed (get_elem? channels p.channel) (tuned (sent_as (tuner self).kind d)) r
+      pub repitch_received : hear_bytes other st (take n new) r ≡ on_listed (get_elem? channels p.channel) (tuned (sent_as (view self).kind d)) r
       repitch_received = sent_conveyed other st repitch_sent r repitch_conveyed sent_repitch a
 
     pub repitch_unknown :
-        (key : ℕ) (hz : Float) → repitch_rule (tuner self).pool key hz ≡ value none → Answers (note_pitch_rule (tuner self) key hz) old (value n) new
+        (key : ℕ) (hz : Float) → repitch_rule (view self).pool key hz ≡ value none → Answers (note_pitch_rule (view self) key hz) old (value n) new
         → hear_bytes other st (take n new) r ≡ r
     repitch_unknown key hz e a =
-        let s : note_pitch_rule (tuner self) key hz ≡ sent [] = rw e in
+        let s : note_pitch_rule (view self) key hz ≡ sent [] = rw e in
         sent_conveyed other st [] r (conveys_none other) s a
 
 -- ---- what `stop` comes to: silence
@@ -263,12 +227,12 @@ within (none ∷ l) from (suc key) p e =
 -- After `stop` the note of every key that was found is off on the key's channel.
 pub stop_silences :
     (other : Other) (st : State) (r : Receiver) (self back : JitTuner) {old new : List ℕ} {n : ℕ}
-    → Steps tuner (stop_rule (tuner self)) self old (value n) back new → (key : ℕ) (p : Place) (c k : ℕ) → found (tuner self).pool key ≡ some p
-    → get_elem? (tuner self).pool.channels p.channel ≡ some c → p.note ≡ pos k → k < 128 → (hear_bytes other st (take n new) r c).sounds k ≡ false
+    → Steps view (stop_rule (view self)) self old (value n) back new → (key : ℕ) (p : Place) (c k : ℕ) → found (view self).pool key ≡ some p
+    → get_elem? (view self).pool.channels p.channel ≡ some c → p.note ≡ pos k → k < 128 → (hear_bytes other st (take n new) r c).sounds k ≡ false
 unfolding found held_keys
 stop_silences other st r self back {n = n} s key p c k f e note low =
-    let w = within (tuner self).pool.keys 0 key p f in
-    let chs = (tuner self).pool.channels in
+    let w = within (view self).pool.keys 0 key p f in
+    let chs = (view self).pool.channels in
     ap (λ (q : Receiver). (q c).sounds k) (stop_received other st r self {back = back} s)
     ∙ ap (λ (hs : List Held). (hushed chs hs r c).sounds k) w.parts
     ∙ hushed_off chs w.before w.behind w.held c k r (rw w.place_is e) (rw w.place_is note) low

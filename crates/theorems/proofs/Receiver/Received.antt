@@ -70,7 +70,7 @@ pub tuning_shift : (t : Tuning) (x : Channel) → shift t (tuned t x) ≡ steps 
 tuning_shift (Fine v) x = refl
 tuning_shift (Bend b) x = refl
 
--- An octave is 98304 steps of fine tuning, and 49152 of bend at the usual two semitones: the factors of document 01's values.
+-- An octave is 98304 steps of fine tuning, and 49152 of bend at the usual two semitones: the factors of the values that are sent.
 pub octave_of_fine : (x : Channel) → fine_shift (with_fine (8192 + 98304) x) ≡ pos (1200 * 8192)
 octave_of_fine x = refl
 

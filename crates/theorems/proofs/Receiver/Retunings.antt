@@ -12,13 +12,12 @@ use lib.IntN.{ℤ, pos}
 use lib.Ieee.{Float}
 use lib.ListN.{length, take, get_elem?}
 use Rattle.channels.specs.Outcome.{Outcome, value, refused}
-use Rattle.channels.specs.ChannelList.{entries, list_rule, present}
-use Rattle.plans.specs.PlanBlock.{list_at}
+use Rattle.channels.specs.ChannelList.{list_rule, present}
 use Rattle.channels.specs.Lists.{Each}
 use Rattle.plans.specs.Line.{Line, group}
 use Rattle.channels.specs.Places.{Place}
 use Rattle.plans.specs.Plan as M
-use Rattle.plans.specs.Plan.{Model, planned, open_rule}
+use Rattle.plans.specs.Plan.{Model, plan_of, planned, open_rule}
 use Rattle.plans.specs.PlanInternal.{Accepted}
 use Rattle.plans.specs.PlanLists.{pitch_lists}
 use Rattle.channels.specs.TuningValue.{sent_as}
@@ -35,7 +34,7 @@ use Rattle.theorems.proofs.Plans.PlannedKeys.{planned_keys}
 use Rattle.theorems.proofs.Plans.Pitches.{pitches_law}
 use Rattle.senders.specs.Lent.{Effect, fitted, Steps, Answers, settled}
 use Rattle.senders.specs.Midi.{bytes_of}
-use Rattle.plan_tuner.specs.Aot.{Tuner, tuner, with_plan, Planned, tunes, plan_messages, plan_effect, start_rule, set_tuning_of_pitches_rule, found, placed, note_on_rule}
+use Rattle.plan_tuner.specs.Aot.{Tuner, view, with_plan, Planned, tunes, plan_messages, plan_effect, start_rule, set_tuning_of_pitches_rule, found, placed, note_on_rule}
 use Rattle.theorems.specs.Reader.{State}
 use Rattle.theorems.specs.Receiver.{Receiver, Other, hear_bytes}
 use Rattle.theorems.specs.ExpectedEffect.{tuned, note_meant, key_meant, value_in}
@@ -47,7 +46,7 @@ use Rattle.theorems.proofs.Bytes.Accepted.{accepted}
 use Rattle.senders.proofs.Lent.{handed_back}
 use Rattle.theorems.proofs.Receiver.PoolTunerCalls.{listed}
 use Rattle.theorems.proofs.Receiver.Received.{tuned_value}
-use Rattle.theorems.proofs.Receiver.PlanTuner.{Sound, started_sound, planned_kept, plan_tunes, list_of}
+use Rattle.theorems.proofs.Receiver.PlanTuner.{Sound, started_sound, planned_kept, plan_tunes}
 
 -- ---- what no tuning alters
 
@@ -124,9 +123,9 @@ more t (d ∷ cs) c = more (after t d) cs c
 
 -- The tuner that a tuning hands back, however it ends, is again one that tunings led to.
 pub goes_on :
-    (channels : List ℕ) (kind : TuningKind) (calls : List Call) (s back : AotTuner) → tuner s ≡ reached channels kind calls → (lists : Lists)
-    {old new : List ℕ} {answer : Outcome Planned} → Steps tuner (tune_rule (tuner s) lists) s old answer back new
-    → tuner back ≡ reached channels kind (calls ++ (tune lists (length old) ∷ []))
+    (channels : List ℕ) (kind : TuningKind) (calls : List Call) (s back : AotTuner) → view s ≡ reached channels kind calls → (lists : Lists)
+    {old new : List ℕ} {answer : Outcome Planned} → Steps view (tune_rule (view s) lists) s old answer back new
+    → view back ≡ reached channels kind (calls ++ (tune lists (length old) ∷ []))
 unfolding after
 goes_on channels kind calls s back is lists {old} call =
     handed_back call
@@ -144,24 +143,24 @@ record Result (s back : Tuner) (n : ℕ) (o : Outcome (List Line)) : Type 0 wher
 
 result :
     (s back : AotTuner) (o : Outcome (List Line)) {old new : List ℕ} {n w : ℕ}
-    → Steps tuner (plan_effect (tuner s) (planned (tuner s).plan o)) s old (value (tunes n w)) back new → Result (tuner s) (tuner back) n o
+    → Steps view (plan_effect (view s) (planned (view s).plan o)) s old (value (tunes n w)) back new → Result (view s) (view back) n o
 unfolding planned
 result s back (refused k) call =
     let a = accepted call in
     let z : ◌≡◌ {A = ℕ} 0 1 = cc in
     absurd (omega arith)
-result s back (value lines) {old} {new} {n} {w} call = by (planned (tuner s).plan (value lines)) refl call
+result s back (value lines) {old} {new} {n} {w} call = by (planned (view s).plan (value lines)) refl call
   where
     by :
-        (r : Model × M.Answer) → planned (tuner s).plan (value lines) ≡ r → Steps tuner (plan_effect (tuner s) r) s old (value (tunes n w)) back new
-        → Result (tuner s) (tuner back) n (value lines)
+        (r : Model × M.Answer) → planned (view s).plan (value lines) ≡ r → Steps view (plan_effect (view s) r) s old (value (tunes n w)) back new
+        → Result (view s) (view back) n (value lines)
     by (m, M.tuned k) e p =
         let a = accepted p in
-        let bs : List ℕ = bytes_of (plan_messages (tuner s).kind m) in
-        let f : Effect Planned Tuner = record { says = tunes k (length bs); bytes = bs; next = with_plan (tuner s) m } in
+        let bs : List ℕ = bytes_of (plan_messages (view s).kind m) in
+        let f : Effect Planned Tuner = record { says = tunes k (length bs); bytes = bs; next = with_plan (view s) m } in
         let same : f ≡ a.effect = cc in
         let says : tunes n w ≡ tunes k (length bs) = a.answer_is ∙ sym (ap (λ (x : Effect Planned Tuner). x.says) same) in
-        let next : tuner back ≡ with_plan (tuner s) m = a.next_is ∙ sym (ap (λ (x : Effect Planned Tuner). x.next) same) in
+        let next : view back ≡ with_plan (view s) m = a.next_is ∙ sym (ap (λ (x : Effect Planned Tuner). x.next) same) in
         let count : k ≡ n = cc in
         record {
           lines = lines;
@@ -205,43 +204,43 @@ pub record KeyTuned (channels : List ℕ) (kind : TuningKind) (back : Tuner) (by
       → hear_bytes other st (take w new) (hear_bytes other before bytes r) on.midi ≡ note_meant On l.note v (tuned (sent_as kind on.detuning) (r on.midi))
 
 module _
-    (channels : List ℕ) (kind : TuningKind) (calls : List Call) (s back : AotTuner) (is : tuner s ≡ reached channels kind calls) (lists : Lists)
-    {old new : List ℕ} {n w : ℕ} (call : Steps tuner (tune_rule (tuner s) lists) s old (value (tunes n w)) back new) where
-  next : tuner back ≡ reached channels kind (calls ++ (tune lists (length old) ∷ []))
+    (channels : List ℕ) (kind : TuningKind) (calls : List Call) (s back : AotTuner) (is : view s ≡ reached channels kind calls) (lists : Lists)
+    {old new : List ℕ} {n w : ℕ} (call : Steps view (tune_rule (view s) lists) s old (value (tunes n w)) back new) where
+  next : view back ≡ reached channels kind (calls ++ (tune lists (length old) ∷ []))
   next = goes_on channels kind calls s back is lists call
 
-  kind_is : (tuner back).kind ≡ kind
+  kind_is : (view back).kind ≡ kind
   kind_is = ap (λ (t : Tuner). t.kind) next ∙ reached_kind channels kind (calls ++ (tune lists (length old) ∷ []))
 
-  channels_is : (tuner back).plan.channels ≡ present (list_rule channels)
+  channels_is : (view back).plan.channels ≡ present (list_rule channels)
   channels_is = ap (λ (t : Tuner). t.plan.channels) next ∙ reached_channels channels kind (calls ++ (tune lists (length old) ∷ []))
 
-  sound : Sound (tuner back)
+  sound : Sound (view back)
   sound = subst Sound (sym next) (reached_sound channels kind (calls ++ (tune lists (length old) ∷ [])))
 
-  by_lines : Steps tuner (plan_effect (tuner s) (planned (tuner s).plan (lines_of lists))) s old (value (tunes n w)) back new
-  by_lines = subst (λ (o : Outcome (Effect Planned Tuner)). Steps tuner o s old (value (tunes n w)) back new) (rule_is (tuner s) lists) call
+  by_lines : Steps view (plan_effect (view s) (planned (view s).plan (lines_of lists))) s old (value (tunes n w)) back new
+  by_lines = subst (λ (o : Outcome (Effect Planned Tuner)). Steps view o s old (value (tunes n w)) back new) (rule_is (view s) lists) call
 
   module _ (ok : Typed lists) where
-    got : Result (tuner s) (tuner back) n (lines_of lists)
+    got : Result (view s) (view back) n (lines_of lists)
     got = result s back (lines_of lists) by_lines
 
     lines_ok : Accepted got.lines
     lines_ok = lists_accepted lists got.lines ok got.lines_is
 
-    groups : (tuner s).plan.group_by ≡ Channel
+    groups : (view s).plan.group_by ≡ Channel
     groups = ap (λ (t : Tuner). t.plan.group_by) is ∙ reached_groups channels kind calls
 
-    facts : ((planned (tuner s).plan (value got.lines)).0.num_channels ≡ n) × (n ≤ length (tuner s).plan.channels) × Each (Placed (planned (tuner s).plan (value got.lines)).0 got.lines n) got.lines
-    facts = planned_keys (tuner s).plan got.lines lines_ok n got.answer_is
+    facts : ((planned (view s).plan (value got.lines)).0.num_channels ≡ n) × (n ≤ length (view s).plan.channels) × Each (Placed (planned (view s).plan (value got.lines)).0 got.lines n) got.lines
+    facts = planned_keys (view s).plan got.lines lines_ok n got.answer_is
 
     few : n ≤ length (present (list_rule channels))
     few = subst (λ (l : List ℕ). n ≤ length l) (ap (λ (t : Tuner). t.plan.channels) is ∙ reached_channels channels kind calls) facts.1
 
-    tuned_by : (i : ℕ) → i < n → (d : Float) → (tuner back).plan.detunings i (pos 0) ≡ some d → ChannelTuned (present (list_rule channels)) kind (tuner back) (take w new) i
+    tuned_by : (i : ℕ) → i < n → (d : Float) → (view back).plan.detunings i (pos 0) ≡ some d → ChannelTuned (present (list_rule channels)) kind (view back) (take w new) i
     tuned_by i h d e =
         let at = listed (present (list_rule channels)) i (omega (arith, few)) in
-        let count : (tuner back).plan.num_channels ≡ n = ap (λ (m : Model). m.num_channels) got.plan_is ∙ facts.0 in
+        let count : (view back).plan.num_channels ≡ n = ap (λ (m : Model). m.num_channels) got.plan_is ∙ facts.0 in
         record {
           midi = at.0;
           listed_is = at.1;
@@ -249,7 +248,7 @@ module _
           entered = e;
           heard =
               λ other st r.
-              plan_tunes other st r (tuner s) (planned (tuner s).plan (lines_of lists)) by_lines at.0 sound i d
+              plan_tunes other st r (view s) (planned (view s).plan (lines_of lists)) by_lines at.0 sound i d
               (subst (λ (k : ℕ). i < k) (sym count) h)
               (subst (λ (l : List ℕ). get_elem? l i ≡ some at.0) (sym channels_is) at.1)
               e
@@ -257,41 +256,41 @@ module _
         }
 
     -- After a tuned answer of n channels, on a tuner that any tunings have led to, each of the n is tuned by the plan's detuning of it.
-    pub channels_tuned : (i : ℕ) → i < n → ChannelTuned (present (list_rule channels)) kind (tuner back) (take w new) i
-    channels_tuned i h = by ((tuner back).plan.detunings i (pos 0)) refl
+    pub channels_tuned : (i : ℕ) → i < n → ChannelTuned (present (list_rule channels)) kind (view back) (take w new) i
+    channels_tuned i h = by ((view back).plan.detunings i (pos 0)) refl
       where
-        by : (o : Option Float) → (tuner back).plan.detunings i (pos 0) ≡ o → ChannelTuned (present (list_rule channels)) kind (tuner back) (take w new) i
+        by : (o : Option Float) → (view back).plan.detunings i (pos 0) ≡ o → ChannelTuned (present (list_rule channels)) kind (view back) (take w new) i
         by (some d) e = tuned_by i h d e
         by none e =
             absurd
-            ((tuned_channels (tuner s).plan got.lines lines_ok groups n got.answer_is).0 i h
+            ((tuned_channels (view s).plan got.lines lines_ok groups n got.answer_is).0 i h
             (ap (λ (m : Model). m.detunings i (pos 0)) (sym got.plan_is) ∙ e))
 
     sounding :
-        (l : Line) (i midi : ℕ) (d : Float) → found (tuner back) l.key ≡ some (record { channel = i; note = l.note }) → get_elem? (present (list_rule channels)) i ≡ some midi
+        (l : Line) (i midi : ℕ) (d : Float) → found (view back) l.key ≡ some (record { channel = i; note = l.note }) → get_elem? (present (list_rule channels)) i ≡ some midi
         → ((other : Other) (st : State) (r : Receiver) → hear_bytes other st (take w new) r midi ≡ tuned (sent_as kind d) (r midi))
-        → (other : Other) (st before : State) (r : Receiver) (v : ℕ) {old₂ new₂ : List ℕ} {w₂ : ℕ} → Answers (note_on_rule (tuner back) l.key v) old₂ (value w₂) new₂
+        → (other : Other) (st before : State) (r : Receiver) (v : ℕ) {old₂ new₂ : List ℕ} {w₂ : ℕ} → Answers (note_on_rule (view back) l.key v) old₂ (value w₂) new₂
         → hear_bytes other st (take w₂ new₂) (hear_bytes other before (take w new) r) midi ≡ note_meant On l.note v (tuned (sent_as kind d) (r midi))
-    unfolding entries list_at
+    unfolding plan_of
     sounding l i midi d f e h other st before r v a =
         let q = hear_bytes other before (take w new) r in
-        ap (λ (x : Receiver). x midi) (key_received other st q (list_of back.cells) On v (found (tuner back) l.key) a)
-        ∙ ap (λ (o : Option Place). key_meant On (tuner back).plan.channels v o q midi) f
+        ap (λ (x : Receiver). x midi) (key_received other st q back.model.channels On v (found (view back) l.key) a)
+        ∙ ap (λ (o : Option Place). key_meant On (view back).plan.channels v o q midi) f
         ∙ here (subst (λ (c : List ℕ). get_elem? c i ≡ some midi) (sym channels_is) e)
         ∙ ap (note_meant On l.note v) (h other before r)
       where
-        here : get_elem? (tuner back).plan.channels i ≡ some midi
-            → key_meant On (tuner back).plan.channels v (some (record { channel = i; note = l.note })) (hear_bytes other before (take w new) r) midi
+        here : get_elem? (view back).plan.channels i ≡ some midi
+            → key_meant On (view back).plan.channels v (some (record { channel = i; note = l.note })) (hear_bytes other before (take w new) r) midi
             ≡ note_meant On l.note v (hear_bytes other before (take w new) r midi)
         here g = rw (g, eq-eqb midi midi refl) refl
 
-    key_tuned : (l : Line) → Placed (planned (tuner s).plan (value got.lines)).0 got.lines n l
-        → KeyTuned (present (list_rule channels)) kind (tuner back) (take w new) got.lines n l
+    key_tuned : (l : Line) → Placed (planned (view s).plan (value got.lines)).0 got.lines n l
+        → KeyTuned (present (list_rule channels)) kind (view back) (take w new) got.lines n l
     unfolding group tuned_by
     key_tuned l p =
-        let e : (tuner back).plan.detunings p.channel (pos 0) ≡ some p.detuning = ap (λ (m : Model). m.detunings p.channel (pos 0)) got.plan_is ∙ own p.entered in
+        let e : (view back).plan.detunings p.channel (pos 0) ≡ some p.detuning = ap (λ (m : Model). m.detunings p.channel (pos 0)) got.plan_is ∙ own p.entered in
         let c = tuned_by p.channel p.below p.detuning e in
-        let f : found (tuner back) l.key ≡ some (record { channel = p.channel; note = l.note }) = ap (λ (m : Model). placed (m.keys l.key)) got.plan_is ∙ ap placed p.found in
+        let f : found (view back) l.key ≡ some (record { channel = p.channel; note = l.note }) = ap (λ (m : Model). placed (m.keys l.key)) got.plan_is ∙ ap placed p.found in
         record {
           channel = p.channel;
           below = p.below;
@@ -302,22 +301,22 @@ module _
         }
       where
         m : Model
-        m = (planned (tuner s).plan (value got.lines)).0
+        m = (planned (view s).plan (value got.lines)).0
 
         own : m.detunings p.channel (group m.group_by l.note) ≡ some p.detuning → m.detunings p.channel (pos 0) ≡ some p.detuning
         own e =
             subst (λ (k : GroupBy). m.detunings p.channel (group k l.note) ≡ some p.detuning)
-            ((planned_kept (tuner s).plan (value got.lines)).1 ∙ groups) e
+            ((planned_kept (view s).plan (value got.lines)).1 ∙ groups) e
 
     -- And each key of the list is on one of them, and is heard there as its note's when it is pressed.
-    pub keys_tuned : (lines : List Line) × (lines_of lists ≡ value lines) × Each (KeyTuned (present (list_rule channels)) kind (tuner back) (take w new) lines n) lines
+    pub keys_tuned : (lines : List Line) × (lines_of lists ≡ value lines) × Each (KeyTuned (present (list_rule channels)) kind (view back) (take w new) lines n) lines
     keys_tuned = (got.lines, got.lines_is, Each-map (λ l p. key_tuned l p) got.lines facts.2)
 
 -- ---- a tuning of pitches
 
 module _
-    (channels : List ℕ) (kind : TuningKind) (calls : List Call) (s back : AotTuner) (is : tuner s ≡ reached channels kind calls) (ks : List ℕ) (hzs : List Float)
-    {old new : List ℕ} {n w : ℕ} (call : Steps tuner (set_tuning_of_pitches_rule (tuner s) ks hzs) s old (value (tunes n w)) back new) (ok : Typed (pitches ks hzs)) where
+    (channels : List ℕ) (kind : TuningKind) (calls : List Call) (s back : AotTuner) (is : view s ≡ reached channels kind calls) (ks : List ℕ) (hzs : List Float)
+    {old new : List ℕ} {n w : ℕ} (call : Steps view (set_tuning_of_pitches_rule (view s) ks hzs) s old (value (tunes n w)) back new) (ok : Typed (pitches ks hzs)) where
   -- Each channel of the plan then has a value that is not clamped and within the bound of its kind, by the plan's detuning of it.
   pub pitches_near :
       (i : ℕ) (h : i < n) (other : Other) (st : State) (r : Receiver)
@@ -326,8 +325,8 @@ module _
   pitches_near i h other st r =
       let c = channels_tuned channels kind calls s back is (pitches ks hzs) call ok i h in
       let g = result s back (pitch_lists ks hzs) call in
-      let entered : (planned (tuner s).plan (value g.lines)).0.detunings i (pos 0) ≡ some c.detuning = ap (λ (m : Model). m.detunings i (pos 0)) (sym g.plan_is) ∙ c.entered in
+      let entered : (planned (view s).plan (value g.lines)).0.detunings i (pos 0) ≡ some c.detuning = ap (λ (m : Model). m.detunings i (pos 0)) (sym g.plan_is) ∙ c.entered in
       let value_is : value_in kind (hear_bytes other st (take w new) r c.midi) ≡ value_of (sent_as kind c.detuning) =
       ap (value_in kind) (c.heard other st r) ∙ tuned_value kind c.detuning (r c.midi) in
       subst (λ (k : ℤ). StepBound kind k c.detuning) (sym value_is)
-      (pitches_law (tuner s).plan ks hzs g.lines (pitches_accepted ks hzs g.lines ok g.lines_is) g.lines_is i (pos 0) c.detuning entered kind)
+      (pitches_law (view s).plan ks hzs g.lines (pitches_accepted ks hzs g.lines ok g.lines_is) g.lines_is i (pos 0) c.detuning entered kind)

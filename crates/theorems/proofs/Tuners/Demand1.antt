@@ -1,5 +1,5 @@
--- Demand 1 over every call of the tuners and of messages: it ends in its result, or in a number that document 01 allows it. A refused call alters neither the state nor
--- one byte lent to it: Refusals `refused_untouched`. Assumes nothing.
+-- Every call of the tuners and of messages ends in its result, or in a number that it is allowed. A refused call alters neither the state nor one byte lent
+-- to it: Refusals `refused_untouched`. Assumes nothing.
 use mathlib.Core.Path.{◌≡◌, refl, sym, ap}
 use mathlib.Core.Logic.{inl, inr}
 use mathlib.Core.Bool.{Bool, true, false, cond, ◌&&◌}
@@ -88,7 +88,7 @@ demand1 (plan_note_attr t key p) room = key_refusals Pressure t.plan.channels p 
 demand1 (plan_global_attr t m) room = global_refusals t.kind t.plan.channels m room
 demand1 (plan_stop t) room = rw (le-leb 0 room (omega arith)) tt
 
--- The numbers are document 01's, from 1 to 13.
+-- The numbers are those of refusals, from 1 to 13.
 pub numbers_known : (c : Entry) → Each (λ (n : ℕ). leb 1 n && leb n 13 ≡ true) (allowed c)
 numbers_known (raw_message ch m) = (refl, (refl, (refl, (refl, tt))))
 numbers_known (channel_tuning kind ch d) = (refl, (refl, (refl, tt)))

@@ -1,5 +1,5 @@
--- Demand 1 for the calls of the tuners and for messages: a refused call alters neither the state nor one byte lent to it, its number is one of those that document 01
--- allows the call, and the tests are met in document 01's order. Assumes nothing.
+-- Refusals of the calls of the tuners and of messages: a refused call alters neither the state nor one byte lent to it, its number is one of those that the
+-- call is allowed, and the tests are met in their order. Assumes nothing.
 use mathlib.Core.Path.{◌≡◌, refl, sym, ap, ◌∙◌}
 use mathlib.Core.Logic.{◌⊎◌, inl, inr, ◌↔◌}
 use mathlib.Core.Bool.{Bool, true, false, cond}

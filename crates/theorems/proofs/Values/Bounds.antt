@@ -40,7 +40,7 @@ unfolding clamp
 clamp_kept_whole a (pos n) h k = rw (le-ltb n 0 (omega arith), le-ltb a n h)
 clamp_kept_whole a (negsuc n) h k = absurd (let f : ⊥ = omega arith in f)
 
--- ---- demand 1: refusal 2, exactly where a detuning is not positive and finite
+-- ---- refusal 2, exactly where a detuning is not positive and finite
 
 pub tuning_refuses : (kind : TuningKind) (v : Float) (n : ℕ) → (tuning_rule kind v ≡ refused n) ↔ ((positive v ≡ false) × (n ≡ not_measurable))
 unfolding tuning_rule

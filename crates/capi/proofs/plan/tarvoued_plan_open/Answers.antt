@@ -1,9 +1,0 @@
--- `plan::tarvoued_plan_open` meets its contract, by the tuner's call in place.
-use mathlib.Core.Path.{ap, ◌∙◌}
-use Rattle.capi.specs.Answers.{of_list}
-use Rattle.capi.proofs.plan.tarvoued_plan_open.Goals as goal
-
-pub returns : goal.returns
-returns c =
-    let e = rw c.tuning_kind_of.ensures at c.start.ensures in
-    (c.of_list.ensures ∙ ap of_list e.0, e.1)

@@ -1,6 +1,0 @@
--- `pool::tarvoued_pool_stop` meets its contract, by the tuner's call in place.
-use Rattle.capi.proofs.Entries.{entry_meets}
-use Rattle.capi.proofs.pool.tarvoued_pool_stop.Goals as goal
-
-pub returns : goal.returns
-returns c = entry_meets c.of_sent.ensures c.stop.ensures

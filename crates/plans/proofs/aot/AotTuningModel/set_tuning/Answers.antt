@@ -1,0 +1,60 @@
+-- `AotTuningModel::set_tuning` meets its contract, demand 3 included: what was planned of the keys in order is the rule's plan. Assumes nothing.
+use Rattle.std.proofs.Common.{◌≡◌, ◌≤◌, length, ap, ◌∙◌, arith}
+use Rattle.channels.specs.ChannelList.{entries}
+use Rattle.channels.proofs.ChannelLists.{entries_few}
+use Rattle.plans.specs.Plan.{Tunes, plan_of, planned, tuned, untuned}
+use Rattle.plans.proofs.Planned.{ready_if}
+use Rattle.plans.proofs.Tunings.{refused_tunes, untuned_tunes, tuned_tunes, smallest_of}
+use Rattle.plans.proofs.aot.AotTuningModel.set_tuning.Given.{Over}
+use Rattle.plans.proofs.aot.AotTuningModel.set_tuning.Goals as goal
+use Rattle.plans.proofs.aot.AotTuningModel.set_tuning.Goals.{After-new, Else-few}
+
+pub returns-in_err-add_all-clause-tunes : goal.returns-in_err-add_all-clause-tunes
+returns-in_err-add_all-clause-tunes g c =
+    refused_tunes c.args.self.now (g.L.TuningLists.lines c.args.lists.now) c.add_all.new.self _ c.from_residual.result c.from_residual.ensures.1
+    c.in_err-add_all.ensures
+
+pub place_keys-count-requires : goal.place_keys-count-requires
+place_keys-count-requires g c = ready_if (g.L.TuningLists.lines c.args.lists.now) c.add_all.new.self c.in_ok-add_all.ensures
+
+-- there are too few channels
+few_tunes : (g : Over) (c : After-new g)
+    → Tunes (planned (plan_of c.args.self.now) (g.L.TuningLists.lines c.args.lists.now)) c.args.self.now c.new.result (untuned c.place_keys-count.result)
+few_tunes g c =
+    untuned_tunes c.args.self.now (g.L.TuningLists.lines c.args.lists.now) c.add_all.new.self c.in_ok-add_all.ensures (entries c.channels-channels.result)
+    c.channels-channels.ensures c.group_by-by.result c.group_by-by.ensures _ c.place_keys-count.result c.place_keys-count.ensures
+    (omega (arith, c.len-present.ensures, c.if-few.true)) c.new.result c.new.ensures
+
+pub returns-then-few-clause-tunes : goal.returns-then-few-clause-tunes
+returns-then-few-clause-tunes g c = few_tunes g (goal.at.returns-then-few-clause-tunes g c).After-new
+
+pub returns-then-few-clause-smallest : goal.returns-then-few-clause-smallest
+returns-then-few-clause-smallest g c =
+    smallest_of c.args.self.now (g.L.TuningLists.lines c.args.lists.now) c.add_all.new.self _ c.in_ok-add_all.ensures c.new.result _
+    (few_tunes g (goal.at.returns-then-few-clause-smallest g c).After-new)
+
+-- or enough
+module _ (g : Over) (c : Else-few g) where
+  places : length c.channels-channels.result.channels ≡ 16
+  places = omega arith
+
+  enough_tunes : Tunes (planned (plan_of c.args.self.now) (g.L.TuningLists.lines c.args.lists.now)) c.args.self.now
+      (record c.args.self.now {
+        records = c.place_keys-count.new.keys.records;
+        detunings = c.place_keys-count.new.keys.detunings;
+        num_channels = c.place_keys-count.result;
+        tuned = 1;
+      })
+      (tuned c.place_keys-count.result)
+  enough_tunes =
+      tuned_tunes c.args.self.now (g.L.TuningLists.lines c.args.lists.now) c.add_all.new.self c.in_ok-add_all.ensures (entries c.channels-channels.result)
+      c.channels-channels.ensures c.group_by-by.result c.group_by-by.ensures _ _ c.place_keys-count.result c.place_keys-count.ensures
+      (omega (arith, c.len-present.ensures, c.if-few.false)) (entries_few c.channels-channels.result places)
+
+pub returns-clause-tunes : goal.returns-clause-tunes
+returns-clause-tunes g c = enough_tunes g (goal.at.returns-clause-tunes g c).Else-few
+
+pub returns-clause-smallest : goal.returns-clause-smallest
+returns-clause-smallest g c =
+    smallest_of c.args.self.now (g.L.TuningLists.lines c.args.lists.now) c.add_all.new.self _ c.in_ok-add_all.ensures _ _
+    (enough_tunes g (goal.at.returns-clause-smallest g c).Else-few)

@@ -1,0 +1,77 @@
+// The keys of a plan in the order of their detunings: the lines of its lists, checked one by one, and put in order.
+
+ghost use Rattle.std.specs.Prelude.{◌≡◌, [], T};
+ghost use Rattle.std.specs.Float.Ieee.Positive.{positive};
+ghost use Rattle.plans.specs.PlanInternal.{Adds, Checked, Filled, Holds, before_in};
+ghost use Rattle.plans.specs.KeyLine.{key_line};
+
+use crate::lists::{KeyTuning, TuningLists};
+use arithmetic::refusal::Refusal;
+use channels::keys::{KEYS, Place, is_found};
+
+// Keys by rising detuning, equal ones in the order of their lines, in the first `len` places; and by key a record, which has the note, and the detuning.
+#[derive(Drop)]
+pub struct SortedKeys {
+    pub order: [u8; KEYS],
+    pub len: usize,
+    pub records: [u16; KEYS],
+    pub detunings: [f64; KEYS],
+}
+
+impl SortedKeys {
+    // No keys.
+    pub fn none() -> SortedKeys
+        ensures { Holds result [] }
+    {
+        SortedKeys {
+            order: [0; KEYS],
+            len: 0,
+            records: [0; KEYS],
+            detunings: [0.0; KEYS],
+        }
+    }
+
+    // Puts the lines of lists in order. Refuses 12, then line by line what a line is refused for by itself, and 5.
+    pub fn add_all<L: TuningLists>(&mut self, lists: &L) -> Result<(), Refusal>
+        requires { Holds self.old [] }
+        ensures { Checked (L.lines lists.now) result self.new }
+    {
+        let n = lists.len()?;
+        for i in 0..n {
+            let line = lists.line(i)?;
+            self.add(line)?;
+        }
+        Ok(())
+    }
+
+    // One line more. Refuses 5.
+    fn add(&mut self, line: KeyTuning) -> Result<(), Refusal>
+        requires { Filled self.old }
+        ensures { Adds (key_line line) result self.old self.new }
+    {
+        let key = line.key as usize;
+        if is_found(self.records[key]) {
+            return Err(Refusal::KeyTwice);
+        }
+        let at = self.place(line.detuning);
+        self.order.copy_within(at..self.len, at + 1);
+        self.order[at] = line.key;
+        self.len += 1;
+        let place = Place {
+            channel: 0,
+            note: line.note,
+        };
+        self.records[key] = place.record();
+        self.detunings[key] = line.detuning;
+        Ok(())
+    }
+
+    // How many keys come before a detuning: those whose own is no higher.
+    fn place(&self, detuning: f64) -> usize
+        requires { Filled self.now × T (positive detuning) }
+        ensures { result ≡ before_in self.now detuning }
+    {
+        let keys = &self.order[..self.len];
+        keys.partition_point(|&key| self.detunings[key as usize] <= detuning)
+    }
+}
