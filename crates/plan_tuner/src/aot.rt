@@ -74,6 +74,7 @@ impl AotTuner {
     }
 
     // How the channels are tuned.
+    #[tactic(auto, unfolding(channels::specs::TuningValue::kind_of))]
     pub fn kind(&self) -> TuningKind
         ensures { result ≡ kind_of self.now.kind }
     {

@@ -1,7 +1,7 @@
 -- What a tuning leaves, by its cases: refused, untuned and tuned. Each follows the rule, and meets demand 3. Assumes nothing.
 use Rattle.std.proofs.Common.{◌≡◌, ℕ, ◌<◌, ◌≤◌, List, Float, length, true, false, Result, Ok, Err, refl, sym, ap, ◌∙◌, subst, arith}
 use Rattle.std.specs.Result.{IsErrAnd}
-use Rattle.arithmetic.specs.Outcome.{Outcome}
+use Rattle.arithmetic.specs.Outcome.{Outcome, value}
 use Rattle.arithmetic.specs.declared.refusal.Refusal.{Refusal}
 use Rattle.plans.specs.declared.aot.AotTuningModel.{AotTuningModel}
 use Rattle.plans.specs.declared.aot.GroupBy.{GroupBy}
@@ -9,11 +9,13 @@ use Rattle.plans.specs.declared.aot.Planned.{Planned}
 use Rattle.plans.specs.declared.sorted_keys.SortedKeys.{SortedKeys}
 use Rattle.plans.specs.Line.{Line}
 use Rattle.plans.specs.Walk.{count}
-use Rattle.plans.specs.Plan.{KeyRecord, Model, Answer, tuned, untuned, Smallest, Tunes, empty, plan_answer, plan_of, planned, records_in}
+use Rattle.plans.specs.Plan.{KeyRecord, Model, Answer, tuned, untuned, Measurable, Smallest, Tunes, empty, plan_answer, plan_of, planned, records_in}
 use Rattle.plans.specs.PlanInternal.{Checked, Seats, lines_of}
 use Rattle.plans.proofs.Models.{planned_untuned}
 use Rattle.plans.proofs.Planned.{fine, plan_smallest, planned_lines, planned_refused}
 use Rattle.plans.proofs.PlanBlocks.{tuned_model}
+use Rattle.plans.proofs.PlanEntries.{planned_positive}
+use Rattle.channels.proofs.ListLaws.{T→true}
 
 -- the very model is left
 pub refused_tunes : (a : AotTuningModel) (o : Outcome (List Line)) (s : SortedKeys) (e : Refusal) (r : Result Planned Refusal) → IsErrAnd r (λ d. d ≡ e)
@@ -50,3 +52,10 @@ module _ (a : AotTuningModel) (o : Outcome (List Line)) (s : SortedKeys) (c : Ch
 pub smallest_of : (a : AotTuningModel) (o : Outcome (List Line)) (s : SortedKeys) (r : Result (Unit {0}) Refusal) → Checked o r s
     → (new : AotTuningModel) (answer : Answer) → Tunes (planned (plan_of a) o) a new answer → Smallest (plan_of a) o (plan_of new, answer)
 smallest_of a o s r c new answer t = plan_smallest (plan_of a) o (plan_of new, answer) (fine o s r c) t.0
+
+-- and each of its detunings can be measured
+pub measurable_of : (a : AotTuningModel) (o : Outcome (List Line)) (s : SortedKeys) → Checked o (Ok tt) s → (new : AotTuningModel) (answer : Answer)
+    → Tunes (planned (plan_of a) o) a new answer → Measurable (plan_of new)
+measurable_of a (Outcome.refused n) s c new answer t = absurd c
+measurable_of a (value lines) s c new answer t =
+    λ i g d e. T→true _ (planned_positive (plan_of a) lines c.0 i g d (ap (λ (x : Model × Answer). x.0.detunings i g) (sym t.0) ∙ e))

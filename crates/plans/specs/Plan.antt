@@ -5,6 +5,7 @@ use Rattle.std.proofs.Math.Option.{Option, none, some}
 use Rattle.std.specs.Int.Signed.{le_z}
 use Rattle.std.specs.Float.{nan}
 use Rattle.std.specs.Float.Ieee.{le}
+use Rattle.std.specs.Float.Ieee.Positive.{positive}
 use Rattle.arithmetic.specs.Outcome.{Outcome, value}
 use Rattle.arithmetic.specs.Note.{is_note, lowest_note}
 use Rattle.plans.specs.declared.aot.GroupBy.{GroupBy}
@@ -82,6 +83,10 @@ Smallest m (Outcome.refused n) r = Unit {0}
 Smallest m (value lines) (next, tuned n) = Demand3 m.group_by lines (length m.channels) next.keys true n
 Smallest m (value lines) (next, untuned n) = Demand3 m.group_by lines (length m.channels) next.keys false n
 Smallest m (value lines) (next, refused n) = ⊥
+
+-- each detuning can be measured: it is finite and above zero
+abbrev pub Measurable : Model → Type 0
+Measurable m = (c : ℕ) (g : ℤ) (d : Float) → m.detunings c g ≡ some d → positive d ≡ true
 
 -- ---- the entries of a channel, by rising group
 

@@ -1,10 +1,10 @@
 // Plans ("ahead of time"): every key gets a channel and a note before anyone plays.
 
-ghost use Rattle.std.specs.Prelude.{◌≡◌};
+ghost use Rattle.std.specs.Prelude.{◌≡◌, OnOk};
 ghost use Rattle.arithmetic.specs.Answers.{optional, outcome_by};
 ghost use Rattle.channels.specs.ChannelList.{entries};
 ghost use Rattle.plans.specs.PlanBlock.{detuning_of, group_by_of};
-ghost use Rattle.plans.specs.Plan.{Smallest, Tunes, access_answer, empty, larger, next_rule, open_rule, plan_answer, plan_of, planned};
+ghost use Rattle.plans.specs.Plan.{Measurable, Smallest, Tunes, access_answer, empty, larger, next_rule, open_rule, plan_answer, plan_of, planned};
 ghost use Rattle.plans.specs.PlanInternal.{group_up_to, least_from, lower};
 
 use crate::lists::TuningLists;
@@ -95,6 +95,7 @@ impl AotTuningModel {
     pub fn set_tuning<L: TuningLists>(&mut self, lists: &L) -> Result<Planned, Refusal>
         ensures tunes { Tunes (planned (plan_of self.old) (L.lines lists.now)) self.old self.new (plan_answer result) }
         ensures smallest { Smallest (plan_of self.old) (L.lines lists.now) (plan_of self.new, plan_answer result) }
+        ensures measurable { OnOk result (Measurable (plan_of self.new)) }
     {
         let channels = self.channels();
         let by = self.group_by();

@@ -4,7 +4,7 @@ use Rattle.channels.specs.ChannelList.{entries}
 use Rattle.channels.proofs.ChannelLists.{entries_few}
 use Rattle.plans.specs.Plan.{Tunes, plan_of, planned, tuned, untuned}
 use Rattle.plans.proofs.Planned.{ready_if}
-use Rattle.plans.proofs.Tunings.{refused_tunes, untuned_tunes, tuned_tunes, smallest_of}
+use Rattle.plans.proofs.Tunings.{refused_tunes, untuned_tunes, tuned_tunes, smallest_of, measurable_of}
 use Rattle.plans.proofs.aot.AotTuningModel.set_tuning.Given.{Over}
 use Rattle.plans.proofs.aot.AotTuningModel.set_tuning.Goals as goal
 use Rattle.plans.proofs.aot.AotTuningModel.set_tuning.Goals.{After-new, Else-few}
@@ -58,3 +58,13 @@ pub returns-clause-smallest : goal.returns-clause-smallest
 returns-clause-smallest g c =
     smallest_of c.args.self.now (g.L.TuningLists.lines c.args.lists.now) c.add_all.new.self _ c.in_ok-add_all.ensures _ _
     (enough_tunes g (goal.at.returns-clause-smallest g c).Else-few)
+
+pub returns-then-few-clause-measurable : goal.returns-then-few-clause-measurable
+returns-then-few-clause-measurable g c =
+    measurable_of c.args.self.now (g.L.TuningLists.lines c.args.lists.now) c.add_all.new.self c.in_ok-add_all.ensures c.new.result _
+    (few_tunes g (goal.at.returns-then-few-clause-measurable g c).After-new)
+
+pub returns-clause-measurable : goal.returns-clause-measurable
+returns-clause-measurable g c =
+    measurable_of c.args.self.now (g.L.TuningLists.lines c.args.lists.now) c.add_all.new.self c.in_ok-add_all.ensures _ _
+    (enough_tunes g (goal.at.returns-clause-measurable g c).Else-few)
