@@ -2,7 +2,7 @@
 use Rattle.std.proofs.Common.{◌≡◌, ℕ, zero, suc, ◌+◌, ◌-◌, ◌<◌, ◌≤◌, Bool, true, false, List, [], ◌∷◌, ◌++◌, length, get_or, take, drop, set, refl, sym, ap, ◌∙◌, arith, append_assoc, length-take, length-drop}
 use Rattle.std.proofs.Math.Seq.{paste, take-set-lt, set-append_seam}
 use Rattle.std.proofs.lemmas.List.{take_more, take-take, drop-take}
-use Rattle.std.proofs.lemmas.List.Edits.{take-paste, length-paste}
+use Rattle.std.proofs.lemmas.List.Edits.{take-paste}
 use Rattle.std.specs.List.Sorted.{IsPartitionedBy, IsPartitionPoint}
 use native.Mathlib.Nat.{le_of_eq}
 use lib.Dec.{T}

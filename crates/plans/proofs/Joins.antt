@@ -1,14 +1,12 @@
 -- The one fact of f64 that plans rest on: where of two detunings that are not below a third the larger joins it, the smaller does too.
 -- Division by a positive value keeps the order, since rounding does, and what is not below the divisor gives 1 at least. Assumes nothing.
 use mathlib.Core.Path.{◌≡◌, refl}
-use mathlib.Core.Bool.{Bool, true, false, not}
+use mathlib.Core.Bool.{true, false}
 use native.Mathlib.Nat.{le_of_eq, lt_of_not-le, le_of_lt}
-use Prim.Native.Nat.{◌*◌, ◌≤◌}
-use borrow.Author.Tests.{le-ltb, lt-ltb}
-use lib.Dec.{T, ltb}
-use lib.Ieee.{Float, nan, inf, fin, up, down, binary64, round, div, le, lt}
+use lib.Dec.{T}
+use lib.Ieee.{Float, nan, inf, fin, binary64, round, div, le, lt}
 use lib.Ieee.Fits.{and_i, and_l, and_r}
-use lib.Ieee.Positive.{positive, above_of_le, above, between, cross→le, le→cross, le_trans_positive}
+use lib.Ieee.Positive.{positive, above_of_le, above, between, cross→le, le_trans_positive}
 use Rattle.arithmetic.specs.Pitch.{negligible_from, negligible_below, negligible}
 use Rattle.arithmetic.proofs.FloatDivision.{one, div_mono, div_at_least, not_below_mono}
 use Rattle.plans.specs.Line.{joins}
@@ -56,20 +54,3 @@ joins_mono a b c p q r h k t =
 -- the order of two positive values is total
 pub le_total : (x y : Float) → T (positive x) → T (positive y) → le x y ≡ false → T (le y x)
 le_total x y p q e = cross→le y x q p (le_of_lt (lt_of_not-le λ h. not_false e (cross→le x y p q h)))
-
--- of two positive values one is below the other, or not below it
-pub lt_not_le : (x y : Float) → T (positive x) → T (positive y) → lt x y ≡ not (le y x)
-unfolding lt le
-lt_not_le nan y p q = absurd p
-lt_not_le (inf s) y p q = absurd p
-lt_not_le (fin true m e) y p q = absurd p
-lt_not_le (fin false m e) nan p q = absurd q
-lt_not_le (fin false m e) (inf t) p q = absurd q
-lt_not_le (fin false m e) (fin true n d) p q = absurd q
-lt_not_le (fin false m e) (fin false n d) p q =
-    go (le (fin false n d) (fin false m e)) (le→cross (fin false n d) (fin false m e) q p) (cross→le (fin false n d) (fin false m e) q p)
-  where
-    go : (b : Bool) → (T b → n * up d * down e ≤ m * up e * down d) → (n * up d * down e ≤ m * up e * down d → T b)
-        → ltb (m * up e * down d) (n * up d * down e) ≡ not b
-    go true h k = le-ltb (m * up e * down d) (n * up d * down e) (h tt)
-    go false h k = lt-ltb (m * up e * down d) (n * up d * down e) (lt_of_not-le λ u. k u)

@@ -262,19 +262,6 @@ pub pitches_counted : (ks : List ℕ) (hzs : List Float) → length hzs ≡ leng
 pitches_counted ks hzs e = rw (eq-eqb (length hzs) (length ks) e) (ap (λ (n : ℕ). value n) (sym (pitch_lines_long ks hzs e)))
 
 -- ---- a line by itself
-module _ (k : ℕ) (n : ℤ) (d : Float) where
-  pub no_note_line : is_note n ≡ false → note_line k n d ≡ refused 4
-  unfolding note_line
-  no_note_line e = rw e
-
-  pub no_detuning_line : is_note n ≡ true → is_planned d ≡ false → note_line k n d ≡ refused 3
-  unfolding note_line
-  no_detuning_line e f = rw (e, f)
-
-  pub a_note_line : is_note n ≡ true → is_planned d ≡ true → note_line k n d ≡ value (record { key = k; note = n; detuning = d })
-  unfolding note_line
-  a_note_line e f = rw (e, f)
-
 pub planned_positive : (d : Float) → is_planned d ≡ true → T (positive d)
 unfolding is_planned
 planned_positive d e =

@@ -1,5 +1,5 @@
 -- Demand 3: nobody who places the keys by hand does better than the walk. One statement, with the kind of group as a parameter. Assumes nothing.
-use mathlib.Core.Path.{◌≡◌, refl, sym, ap, ◌∙◌, subst}
+use mathlib.Core.Path.{◌≡◌, refl, sym, ◌∙◌, subst}
 use mathlib.Core.Logic.{◌↔◌}
 use mathlib.Core.Bool.{Bool, false, ◌&&◌}
 use mathlib.Core.List.{List, [], ◌∷◌, map, nil≢cons}
@@ -16,8 +16,8 @@ use Rattle.plans.specs.Line.{Line, of_group, joins, rising}
 use Rattle.plans.specs.Walk.{walk, count, channels}
 use Rattle.plans.specs.PlanInternal.{Accepted}
 use Rattle.plans.specs.Placing.{Placing, together, Joined, InOrder, uses, Best, NoneFits}
-use Rattle.channels.proofs.ListLaws.{outcome, passed, failed, T→true, true→T, not_false, Each-map, Each-keep, Each-image, own_image, map_same, within}
-use Rattle.channels.proofs.ListLaws.{once_within, once_new, once_cons, once_exact, Pairwise, Pairwise-keep, keep_yes, keep_no, keep_same, keep_keep}
+use Rattle.channels.proofs.ListLaws.{outcome, passed, failed, T→true, true→T, not_false, Each-map, Each-keep, Each-image, own_image, within}
+use Rattle.channels.proofs.ListLaws.{once_within, once_new, once_cons, once_exact, Pairwise, Pairwise-keep, keep_yes, keep_no, keep_keep}
 use Rattle.channels.proofs.ListLaws.{keep_swap}
 use Rattle.plans.proofs.Joins.{joins_mono}
 use Rattle.plans.proofs.Rising.{UpTo, Sorted, Other, Each-rising, rising_Each, length_rising, rising_keep, rising_sorted, rising_apart, distinct_apart}
@@ -164,22 +164,6 @@ module _ (kind : GroupBy) (lines : List Line) (ok : Accepted lines) where
   -- The walk's placing is in order and uses exactly the count, and no placing in order uses fewer.
   pub walk_best : Best kind lines (count kind lines) (channel kind lines)
   walk_best = record { in_order = in_order; exact = exact; least = least }
-
-  -- A placing that has the walk's channel for each key of the list is as good.
-  module _ (p : Placing) (agrees : Each (λ (l : Line). channel kind lines l.key ≡ p l.key) lines) where
-    together_same : (c : ℕ) (g : ℤ) → together kind lines (channel kind lines) c g ≡ together kind lines p c g
-    unfolding together
-    together_same c g =
-        ap rising
-        (keep_same (λ (l : Line). on (channel kind lines) c l && of_group kind g l) (λ (l : Line). on p c l && of_group kind g l) lines
-        (Each-map (λ l e. rw e) lines agrees))
-
-    uses_same : uses lines (channel kind lines) ≡ uses lines p
-    unfolding uses
-    uses_same = ap (λ (c : List ℕ). length (once c)) (map_same (number (channel kind lines)) (number p) lines agrees)
-
-    pub agrees_best : Best kind lines (count kind lines) p
-    agrees_best = record { in_order = λ c g. rw together_same at (in_order c g); exact = sym uses_same ∙ exact; least = least }
 
 -- ---- Demand 3
 

@@ -2,13 +2,12 @@
 use mathlib.Core.Path.{◌≡◌, refl, sym, ap, ◌∙◌, subst}
 use mathlib.Core.Bool.{Bool, true, false, cond}
 use mathlib.Core.List.{List, [], ◌∷◌, map}
-use mathlib.Core.Option.{Option, some, none}
+use mathlib.Core.Option.{Option, none}
 use Prim.Native.Nat.{ℕ, zero, suc, ◌<◌, ◌≤◌, ◌*◌}
 use native.Mathlib.Nat.{mul-pos, zero-mul}
 use native.Mathlib.Omega.{arith}
 use borrow.Author.Tests.{lt-ltb}
 use lib.Dec.{T, ltb, ltb→lt}
-use lib.IntN.{ℤ}
 use lib.Ieee.{Float, nan, inf, fin, binary64, is_nan, of_bits, lt, up, down}
 use lib.Ieee.Fits.{up_pos}
 use lib.Ieee.Positive.{positive}
@@ -17,9 +16,8 @@ use Rattle.channels.specs.Lists.{Each}
 use Rattle.arithmetic.specs.Outcome.{value}
 use Rattle.plans.specs.declared.aot.GroupBy.{GroupBy}
 use Rattle.plans.specs.Line.{Line}
-use Rattle.plans.specs.PlanLists.{key_count}
 use Rattle.plans.specs.PlanBlock.{detuning_of}
-use Rattle.plans.specs.Plan.{KeyRecord, Model, nobody, record_of, tuned, detuning_in, model_with, records_of, records_in, empty, holding, planned}
+use Rattle.plans.specs.Plan.{KeyRecord, Model, nobody, record_of, tuned, detuning_in, model_with, records_in, empty, holding, planned}
 use Rattle.plans.specs.Walk.{count}
 use Rattle.plans.specs.PlanInternal.{Accepted, Seats}
 use Rattle.plans.proofs.Records.{records_at_lem, records_long}
@@ -58,8 +56,6 @@ lines_kept ds (x ∷ l) b p h = (
   get_or-map detuning_of ds x.key nan nan b.0 ∙ ap detuning_of h.0 ∙ detuning_kept x.detuning p.0,
   lines_kept ds l b.1 p.1 h.1,
 )
-
-
 
 -- a key's record
 pub record_in : (cells : List ℕ) (ds : List Float) → length cells ≡ length ds → (k : ℕ)

@@ -6,7 +6,7 @@ use Prim.Native.Nat.{ℕ, ◌<◌}
 use native.Mathlib.Omega.{arith}
 use lib.Dec.{T, eqb, leb}
 use lib.IntN.{ℤ}
-use lib.Ieee.{Float, binary64, fits}
+use lib.Ieee.{binary64, fits}
 use lib.Ieee.Positive.{positive}
 use lib.ListN.{length, get_or}
 use Rattle.arithmetic.specs.Outcome.{Outcome, value}

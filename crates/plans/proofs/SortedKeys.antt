@@ -1,6 +1,6 @@
 -- The keys in order, with one line more: they hold the list's lines, and a list that meets no refusal has at most one for each key. Assumes nothing.
 use mathlib.Core.Path.{◌≡◌, refl, sym, ap, ◌∙◌, subst}
-use mathlib.Core.Bool.{Bool, true, false, not, ◌||◌, or-false}
+use mathlib.Core.Bool.{Bool, true, false, ◌||◌, or-false}
 use mathlib.Core.List.{List, [], ◌∷◌, ◌++◌, map}
 use mathlib.Core.Option.{some}
 use Prim.Native.Nat.{ℕ, zero, suc, ◌+◌, ◌<◌, ◌≤◌}
@@ -16,7 +16,7 @@ use Rattle.plans.specs.Line.{Line, rising}
 use Rattle.plans.specs.PlanLists.{key_count, keys}
 use Rattle.channels.specs.Places.{is_held, note_of, place_of}
 use Rattle.plans.specs.declared.sorted_keys.SortedKeys.{SortedKeys}
-use Rattle.plans.specs.PlanInternal.{Accepted, Holds, Long, Rises, line_at, lines_of, before, put_in}
+use Rattle.plans.specs.PlanInternal.{Accepted, Holds, Rises, line_at, lines_of, before, put_in}
 use Rattle.channels.proofs.ListLaws.{outcome, passed, failed, true→T, T→false, false→T, not_false, or_left, Each-map, Each-image, at_member, pigeonhole}
 use Rattle.channels.proofs.ListLaws.{below, below_length, below_member}
 use Rattle.channels.proofs.RecordNumbers.{place_parts}

@@ -1,4 +1,4 @@
--- The lines of a plan (document 01, "aot.rs"): their groups, their order, and the test by which a detuning joins another. Assumes nothing.
+-- The lines of a plan: their groups, their order, and the test by which a detuning joins another. Assumes nothing.
 use Rattle.std.specs.Prelude.{Bool, false, cond, List, [], ◌∷◌, ℕ, ℤ, pos, negsuc, eqb, Float}
 use Rattle.std.specs.Float.{binary64}
 use Rattle.std.specs.Float.Ieee.{div, le}

@@ -1,5 +1,5 @@
 -- A model of planned tunings as its calls see it, and the rule of each call. Assumes nothing.
-use Rattle.std.specs.Prelude.{◌≡◌, Bool, true, false, cond, ◌&&◌, List, [], ◌∷◌, map, ℕ, zero, suc, ◌+◌, ◌/◌, ◌%◌, leb, ltb, eqb, ℤ, pos, ◌+ℤ◌, Float, length, get_or, Result, Ok, Err, Some, None}
+use Rattle.std.specs.Prelude.{◌≡◌, Bool, true, false, cond, ◌&&◌, List, [], ◌∷◌, map, ℕ, zero, suc, ◌/◌, leb, ltb, eqb, ℤ, pos, ◌+ℤ◌, Float, length, get_or, Result, Ok, Err, Some, None}
 use Rattle.std.specs.Prelude.{Option as Optional}
 use Rattle.std.proofs.Math.Option.{Option, none, some}
 use Rattle.std.specs.Int.Signed.{le_z}

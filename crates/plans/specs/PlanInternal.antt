@@ -16,7 +16,7 @@ use Rattle.channels.specs.Lists.{Each, member, Distinct}
 use Rattle.plans.specs.Line.{Line, joins, rising, group}
 use Rattle.plans.specs.Walk.{count, seat}
 use Rattle.channels.specs.Places.{is_held, note_of, channel_of, place_of}
-use Rattle.plans.specs.Plan.{KeyRecord, nobody, is_in, records_in}
+use Rattle.plans.specs.Plan.{KeyRecord, nobody, is_in}
 use Rattle.plans.specs.PlanLists.{key_count, keys, line_by_line}
 
 -- What a list is that meets no refusal: its keys are distinct bytes, its notes are notes, its detunings are f64s, finite and above zero.

@@ -1,4 +1,4 @@
--- The lists of a plan (document 01): "Lists of keys, notes and detunings (0.5 to 2), keys distinct; or lists of keys and pitches, where each note and detuning
+-- The lists of a plan: "Lists of keys, notes and detunings (0.5 to 2), keys distinct; or lists of keys and pitches, where each note and detuning
 -- comes from the nearest note." "Order for a plan: 12; then line by line 1, 4, 3, 5 (1 and 5 alone where pitches are given)." Assumes nothing.
 use Rattle.std.specs.Prelude.{Bool, false, not, ◌&&◌, List, [], ◌∷◌, ◌++◌, map, ℕ, eqb, ℤ, pos, negsuc, Float, length}
 use Rattle.std.specs.Float.{fin}

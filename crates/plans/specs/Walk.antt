@@ -1,4 +1,4 @@
--- The plan (document 01, "aot.rs"): "For each channel from 0 the waiting keys are walked in that order." What each channel takes, how many channels that
+-- The plan: "For each channel from 0 the waiting keys are walked in that order." What each channel takes, how many channels that
 -- needs, where a key then is, and the detuning entries of each channel. Assumes nothing.
 use Rattle.std.specs.Prelude.{Bool, true, cond, List, [], ◌∷◌, ℕ, zero, suc, eqb, ℤ, length, Float}
 use Rattle.std.proofs.Math.Option.{Option, none, some}

@@ -75,7 +75,11 @@ impl<'a> TuningLists for NoteLists<'a> {
     fn len(&self) -> Result<usize, Refusal> {
         let len = self.keys.len();
         let equal = self.notes.len() == len && self.detunings.len() == len;
-        if equal { Ok(len) } else { Err(Refusal::ListsUnequal) }
+        if equal {
+            Ok(len)
+        } else {
+            Err(Refusal::ListsUnequal)
+        }
     }
 
     fn line(&self, i: usize) -> Result<KeyTuning, Refusal> {
@@ -117,7 +121,11 @@ impl<'a> TuningLists for PitchLists<'a> {
     fn len(&self) -> Result<usize, Refusal> {
         let len = self.keys.len();
         let equal = self.pitches.len() == len;
-        if equal { Ok(len) } else { Err(Refusal::ListsUnequal) }
+        if equal {
+            Ok(len)
+        } else {
+            Err(Refusal::ListsUnequal)
+        }
     }
 
     fn line(&self, i: usize) -> Result<KeyTuning, Refusal> {

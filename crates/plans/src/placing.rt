@@ -28,21 +28,21 @@ pub(crate) fn place_keys(keys: &mut SortedKeys, by: GroupBy) -> u16
     requires { Ready keys.old }
     ensures { Seats by (lines_of keys.old) (records_in keys.new.records keys.new.detunings) result }
 {
+    let SortedKeys { order, len, records, detunings } = keys;
     let mut runs = [NO_KEYS; GROUPS];
     let mut count: u16 = 0;
-    for i in 0..keys.len {
-        let key = keys.order[i];
-        let Place { note, .. } = place_of(keys.records[key as usize]).unwrap();
+    for &key in &order[..*len] {
+        let Place { note, .. } = place_of(records[key as usize]).unwrap();
         let at = slot(by, note);
         let run = runs[at];
-        let before = keys.detunings[run.last as usize];
-        let used = channels_with(run.used, before, keys.detunings[key as usize]);
+        let before = detunings[run.last as usize];
+        let used = channels_with(run.used, before, detunings[key as usize]);
         // The next key of the group is compared with this one, not with the channel's first.
         let last = key;
         runs[at] = Run { used, last };
         count = count.max(used);
         let channel = (used - 1) as u8;
-        keys.records[key as usize] = Place { channel, note }.record();
+        records[key as usize] = Place { channel, note }.record();
     }
     count
 }

@@ -9,7 +9,8 @@ use lib.ListN.{length}
 use borrow.Author.Tests.{lt-ltb, ltb-true}
 use Rattle.channels.specs.Outcome.{Outcome, value, refused}
 use Rattle.senders.specs.Lent.{sent}
-use Rattle.senders.specs.Message.{Message, note_off, note_on, key_pressure, control, program, channel_pressure, bend, Valid, is_bend}
+use Rattle.channels.specs.Refusal.{channel_over15}
+use Rattle.senders.specs.Message.{Message, note_off, note_on, key_pressure, control, program, channel_pressure, bend, Valid, is_channel, is_bend}
 use Rattle.senders.specs.Midi.{bytes, bytes_of, meant, checked, message_rule}
 use Rattle.senders.specs.declared.midi.ChannelMessageType.{ChannelMessageType}
 use Rattle.senders.specs.declared.midi.ChannelMessageType.TheVariants.{NoteOff, NoteOn, PolyphonicKeyPressure, ControlChange, ProgramChange, ChannelPressure, PitchBendChange}
@@ -46,6 +47,10 @@ two_held a b o e =
     let p = test_held 8 (ltb a 128) (cond (ltb b 128) o (refused 8)) e in
     let q = test_held 8 (ltb b 128) o p.1 in
     (ltb-true a 128 p.0, ltb-true b 128 q.0, q.1)
+
+-- a channel that passes its test is one of the 16
+pub channel_checked : (ch : ℕ) {x : Unit {0}} → value x ≡ cond (is_channel ch) passes (refused channel_over15) → ch < 16
+channel_checked ch e = ltb-true ch 16 (test_held channel_over15 (is_channel ch) passes (sym e)).0
 
 -- a byte that passes its test is a data byte
 pub data_checked : (b : ℕ) {x : Unit {0}} → value x ≡ checked (ProgramChange b) passes → b < 128

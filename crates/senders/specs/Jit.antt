@@ -1,4 +1,4 @@
--- The pool tuner (document 01, "midi.rs under tuner" over "jit.rs"): the rule of each call, over what the tuner holds. `fitted` adds 10 to each.
+-- The pool tuner: the rule of each call, over what the tuner holds. `fitted` adds 10 to each.
 -- Assumes nothing.
 use Rattle.std.specs.Prelude.{◌≡◌, List, [], ℕ, Float, length}
 use Rattle.std.proofs.Math.Option.{Option, some, none}

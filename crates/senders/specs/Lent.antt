@@ -1,4 +1,4 @@
--- What a call does to the buffer lent to it, to its state, and what it answers (document 01, below the refusal table): "A refusal returns its
+-- What a call does to the buffer lent to it, to its state, and what it answers: "A refusal returns its
 -- number alone; state and buffers are untouched. Accepted bytes fill the buffer's start, the rest keeps its content." Assumes nothing.
 use Rattle.std.specs.Prelude.{◌≡◌, List, ◌++◌, ℕ, ◌+◌, leb, length, take, drop}
 use Rattle.channels.specs.Outcome.{Outcome, value, refused, refuse◌unless◌then◌}

@@ -1,4 +1,4 @@
--- What the crate's contracts cite: document 01's rules of bytes, and what the MIDI 1.0 Detailed Specification 4.2.1 makes of bytes.
+-- What the crate's contracts cite: the rules of bytes, and what the MIDI 1.0 Detailed Specification 4.2.1 makes of bytes.
 pub mod Lent
 pub mod Message
 pub mod Midi

@@ -1,4 +1,4 @@
--- Document 01's bytes of a message, and its rule for a message that a caller asks for ("midi.rs"). Assumes nothing.
+-- The bytes of a message, and the rule for a message that a caller asks for. Assumes nothing.
 use Rattle.std.specs.Prelude.{List, [], ◌∷◌, ◌++◌, ℕ, ◌+◌, ◌-◌, ◌*◌, ◌%◌, ℤ, pos, negsuc, nat_abs, ◌+ℤ◌}
 use Rattle.std.specs.Int.Signed.{shr_z}
 use Rattle.channels.specs.Outcome.{Outcome, refuse◌unless◌then◌}

@@ -1,4 +1,4 @@
--- The messages that tune a channel ("mts.rs"), a fine tuning or a bend, and the rule of a detuning that a caller passes. Assumes nothing.
+-- The messages that tune a channel, a fine tuning or a bend, and the rule of a detuning that a caller passes. Assumes nothing.
 use Rattle.std.specs.Prelude.{List, [], ◌∷◌, ℕ, ◌/◌, ◌%◌, pos, Float, length}
 use Rattle.channels.specs.Outcome.{Outcome, value, refused, refuse◌unless◌then◌}
 use Rattle.channels.specs.Refusal.{channel_over15}

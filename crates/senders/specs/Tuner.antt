@@ -1,4 +1,4 @@
--- The messages that a tuner sends on its channels ("midi.rs under tuner"), and the calls that a plan tuner and a pool tuner share. Assumes nothing.
+-- The messages that a tuner sends on its channels, and the calls that a plan tuner and a pool tuner share. Assumes nothing.
 use Rattle.std.specs.Prelude.{Bool, true, false, cond, List, [], ◌∷◌, ◌++◌, ℕ, ℤ, pos, negsuc}
 use Rattle.std.proofs.Math.Option.{Option, some, none}
 use Rattle.std.proofs.Math.ListN.{get_elem?}

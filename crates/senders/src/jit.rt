@@ -232,6 +232,7 @@ impl JitTuner {
     }
 
     // The tuning in which a detuning is sent that can be measured.
+    #[tactic(auto, using(channels::proofs::Values::sent_value, crate::proofs::Calls::is_value))]
     fn tuning(&self, detuning: f64) -> Tuning
         requires { positive detuning ≡ true }
         ensures { result ≡ sent_as (kind_of self.now.kind) detuning }

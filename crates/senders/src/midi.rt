@@ -1,16 +1,17 @@
 // Channel messages and their bytes.
 
 ghost use Rattle.std.specs.Prelude.{◌≡◌, true, ℕ, [], ◌∷◌, ◌<◌};
-ghost use Rattle.channels.specs.Outcome.{value};
+ghost use Rattle.channels.specs.Outcome.{value, refuse◌unless◌then◌};
+ghost use Rattle.channels.specs.Refusal.{channel_over15};
 ghost use Rattle.senders.specs.Lent.{Answers};
 ghost use Rattle.arithmetic.specs.Answers.{outcome};
-ghost use Rattle.senders.specs.Message.{Valid, is_bend};
+ghost use Rattle.senders.specs.Message.{Valid, is_channel, is_bend};
 ghost use Rattle.senders.specs.Midi.{status, bend_low, bend_high, bytes, meant, checked, message_rule};
 
 use crate::outgoing::Outgoing;
 use channels::Refusal;
 
-pub(crate) const HIGHEST_CHANNEL: u8 = 15;
+const HIGHEST_CHANNEL: u8 = 15;
 
 const HIGHEST_DATA_BYTE: u8 = 127;
 
@@ -44,9 +45,7 @@ impl ChannelMessageType {
     pub fn to_raw_message(self, channel: u8, out: &mut [u8]) -> Result<usize, Refusal>
         ensures { Answers (message_rule channel self) out.old (outcome result) out.new }
     {
-        if HIGHEST_CHANNEL < channel {
-            return Err(Refusal::ChannelOver15);
-        }
+        check_channel(channel)?;
         self.check()?;
         let mut outgoing = Outgoing::<RECORD_LEN>::none();
         outgoing.put(&self.record(channel));
@@ -111,6 +110,16 @@ impl ChannelMessageType {
             }
         }
     }
+}
+
+// The test of a channel: 6.
+pub(crate) fn check_channel(channel: u8) -> Result<(), Refusal>
+    ensures { outcome result ≡ (refuse channel_over15 unless is_channel channel then value tt) }
+{
+    if HIGHEST_CHANNEL < channel {
+        return Err(Refusal::ChannelOver15);
+    }
+    Ok(())
 }
 
 // The test of a data byte: 8.

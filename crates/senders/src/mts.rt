@@ -9,7 +9,7 @@ ghost use Rattle.channels.specs.TuningValue.{InSteps};
 ghost use Rattle.channels.specs.declared.tuning_value.TuningKind.{TuningKind};
 ghost use Rattle.senders.specs.Mts.{tuning_messages, tuning_size, channel_tuning_rule};
 
-use crate::midi::{ChannelMessageType, HIGHEST_CHANNEL, RECORD_LEN};
+use crate::midi::{ChannelMessageType, RECORD_LEN, check_channel};
 use crate::outgoing::Outgoing;
 use channels::tuning_value::{Tuning, TuningKind, tuning_of};
 use channels::{Ratio, Refusal};
@@ -56,9 +56,7 @@ pub fn channel_tuning(
 ) -> Result<usize, Refusal>
     ensures { Answers (channel_tuning_rule kind channel detuning.float_value) out.old (outcome result) out.new }
 {
-    if HIGHEST_CHANNEL < channel {
-        return Err(Refusal::ChannelOver15);
-    }
+    check_channel(channel)?;
     let tuning = tuning_of(kind, detuning)?;
     let mut outgoing = Outgoing::<LONGEST_TUNING>::none();
     put_tuning(&mut outgoing, channel, tuning);

@@ -96,6 +96,7 @@ fn is_kept(kind: TuningKind, message: ChannelMessageType) -> bool
 }
 
 // Puts a message on every channel of a list, in its order.
+#[tactic(auto, using(crate::proofs::Channels::entry_low, crate::proofs::Channels::valid_on, crate::proofs::Messages::record_length))]
 fn put_to_all<const N: usize>(
     outgoing: &mut Outgoing<N>,
     channels: ChannelList,

@@ -1,8 +1,4 @@
 -- `lists::entry` meets its contract: what `get` finds. Assumes nothing.
-use Rattle.std.proofs.Common.{◌≡◌, ap, ◌∙◌}
-use Rattle.std.specs.Option.{ok_or}
-use Rattle.arithmetic.specs.Answers.{outcome}
-use Rattle.arithmetic.specs.declared.refusal.Refusal.TheVariants.{ListsUnequal}
 use Rattle.plans.proofs.Lines.{entry_got}
 use Rattle.plans.proofs.lists.entry.Goals as goal
 

@@ -1,14 +1,10 @@
--- `placing::place_keys` meets its contract. The loop's invariant is the pass at a key; of the keys only their records change. Assumes nothing.
-use Rattle.std.proofs.Common.{◌≡◌, map, take, drop}
-use Rattle.plans.specs.PlanInternal.{line_at, lines_of}
+-- `placing::place_keys` meets its contract. The loop's invariant is the pass at a key. Assumes nothing.
+use Rattle.std.proofs.Common.{map, drop}
+use Rattle.plans.specs.PlanInternal.{line_at}
 use Rattle.plans.proofs.Pass.{Pass}
 use Rattle.plans.proofs.placing.place_keys.Given as goal
 
-abbrev pub invariant-loop-i : goal.invariant-loop-i
-invariant-loop-i l =
-    let s = l.initial.keys in
-    record {
-      order : l.keys.order ≡ s.order;
-      detunings : l.keys.detunings ≡ s.detunings;
-      pass : Pass l.by (lines_of s) s.detunings l.keys.records l.runs l.count l.i (map (line_at s.records s.detunings) (drop l.i (take s.len s.order)));
-    }
+abbrev pub invariant-loop-key : goal.invariant-loop-key
+invariant-loop-key l =
+    let line = line_at l.initial.records l.detunings in
+    Pass l.by (map line l.key-items) l.detunings l.records l.runs l.count l.key-index (map line (drop l.key-index l.key-items))

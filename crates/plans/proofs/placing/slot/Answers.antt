@@ -5,7 +5,7 @@ use native.Mathlib.Omega.{arith}
 use lib.IntN.{ℤ, pos, negsuc, ◌-ℤ◌}
 use mir.Facts.{to_z-of_z}
 use mir.Syntax.{w32}
-use mir.Val.{SFits, to_z, of_z}
+use mir.Val.{to_z, of_z}
 use Rattle.arithmetic.specs.Note.{is_note}
 use Rattle.arithmetic.proofs.Notes.{note_fits}
 use Rattle.plans.specs.Line.{group}

@@ -1,22 +1,12 @@
 -- `put_to_all` meets its contract. Assumes nothing.
-use Rattle.std.proofs.Common.{sym, ap, ◌∙◌, arith, rules, append_assoc, length}
+use Rattle.std.proofs.Common.{sym, ap, ◌∙◌, arith, append_assoc, length}
 use Rattle.std.proofs.Math.ListN.{length-append}
 use Rattle.channels.specs.ChannelList.{entries}
 use Rattle.senders.specs.Midi.{meant}
-use Rattle.senders.proofs.Channels.{entry_low, has_entry, valid_on, all_more}
+use Rattle.senders.proofs.Channels.{has_entry, all_more}
 use Rattle.senders.proofs.Messages.{record_length}
 use Rattle.senders.proofs.tuner.put_to_all.Goals as goal
 use Rattle.senders.proofs.tuner.put_to_all.Goals.{in-Some, in_default}
-
-pub record-requires : goal.record-requires
-record-requires g c =
-    let a = c.args in
-    valid_on a.message c.requires.valid c.in-Some.channel (entry_low a.channels c.loop-i.i (sym c.in-Some.ensures))
-
-pub put-requires : goal.put-requires
-put-requires g c =
-    let one = ap length c.record.ensures ∙ record_length (meant c.in-Some.channel c.args.message) in
-    (search rules, omega (arith, one, c.requires.room, c.loop-i.invariant.size, c.len-i-end.ensures))
 
 pub loop-i-preserved : goal.loop-i-preserved
 loop-i-preserved g c =

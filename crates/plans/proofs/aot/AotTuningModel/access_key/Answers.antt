@@ -1,6 +1,5 @@
 -- `AotTuningModel::access_key` meets its contract: a key's record is read. Assumes nothing.
-use Rattle.std.proofs.Common.{◌≡◌, length, get_or, map, sym, ◌∙◌, arith}
-use Rattle.plans.specs.PlanBlock.{detuning_of}
+use Rattle.std.proofs.Common.{◌≡◌, length, sym, ◌∙◌, arith}
 use Rattle.plans.specs.Plan.{plan_of}
 use Rattle.plans.proofs.Records.{key_looked_up}
 use Rattle.plans.proofs.PlanBlocks.{record_in}

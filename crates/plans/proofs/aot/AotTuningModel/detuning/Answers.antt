@@ -1,5 +1,5 @@
 -- `AotTuningModel::detuning` meets its contract: channels beyond the plan's have no entry. Assumes nothing.
-use Rattle.std.proofs.Common.{◌≡◌, ℕ, ◌-◌, ◌<◌, ◌≤◌, List, length, get_or, drop, true, false, Some, refl, sym, ap, ◌∙◌, arith}
+use Rattle.std.proofs.Common.{◌≡◌, ℕ, ◌-◌, List, length, get_or, drop, true, Some, refl, sym, ap, ◌∙◌, arith}
 use Rattle.std.specs.Option.{option_eq}
 use Rattle.std.specs.Ordering.{int_eq}
 use mir.Syntax.{w32}
@@ -8,11 +8,8 @@ use mir.Facts.{to_z-of_z}
 use borrow.Author.Tests.{le-ltb, lt-ltb}
 use lib.Ieee.{Float, nan}
 use lib.IntN.{ℤ}
-use Rattle.arithmetic.specs.Answers.{optional}
-use Rattle.plans.specs.declared.aot.GroupBy.{GroupBy}
 use Rattle.plans.specs.PlanBlock.{detuning_of}
 use Rattle.plans.specs.Plan.{KeyRecord, counts, detuning_in, highest, larger, nobody, plan_of, record_of, records_in}
-use Rattle.plans.specs.PlanInternal.{group_up_to}
 use Rattle.plans.proofs.Records.{highest_none, highest_yes, highest_no, counts_up, same_group, other_group}
 use Rattle.plans.proofs.PlanBlocks.{record_at, records_count}
 use Rattle.plans.proofs.aot.AotTuningModel.detuning.Goals as goal

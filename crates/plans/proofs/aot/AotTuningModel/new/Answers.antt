@@ -1,7 +1,6 @@
 -- `AotTuningModel::new` meets its contract: no key has a record. Assumes nothing.
-use Rattle.std.proofs.Common.{rules, ◌≡◌, ℕ, map, List, Float, replicate, length, refl, sym, ap, ◌∙◌}
+use Rattle.std.proofs.Common.{rules, ◌≡◌, ℕ, map, List, Float, replicate, length}
 use Rattle.plans.specs.declared.aot.GroupBy.{GroupBy}
-use Rattle.plans.specs.declared.aot.GroupBy.TheVariants.{Note, NoteLetter, Channel}
 use Rattle.channels.specs.declared.list.ChannelList.{ChannelList}
 use Rattle.channels.specs.ChannelList.{entries}
 use Rattle.plans.specs.PlanBlock.{detuning_of, group_by_of}

@@ -1,7 +1,7 @@
 -- `AotTuningModel::next_detuning` meets its contract: the least group has its detuning, or the channel has none. Assumes nothing.
 use Rattle.std.proofs.Common.{◌≡◌, ℕ, Bool, List, None, map, ltb, length, sym, ap, ◌∙◌, arith}
 use mir.Syntax.{w32}
-use mir.Val.{SFits, to_z, of_z}
+use mir.Val.{SFits}
 use mir.Facts.{to_z-of_z}
 use borrow.Author.Rules.{rules}
 use lib.Ieee.{Float}
@@ -51,7 +51,6 @@ returns-in_err-group c =
     let t = (goal.at.returns-in_err-group c).After-least_group in
     ap optional c.from_residual.ensures
     ∙ no_group (by t) c.args.channel c.args.from (cells t) (ds t) (long t) (in_plan t) (sym c.in_err-group.was ∙ least_is t)
-
 
 pub returns-in_err-detuning : goal.returns-in_err-detuning
 unfolding next_rule plan_of detuning_in records_in

@@ -1,5 +1,5 @@
 -- `AotTuningModel::open` meets its contract: a refused list leaves a model without channels. Assumes nothing.
-use Rattle.std.proofs.Common.{◌≡◌, List, [], ℕ, Result, Ok, Err, refl, sym, ap, ◌∙◌}
+use Rattle.std.proofs.Common.{◌≡◌, List, [], ℕ, Result, Ok, Err, refl, ap, ◌∙◌}
 use Rattle.arithmetic.specs.Answers.{outcome_by}
 use Rattle.arithmetic.specs.declared.refusal.Refusal.{Refusal}
 use Rattle.channels.specs.declared.list.ChannelList.{ChannelList}

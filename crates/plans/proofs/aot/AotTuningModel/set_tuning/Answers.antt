@@ -1,5 +1,5 @@
 -- `AotTuningModel::set_tuning` meets its contract, demand 3 included: what was planned of the keys in order is the rule's plan. Assumes nothing.
-use Rattle.std.proofs.Common.{◌≡◌, ◌≤◌, length, ap, ◌∙◌, arith}
+use Rattle.std.proofs.Common.{◌≡◌, length, arith}
 use Rattle.channels.specs.ChannelList.{entries}
 use Rattle.channels.proofs.ChannelLists.{entries_few}
 use Rattle.plans.specs.Plan.{Tunes, plan_of, planned, tuned, untuned}

@@ -1,5 +1,5 @@
 -- `NoteLists::len` meets its contract, by the test of the lists' lengths. Assumes nothing.
-use Rattle.std.proofs.Common.{◌≡◌, sym, ◌∙◌, length}
+use Rattle.std.proofs.Common.{sym, ◌∙◌}
 use lib.Dec.{eqb→eq}
 use Rattle.channels.proofs.ListLaws.{true→T}
 use Rattle.plans.proofs.Lines.{notes_counted}

@@ -30,7 +30,6 @@ returns-in_err-detuning c =
     hands_on_by key_line c.from_residual-in_err-detuning.result _ c.from_residual-in_err-detuning.ensures.1
     (no_detuning s.keys.now s.notes.now s.detunings.now c.args.i _ c.in_err-detuning.ensures)
 
-
 -- the line of these entries
 module _ (c : In_ok-detuning) where
   abbrev rest : ℤ → Outcome Line

@@ -1,10 +1,7 @@
 -- `SortedKeys::add` meets its contract: a key that came before is refused, another one is put in. Assumes nothing.
 use Rattle.std.proofs.Common.{◌≡◌, ◌+◌, ◌<◌, ◌≤◌, false, length, get_or, set, List, ℕ, length-set, length-take, take, rules, arith, sym, ap, ◌∙◌}
-use lib.Dec.{T}
-use lib.Ieee.{binary64, fits}
 use Rattle.channels.specs.Places.{is_held, place_of}
 use Rattle.channels.proofs.RecordNumbers.{place_cell}
-use Rattle.plans.specs.Line.{Line}
 use Rattle.plans.specs.KeyLine.{key_line}
 use Rattle.plans.specs.PlanInternal.{before_in}
 use Rattle.plans.proofs.Insertion.{before_fits, inserted}

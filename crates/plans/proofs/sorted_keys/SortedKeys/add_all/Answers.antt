@@ -1,6 +1,6 @@
 -- `SortedKeys::add_all` meets its contract, line by line. Assumes nothing.
 use Rattle.std.proofs.Common.{◌≡◌, true, [], add-one, length, refl, sym, ap, ◌∙◌, arith}
-use Rattle.arithmetic.specs.Outcome.{Outcome, refused, value, refuse◌unless◌then◌}
+use Rattle.arithmetic.specs.Outcome.{refused, value}
 use Rattle.arithmetic.specs.Refusal.{lists_unequal}
 use Rattle.plans.specs.KeyLine.{key_line}
 use Rattle.plans.specs.PlanLists.{line_by_line}
