@@ -28,7 +28,12 @@ pub(crate) fn place_keys(keys: &mut SortedKeys, by: GroupBy) -> u16
     requires { Ready keys.old }
     ensures { Seats by (lines_of keys.old) (records_in keys.new.records keys.new.detunings) result }
 {
-    let SortedKeys { order, len, records, detunings } = keys;
+    let SortedKeys {
+        order,
+        len,
+        records,
+        detunings,
+    } = keys;
     let mut runs = [NO_KEYS; GROUPS];
     let mut count: u16 = 0;
     for &key in &order[..*len] {

@@ -27,10 +27,7 @@ fn accessed(out: &mut impl Write, place: Option<Place>) -> io::Result<()> {
     writeln!(out)
 }
 
-fn pressed(
-    out: &mut impl Write,
-    answer: Result<Option<Registered>, Refusal>,
-) -> io::Result<()> {
+fn pressed(out: &mut impl Write, answer: Result<Option<Registered>, Refusal>) -> io::Result<()> {
     match answer {
         Ok(Some(press)) => accepted(out, press),
         Ok(None) => writeln!(out, ": rejected"),
@@ -258,8 +255,7 @@ fn press_note(
 // What a press would answer changes nothing, and a press for its note is that press.
 fn in_place(out: &mut impl Write) -> io::Result<()> {
     writeln!(out, "in place")?;
-    let (mut model, _) =
-        JitTuningModel::open(&[0, 1], PoolGroupBy::Channel, PoolingMode::Stop);
+    let (mut model, _) = JitTuningModel::open(&[0, 1], PoolGroupBy::Channel, PoolingMode::Stop);
     would_press(out, &model, 1, 440.0)?;
     look(out, &model, 1)?;
     press_note(out, &mut model, 1, 69)?;

@@ -158,7 +158,11 @@ impl fmt::Display for Pressed {
         let press = &self.0;
         let note = press.started_note.number();
         let detuning = Decimal(press.detuning);
-        write!(f, "channel {}, note {note}, detuning {detuning}", press.channel)?;
+        write!(
+            f,
+            "channel {}, note {note}, detuning {detuning}",
+            press.channel
+        )?;
         match press.stopped_note {
             Some(stopped) => write!(f, ", stopped note {}", stopped.number()),
             None => Ok(()),

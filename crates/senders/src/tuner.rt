@@ -132,7 +132,7 @@ pub(crate) fn put_key<const N: usize>(
 }
 
 // Puts a note's message, if it has one. `value` is its velocity or pressure.
-#[tactic(auto, using(crate::proofs::Notes::number_is, crate::proofs::Notes::note_silent))]
+#[tactic(auto, using(crate::proofs::Notes::number_is, crate::proofs::Notes::note_bytes, crate::proofs::Notes::note_silent))]
 pub(crate) fn put_note<const N: usize>(
     outgoing: &mut Outgoing<N>,
     channel: u8,
