@@ -18,6 +18,7 @@ pub mod Models
 pub mod Pass
 pub mod Held
 pub mod PlanBlocks
+pub mod Largest
 pub mod NextEntry
 pub mod Planned
 pub mod PlanEntries

@@ -12,12 +12,13 @@ use lib.Ieee.{Float, nan, inf, fin, binary64, is_nan, of_bits, lt, up, down}
 use lib.Ieee.Fits.{up_pos}
 use lib.Ieee.Positive.{positive}
 use lib.ListN.{length, get_or, length-map}
+use Rattle.std.specs.Float.{NotNan}
 use Rattle.channels.specs.Lists.{Each}
 use Rattle.arithmetic.specs.Outcome.{value}
 use Rattle.plans.specs.declared.aot.GroupBy.{GroupBy}
 use Rattle.plans.specs.Line.{Line}
 use Rattle.plans.specs.PlanBlock.{detuning_of}
-use Rattle.plans.specs.Plan.{KeyRecord, Model, nobody, record_of, tuned, detuning_in, model_with, records_in, empty, holding, planned}
+use Rattle.plans.specs.Plan.{KeyRecord, Model, nobody, record_of, tuned, detuning_in, model_with, records_of, records_in, empty, holding, planned}
 use Rattle.plans.specs.Walk.{count}
 use Rattle.plans.specs.PlanInternal.{Accepted, Seats}
 use Rattle.plans.proofs.Records.{records_at_lem, records_long}
@@ -71,6 +72,19 @@ records_count cells ds e = records_long cells (map detuning_of ds) (e ∙ sym (l
 pub record_at : (cells : List ℕ) (ds : List Float) → length cells ≡ length ds → (k : ℕ) → k < length ds → (d : Float) → d ≡ detuning_of (get_or ds k nan)
     → get_or (records_in cells ds) k nobody ≡ record_of (get_or cells k 0) d
 record_at cells ds e k h d u = record_in cells ds e k ∙ ap (record_of (get_or cells k 0)) (get_or-map detuning_of ds k nan nan h ∙ sym u)
+
+pub number_read : (d : Float) → NotNan (detuning_of d)
+unfolding detuning_of is_nan of_bits
+number_read nan = tt
+number_read (inf s) = tt
+number_read (fin s m e) = tt
+
+-- all are read as numbers
+pub numbers_read : (cells : List ℕ) (ds : List Float) → Each (λ (r : KeyRecord). NotNan r.detuning) (records_in cells ds)
+unfolding records_in records_of
+numbers_read [] ds = tt
+numbers_read (c ∷ cells) [] = tt
+numbers_read (c ∷ cells) (d ∷ ds) = (number_read d, numbers_read cells ds)
 
 -- ---- no plan
 module _ (cs : List ℕ) (by : GroupBy) (n : ℕ) (rs : List KeyRecord) (e : n ≡ length cs) (out : AllOut rs) where

@@ -1,10 +1,10 @@
 -- What the private functions of a plan yield. No public contract cites it. Assumes nothing.
 use Rattle.std.specs.Prelude.{◌≡◌, true, false, cond, ◌&&◌, List, [], ◌∷◌, ◌++◌, map, ℕ, zero, suc, ◌+◌, ◌-◌, ◌<◌, ◌≤◌, T, eqb, leb, ℤ, pos, negsuc, length, get_or, take, drop, Float, Result, Ok, Err}
 use Rattle.std.specs.Prelude.{Option as Optional, Some, None, ◌/◌}
-use Rattle.std.proofs.Math.Option.{some}
+use Rattle.std.proofs.Math.Option.{Option, none, some}
 use Rattle.std.specs.Int.Signed.{le_z, lt_z}
 use Rattle.std.specs.Float.{nan, binary64}
-use Rattle.std.specs.Float.Ieee.{fits, le}
+use Rattle.std.specs.Float.Ieee.{fits, le, lt}
 use Rattle.std.specs.Float.Ieee.Positive.{positive}
 use Rattle.arithmetic.specs.Outcome.{Outcome, value, refused}
 use Rattle.arithmetic.specs.Note.{is_note}
@@ -116,7 +116,12 @@ pub record Seats (by : GroupBy) (lines : List Line) (rs : List KeyRecord) (n : �
   pub no_other : (k : ℕ) → Each (λ (l : Line). eqb l.key k ≡ false) lines → is_in (get_or rs k nobody) ≡ false
   pub long : length rs ≡ key_count
 
--- ---- the scan
+-- ---- the scans
+
+-- the larger of the largest so far, if there is one, and one more; of two that are equal the new one
+abbrev pub raised : Option Float → Float → Option Float
+raised none d = some d
+raised (some other) d = cond (lt d other) (some other) (some d)
 
 -- the group of a key up to channel c, by its cell
 unfoldable pub group_up_to : GroupBy → ℕ → ℕ → Optional ℤ

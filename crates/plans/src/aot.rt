@@ -4,8 +4,8 @@ ghost use Rattle.std.specs.Prelude.{◌≡◌, OnOk};
 ghost use Rattle.arithmetic.specs.Answers.{optional, outcome_by};
 ghost use Rattle.channels.specs.ChannelList.{entries};
 ghost use Rattle.plans.specs.PlanBlock.{detuning_of, group_by_of};
-ghost use Rattle.plans.specs.Plan.{Measurable, Smallest, Tunes, access_answer, empty, larger, next_rule, open_rule, plan_answer, plan_of, planned};
-ghost use Rattle.plans.specs.PlanInternal.{group_up_to, least_from, lower};
+ghost use Rattle.plans.specs.Plan.{Measurable, Smallest, Tunes, access_answer, empty, next_rule, open_rule, plan_answer, plan_of, planned};
+ghost use Rattle.plans.specs.PlanInternal.{group_up_to, least_from, lower, raised};
 
 use crate::lists::TuningLists;
 use crate::placing::{group_of, place_keys};
@@ -163,9 +163,9 @@ impl AotTuningModel {
         }
         let by = self.group_by();
         let mut largest: Option<f64> = None;
-        for key in (0..KEYS).rev() {
-            if group_up_to(self.records[key], by, channel) == Some(group) {
-                largest = larger(number_or_zero(self.detunings[key]), largest);
+        for (&cell, &detuning) in self.records.iter().zip(&self.detunings) {
+            if group_up_to(cell, by, channel) == Some(group) {
+                largest = raised(largest, number_or_zero(detuning));
             }
         }
         largest
@@ -223,12 +223,12 @@ fn number_or_zero(detuning: f64) -> f64
     if detuning.is_nan() { 0.0 } else { detuning }
 }
 
-// The larger of a detuning and another one, if there is one.
-fn larger(detuning: f64, other: Option<f64>) -> Option<f64>
-    ensures { optional result ≡ larger detuning (optional other) }
+// The larger of the largest so far, if there is one, and one more; of two that are equal the new one.
+fn raised(largest: Option<f64>, detuning: f64) -> Option<f64>
+    ensures { optional result ≡ raised (optional largest) detuning }
 {
-    match other {
-        Some(d) if detuning <= d => other,
+    match largest {
+        Some(other) if detuning < other => largest,
         _ => Some(detuning),
     }
 }

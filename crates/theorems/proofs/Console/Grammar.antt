@@ -9,14 +9,18 @@ use mathlib.Core.Option.{Option, some, none}
 use lib.ListN.{length, length-append}
 use lib.Dec.{eqb, leb}
 use borrow.Author.Tests.{eqb-true, leb-true}
+use Rattle.std.specs.Prelude.{Result, Ok, Err}
+use Rattle.std.specs.Str.{bytes_eq}
+use Rattle.std.proofs.lemmas.Slice.Eq.{bytes_eq-Decides}
+use Rattle.arithmetic.specs.Answers.{outcome_by}
+use Rattle.arithmetic.specs.declared.refusal.Refusal.{Refusal}
 use Rattle.lines.specs.Split.{into, split}
 use Rattle.channels.specs.Outcome.{value, refused}
 use Rattle.lines.specs.Grammar.{word, digits, decimal, allowed}
 use Rattle.theorems.specs.Grammar.{Spells, Means}
-use Rattle.lines.specs.Line.{event, same, kind_of, number, event_of, of_fields, meaning, meant}
+use Rattle.lines.specs.Line.{event, kind_of, number, event_of, of_fields, meaning, meant}
 use Rattle.lines.specs.declared.line.Kind.{Kind}
-use Rattle.lines.specs.declared.line.Line.{Line}
-use Rattle.lines.specs.declared.line.Line.TheVariants.{Event as IsEvent, Malformed}
+use Rattle.lines.specs.declared.line.Event.{Event as ParsedEvent}
 use Rattle.lines.specs.declared.line.Kind.TheVariants.{On, Off, Bend}
 use Rattle.lines.proofs.Splits.{into_none, split_sep, split_other}
 use Rattle.lines.proofs.Lines.{number_some, event_some, meaning_fields}
@@ -56,7 +60,7 @@ word_length Off = omega arith
 word_length Bend = omega arith
 
 kind_word : (k : Kind) → kind_of (word k) ≡ some k
-unfolding word kind_of same
+unfolding word kind_of
 kind_word On = refl
 kind_word Off = refl
 kind_word Bend = refl
@@ -110,19 +114,10 @@ join_split sep (b ∷ s) = go (eqb b sep) refl (join_split sep s)
         join_sep sep s ∙ cc (ih, h)
     go false e ih = join_byte sep b (split sep s) ∙ ap (λ (l : List ℕ). b ∷ l) ih
 
-same_equal : (s t : List ℕ) → same s t ≡ true → s ≡ t
-unfolding same
-same_equal [] [] e = refl
-same_equal [] (b ∷ t) e = let z : ◌≡◌ {A = ℕ} 0 1 = cc e in absurd (omega arith)
-same_equal (a ∷ s) [] e = let z : ◌≡◌ {A = ℕ} 0 1 = cc e in absurd (omega arith)
-same_equal (a ∷ s) (b ∷ t) e =
-    let x = both (eqb a b) (same s t) e in
-    let h : a ≡ b = eqb-true a b x.0 in
-    cc (h, same_equal s t x.1)
-
 word_kind : (s : List ℕ) (k : Kind) → kind_of s ≡ some k → s ≡ word k
 unfolding kind_of word
-word_kind s k e = go (same s (word On)) (same s (word Off)) (same s (word Bend)) (same_equal s (word On)) (same_equal s (word Off)) (same_equal s (word Bend)) e
+word_kind s k e =
+    go (bytes_eq s (word On)) (bytes_eq s (word Off)) (bytes_eq s (word Bend)) (bytes_eq-Decides s (word On)).0 (bytes_eq-Decides s (word Off)).0 (bytes_eq-Decides s (word Bend)).0 e
   where
     go : (x y z : Bool) → (x ≡ true → s ≡ word On) → (y ≡ true → s ≡ word Off) → (z ≡ true → s ≡ word Bend)
         → cond x (some On) (cond y (some Off) (cond z (some Bend) none)) ≡ some k → s ≡ word k
@@ -214,15 +209,16 @@ longest line {k} g =
     omega (arith, ap length g.bytes, word_length k, l1, l2, l3, g.keyed.most, g.pitched.most, g.struck.most)
 
 -- so what `line::parse` answers, which is `meaning`, is the grammar's event, and an event only if the grammar has one
-pub parsed : (line : List ℕ) (r : Line) (k : Kind) (a m v : ℕ) → meant r ≡ meaning line → r ≡ IsEvent k a m v ↔ Means line k a m v
-unfolding meant
-parsed line r k a m v e = (λ h. sound line k a m v (sym e ∙ ap meant h), λ g. back r (e ∙ complete line k a m v g))
+pub parsed :
+    (line : List ℕ) (r : Result ParsedEvent Refusal) (k : Kind) (a m v : ℕ) → outcome_by meant r ≡ meaning line
+    → r ≡ Ok (record { kind = k; key = a; millihertz = m; velocity = v }) ↔ Means line k a m v
+parsed line r k a m v e = (λ h. sound line k a m v (sym e ∙ ap (outcome_by meant) h), λ g. back r (e ∙ complete line k a m v g))
   where
-    back : (r : Line) → meant r ≡ value (event k a m v) → r ≡ IsEvent k a m v
-    back (IsEvent k' a' m' v') h =
-        let ek : k' ≡ k = cc h in
-        let ea : a' ≡ a = cc h in
-        let em : m' ≡ m = cc h in
-        let ev : v' ≡ v = cc h in
-        cc (ek, ea, em, ev)
-    back Malformed h = no_event h
+    back : (r : Result ParsedEvent Refusal) → outcome_by meant r ≡ value (event k a m v) → r ≡ Ok (record { kind = k; key = a; millihertz = m; velocity = v })
+    back (Ok p) h =
+        let ek : p.kind ≡ k = cc h in
+        let ea : p.key ≡ a = cc h in
+        let em : p.millihertz ≡ m = cc h in
+        let ev : p.velocity ≡ v = cc h in
+        rw (← ek, ← ea, ← em, ← ev)
+    back (Err n) h = no_event h

@@ -11,7 +11,7 @@ use borrow.Author.Tests.{eqb-true, eqb-false}
 use Rattle.senders.specs.Jit.{Tuner}
 use Rattle.lines.specs.Split.{into, feed, split}
 use Rattle.lines.specs.Console.{answer, next, answers, nonempty, opened, ended, lines_of, output}
-use Rattle.lines.specs.Session.{clip, Session, session, Stepped, start, then, text, Taken, nothing, byte_then, step_rule, finish, Calls, none, call}
+use Rattle.lines.specs.Session.{clip, Session, Stepped, start, then, text, Taken, nothing, byte_then, step_rule, finish, Calls, none, call}
 use Rattle.lines.proofs.Clips.{clip_append, answer_clip, next_clip}
 use Rattle.lines.specs.declared.step.Step.{Step}
 use Rattle.lines.proofs.Splits.{into_none, into_into, split_sep, split_other}
@@ -104,8 +104,8 @@ whole_input {s} {input} {out} cs = sym (calls_ahead cs) ∙ ap (λ (x : List (Li
 
 -- a call of the code, by its contract, is one of `Calls`: what it wrote stands at the start of its buffer
 pub step_call :
-    {s s' : Session} {piece old new out : List ℕ} (rest : List ℕ) (r : Step) → Stepped s piece old new r
-    → Calls (session r.console) (drop r.used piece ++ rest) s' out → Calls s (piece ++ rest) s' (take r.written new ++ out)
+    {s t s' : Session} {piece old new out : List ℕ} (rest : List ℕ) (r : Step) → Stepped s piece old new t r
+    → Calls t (drop r.used piece ++ rest) s' out → Calls s (piece ++ rest) s' (take r.written new ++ out)
 step_call {s} {s'} {piece} {old} {new} {out} rest r p cs =
     let q = step_rule (length old) s piece in
     let o : take r.written new ≡ q.output =
