@@ -163,6 +163,8 @@ fn set(tuner: &mut AotTuner, list: u8, out: &mut [u8]) -> Result<PlanSent, Refus
     }
 }
 
+// The calls by name. Those of pool.rt have the same names and other parts, so that one function for both would be no plainer.
+
 fn tune(out: &mut impl Write, tuner: &mut AotTuner, list: u8) -> io::Result<()> {
     write!(out, "  list {list}:")?;
     play(out, tuner, Call::Set(list))
