@@ -1,53 +1,52 @@
--- A line that ends: behind the bytes that a console holds, and at the end of the input. Assumes nothing.
-use Prim.Native.Nat.{ℕ, ◌<◌, ◌≤◌}
+-- A line that has begun, as more of it comes and at the end of the input. Assumes nothing.
+use Prim.Native.Nat.{ℕ, ◌+◌, ◌-◌, ◌≤◌, ◌<◌, min}
 use native.Mathlib.Omega.{arith}
-use mathlib.Core.Path.{◌≡◌, refl, sym, ◌∙◌, ap, subst}
+use mathlib.Core.Path.{◌≡◌, refl, sym, ◌∙◌, ap}
 use mathlib.Core.List.{List, [], ◌∷◌, ◌++◌, append-nil}
-use mathlib.Core.Bool.{Bool, true, false}
-use lib.Dec.{leb}
 use lib.ListN.{length, take}
-use borrow.Author.Tests.{leb-true, leb-false}
-use Rattle.channels.specs.Outcome.{value, refused}
-use Rattle.channels.specs.Refusal.{buffer_too_short}
-use Rattle.senders.specs.Lent.{Steps, Answers, sent, written}
-use Rattle.senders.specs.Answers.{sent_answer}
-use Rattle.senders.specs.Jit.{view}
-use Rattle.senders.specs.declared.midi.Sent.{Sent}
-use Rattle.lines.specs.Console.{answer, next, answers, nonempty, line_rule}
-use Rattle.lines.specs.Session.{Session, session, clip, Taken, nothing, step_rule, Stepped, finish, finish_rule}
-use Rattle.lines.specs.Split.{feed}
-use Rattle.lines.specs.Inner.{EndedBy}
-use Rattle.lines.specs.declared.step.Console.{Console}
-use Rattle.lines.specs.declared.step.Step.{Step}
-use Rattle.lines.proofs.Clips.{answer_clip, next_clip}
-use Rattle.lines.proofs.Hears.{as_text, as_next}
-use Rattle.lines.proofs.Stepping.{feed_byte, no_room_byte}
+use lib.Seq.{take-append-add}
+use borrow.Author.Tests.{le-leb}
+use Rattle.std.proofs.lemmas.List.{take_min}
+use Rattle.channels.specs.Outcome.{value}
+use Rattle.senders.specs.Lent.{Steps}
+use Rattle.senders.specs.Jit.{Tuner}
+use Rattle.lines.specs.Split.{split}
+use Rattle.lines.specs.Line.{of_fields, meaning}
+use Rattle.lines.specs.Console.{event_rule, answer, next, after, answers, nonempty}
+use Rattle.lines.specs.Session.{Session, clip, finish, finish_rule, line_ended}
 
--- as many bytes of the line were given as decide what it means
-pub ended_by_lem : (con : Console) (line more : List ℕ) (r : Sent) (cells : List ℕ) {out new : List ℕ}
-    → clip line ≡ clip (take con.len con.held ++ more)
-    → Steps view (line_rule (view con.cells) line) con.cells out (sent_answer r) cells new → EndedBy (session con) more out new r (view cells)
-ended_by_lem con line more r cells {out = out} {new = new} e s =
-    let t = view con.cells in
-    let whole = take con.len con.held ++ more in
-    let same : answer t line ≡ answer t whole = sym (answer_clip t line) ∙ ap (answer t) e ∙ answer_clip t whole in
-    let then : next t line ≡ next t whole = sym (next_clip t line) ∙ ap (next t) e ∙ next_clip t whole in
-    record {
-      text = subst (λ (x : List ℕ). Answers (sent x) out (sent_answer r) new) same (as_text {view = view} (answer t line) (next t line) s);
-      session_is = λ w.
-          as_next {view = view} (answer t line) (subst (λ (x : Sent). Steps view (line_rule t line) con.cells out (sent_answer x) cells new) w s) ∙ then;
-    }
+-- as much as is kept of it
+pub clip_more : (begun more : List ℕ) (room kept : ℕ) → room + length begun ≡ 65 → kept ≡ min room (length more)
+    → begun ++ take kept more ≡ clip (begun ++ more)
+clip_more begun more room kept all is =
+    let sum : length begun + room ≡ 65 = omega arith in
+    ap (λ (k : ℕ). begun ++ take k more) is
+    ∙ ap (λ (l : List ℕ). begun ++ l) (take_min room more)
+    ∙ sym (take-append-add begun more room)
+    ∙ ap (λ (k : ℕ). take k (begun ++ more)) sum
 
--- ---- the end of the input
+-- an empty line is malformed
+next_none : (t : Tuner) → next t [] ≡ t
+unfolding next after event_rule meaning of_fields split
+next_none t = refl
 
-pub finish_none : (s : Session) → length s.begun ≡ 0 → finish s ≡ []
+-- where none has begun, the end of the input answers nothing
+finish_none : (s : Session) → length s.begun ≡ 0 → (finish s ≡ []) × (s ≡ line_ended s)
 unfolding finish answers nonempty
 finish_none s h = go s.begun h
   where
-    go : (l : List ℕ) → length l ≡ 0 → answers s.tuner (nonempty l) ≡ []
-    go [] h = refl
+    go : (l : List ℕ) → length l ≡ 0 → (answers s.tuner (nonempty l) ≡ []) × (◌≡◌ {A = Session} (record { tuner = s.tuner; begun = l }) (record { tuner = next s.tuner l; begun = [] }))
+    go [] h = (refl, ap (λ (t : Tuner). record { tuner = t; begun = [] }) (sym (next_none s.tuner)))
     go (b ∷ l) h = absurd (omega arith)
 
+pub finish_nothing : {T : Type 0} {view : T → Session} {t : T} {old : List ℕ} (s : Session) → view t ≡ s → length s.begun ≡ 0
+    → Steps view (finish_rule s) t old (value 0) t old
+finish_nothing {old = old} s v h =
+    let none = finish_none s h in
+    let room = le-leb 0 (length old) (omega arith) in
+    rw none.0 (record { told_is = rw room refl; moved_is = rw room (v ∙ none.1); left_is = rw room refl })
+
+-- where one has, it ends that line
 pub finish_some : (s : Session) → 0 < length s.begun → finish s ≡ answer s.tuner s.begun
 unfolding finish answers nonempty
 finish_some s h = go s.begun h
@@ -55,44 +54,3 @@ finish_some s h = go s.begun h
     go : (l : List ℕ) → 0 < length l → answers s.tuner (nonempty l) ≡ answer s.tuner l
     go [] h = absurd (omega arith)
     go (b ∷ l) h = append-nil (answer s.tuner (b ∷ l))
-
--- the same by a step over a feed
-module _ (s : Session) {old new : List ℕ} (r : Step) (some : 0 < length s.begun) (done : Stepped s (feed ∷ []) old new r) where
-  step_written : length (answer s.tuner s.begun) ≤ length old → (step_rule (length old) s (feed ∷ [])).used ≡ 1
-  unfolding step_rule
-  step_written h = ap (λ (t : Taken). t.used) (feed_byte (length old) s feed [] refl h)
-
-  step_text : length (answer s.tuner s.begun) ≤ length old → (step_rule (length old) s (feed ∷ [])).output ≡ answer s.tuner s.begun
-  unfolding step_rule
-  step_text h = ap (λ (t : Taken). t.output) (feed_byte (length old) s feed [] refl h) ∙ append-nil (answer s.tuner s.begun)
-
-  step_none : length old < length (answer s.tuner s.begun) → step_rule (length old) s (feed ∷ []) ≡ nothing s
-  step_none h = no_room_byte (length old) s feed [] refl h
-
-  pub finish_written : (r.used ≡ 0 → ⊥) → Answers (finish_rule s) old (value r.written) new
-  finish_written used = go (leb (length (answer s.tuner s.begun)) (length old)) refl
-    where
-      go : (b : Bool) → leb (length (answer s.tuner s.begun)) (length old) ≡ b → Answers (finish_rule s) old (value r.written) new
-      go true h =
-          let text = step_text (leb-true (length (answer s.tuner s.begun)) (length old) h) in
-          rw (finish_some s some)
-          (record {
-            told_is = rw h (ap value (done.written_is ∙ ap length text));
-            moved_is = rw h refl;
-            left_is = rw h (done.left_is ∙ ap (λ (l : List ℕ). written l old) text);
-          })
-      go false h = absurd (used (done.used_is ∙ ap (λ (t : Taken). t.used) (step_none (leb-false (length (answer s.tuner s.begun)) (length old) h))))
-
-  pub finish_unwritten : r.used ≡ 0 → Answers (finish_rule s) old (refused buffer_too_short) new
-  finish_unwritten used = go (leb (length (answer s.tuner s.begun)) (length old)) refl
-    where
-      go : (b : Bool) → leb (length (answer s.tuner s.begun)) (length old) ≡ b → Answers (finish_rule s) old (refused buffer_too_short) new
-      go true h = absurd (let z : ◌≡◌ {A = ℕ} 0 1 = sym used ∙ done.used_is ∙ step_written (leb-true (length (answer s.tuner s.begun)) (length old) h) in omega arith)
-      go false h =
-          let none = step_none (leb-false (length (answer s.tuner s.begun)) (length old) h) in
-          rw (finish_some s some)
-          (record {
-            told_is = rw h refl;
-            moved_is = rw h refl;
-            left_is = rw h (done.left_is ∙ ap (λ (t : Taken). written t.output old) none);
-          })

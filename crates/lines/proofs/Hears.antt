@@ -1,15 +1,23 @@
 -- A line answered, from what the tuner's call did and what was shown. Assumes nothing.
-use Prim.Native.Nat.{ℕ, ◌≤◌, ◌<◌}
+use Prim.Native.Nat.{ℕ, ◌/◌, ◌≤◌, ◌<◌, min}
 use native.Mathlib.Omega.{arith}
 use mathlib.Core.Path.{◌≡◌, refl, sym, ◌∙◌, ap, subst}
 use mathlib.Core.Bool.{Bool, true, false, not}
-use mathlib.Core.Option.{Option}
-use mathlib.Core.List.{List, ◌++◌}
+use mathlib.Core.Option.{Option, some, none}
+use mathlib.Core.List.{List, [], ◌∷◌, ◌++◌}
 use lib.Dec.{leb}
 use lib.Ieee.{Float}
 use lib.ListN.{length, take, drop, length-append}
 use lib.Seq.{take_at, take-append-le}
 use borrow.Author.Tests.{le-leb, leb-false}
+use Rattle.std.specs.Prelude.{Some, None, Result, Ok, Err, unwrap_or}
+use Rattle.std.specs.Prelude.{Option as Optional}
+use Rattle.std.specs.Result.{IsErrAnd}
+use Rattle.arithmetic.specs.Answers.{outcome}
+use Rattle.arithmetic.specs.Refusal.{number}
+use Rattle.arithmetic.specs.declared.refusal.Refusal.{Refusal}
+use Rattle.arithmetic.specs.declared.refusal.Refusal.TheVariants.{PitchOutOfRange, NotMeasurable, DetuningOutOfRange, NoteOutOfRange, KeyTwice, ChannelOver15, ChannelTwice}
+use Rattle.arithmetic.specs.declared.refusal.Refusal.TheVariants.{DataByteOver127, BendOutOfRange, BufferTooShort, KeyHeld, ListsUnequal, LineMalformed}
 use Rattle.channels.specs.Outcome.{Outcome, value, refused, refuse◌unless◌then◌}
 use Rattle.channels.specs.Refusal.{buffer_too_short}
 use Rattle.arithmetic.specs.Pitch.{is_pitch, detuning_of}
@@ -17,33 +25,56 @@ use Rattle.arithmetic.specs.Nearest.{nearest_note}
 use Rattle.channels.specs.Places.{Place, is_held}
 use Rattle.pools.specs.Pool.{State, Press, found, released, pressed, unless_held, register_rule, tuning, repitch_rule}
 use Rattle.senders.specs.Lent.{Effect, sends, sent, Answer, Steps, Answers}
-use Rattle.senders.specs.Answers.{sent_answer}
-use Rattle.senders.specs.Jit.{Tuner, with_pool, Pressed, press_effect, repitch_effect, note_on_rule, note_off_rule, note_pitch_rule}
+use Rattle.senders.specs.Answers.{press_answer}
+use Rattle.senders.specs.Answers.{pressed as told}
+use Rattle.senders.specs.Jit.{Tuner, with_pool, Pressed, sounds, rejects, press_effect, repitch_effect, note_on_rule, note_off_rule, note_pitch_rule}
 use Rattle.senders.specs.Message.{is_data}
 use Rattle.senders.specs.Midi.{bytes_of}
 use Rattle.senders.specs.Tuner.{key_messages}
 use Rattle.senders.specs.declared.tuner.NoteMessage.TheVariants.{Off as Silent}
 use Rattle.senders.proofs.Lent.{ends_short}
 use Rattle.senders.proofs.Room.{Counts, press_counts, release_counts, repitch_counts}
-use Rattle.senders.specs.declared.midi.Sent.{Sent}
-use Rattle.senders.specs.declared.midi.Sent.TheVariants.{Written, Refused}
-use Rattle.lines.specs.Line.{Event, event, meaning, meant}
+use Rattle.lines.specs.Split.{split}
+use Rattle.lines.specs.Grammar.{allowed}
+use Rattle.lines.specs.Line.{Event, event, kind_of, event_of, of_fields, meaning, meant}
+use Rattle.lines.specs.Line.{number as digits_number}
 use Rattle.lines.specs.Show.{bytes_line, refusal_line}
 use Rattle.lines.specs.Console.{heard, keeping, pitch_of, event_rule, shown, after, answer, next, line_rule}
-use Rattle.lines.specs.Inner.{count, counted}
+use Rattle.lines.proofs.Shows.{shown_length}
+use Rattle.lines.specs.declared.line.Event.{Event as ParsedEvent}
 use Rattle.lines.specs.declared.line.Kind.{Kind}
 use Rattle.lines.specs.declared.line.Kind.TheVariants.{On, Off, Bend}
-use Rattle.lines.specs.declared.line.Line.{Line}
-use Rattle.lines.specs.declared.line.Line.TheVariants.{Event as IsEvent, Malformed}
+
+-- a refusal that is handed on
+pub handed_on : {A : Type 0} (r : Result A Refusal) (e : Refusal) → IsErrAnd r (λ d. d ≡ e) → outcome r ≡ refused (number e)
+handed_on (Ok x) e h = absurd h
+handed_on (Err d) e h = ap (λ (e : Refusal). refused (number e)) h
 
 -- ---- the calls in the words of `event_rule`
 
+-- how many bytes a press sent
+abbrev pub count : Pressed → ℕ
+count (sounds n) = n
+count rejects = 0
+
+unfoldable pub counted : Outcome Pressed → Outcome ℕ
+counted (value p) = value (count p)
+counted (refused n) = refused n
+
+pub counted_sent : (o : Optional ℕ) → value (unwrap_or o 0) ≡ counted (value (told o))
+unfolding counted
+counted_sent (Some n) = refl
+counted_sent None = refl
+
+pub counted_refused : (n : ℕ) → refused n ≡ counted (refused n)
+unfolding counted
+counted_refused n = refl
+
 pressed_counts : (t : Tuner) (key : ℕ) (hz : Float) (v : ℕ) → Counts count (note_on_rule t key hz v)
-unfolding count
 pressed_counts t key hz v = press_counts count (λ n. refl) refl t key hz v
 
 -- a press, by the bytes it sends
-pub press_heard : {T : Type 0} {view : T → Tuner} {t back : T} {old new : List ℕ} {a : Outcome Pressed} (rule : Outcome (Effect Pressed Tuner)) → Counts count rule
+press_heard : {T : Type 0} {view : T → Tuner} {t back : T} {old new : List ℕ} {a : Outcome Pressed} (rule : Outcome (Effect Pressed Tuner)) → Counts count rule
     → Steps view rule t old a back new → Steps view (heard rule) t old (counted a) back new
 unfolding heard counted
 press_heard {view = view} {t = t} {back = back} {old = old} {new = new} {a = a} (value e) n s = go (leb (length e.bytes) (length old)) refl
@@ -59,7 +90,7 @@ press_heard {view = view} {t = t} {back = back} {old = old} {new = new} {a = a} 
 press_heard (refused k) n s = record { told_is = ap counted s.told_is; moved_is = s.moved_is; left_is = s.left_is }
 
 -- a repitch, which leaves the tuner as it is
-pub repitch_heard : {T : Type 0} {view : T → Tuner} {t : T} {old new : List ℕ} {a : Outcome ℕ} (u : Tuner) (rule : Answer) → view t ≡ u → Counts (λ n. n) rule
+repitch_heard : {T : Type 0} {view : T → Tuner} {t : T} {old new : List ℕ} {a : Outcome ℕ} (u : Tuner) (rule : Answer) → view t ≡ u → Counts (λ n. n) rule
     → Answers rule old a new → Steps view (keeping u rule) t old a t new
 unfolding keeping
 repitch_heard {view = view} {t = t} {old = old} {new = new} {a = a} u (value e) v n s = go (leb (length e.bytes) (length old)) refl
@@ -68,6 +99,40 @@ repitch_heard {view = view} {t = t} {old = old} {new = new} {a = a} u (value e) 
     go true h = record { told_is = rw h ((rw h at s.told_is) ∙ ap value n.0); moved_is = rw h v; left_is = rw h (rw h at s.left_is) }
     go false h = record { told_is = rw h (rw h at s.told_is); moved_is = rw h refl; left_is = rw h (rw h at s.left_is) }
 repitch_heard u (refused k) v n s = record { told_is = s.told_is; moved_is = refl; left_is = s.left_is }
+
+-- the event of a line, by its kind
+event_is : {o : Outcome Event} {e : ParsedEvent} {k : Kind} → value (meant e) ≡ o → e.kind ≡ k → o ≡ value (event k e.key e.millihertz e.velocity)
+event_is {o} {e} w k = sym w ∙ ap (λ (x : Kind). value (event x e.key e.millihertz e.velocity)) k
+
+module _ {T : Type 0} {view : T → Tuner} (u : Tuner) {t : T} {old new : List ℕ} {o : Outcome Event} (e : ParsedEvent) (w : value (meant e) ≡ o) where
+  pub on_heard : {back : T} {hz : Float} {a : Outcome Pressed} {r : Outcome ℕ} → e.kind ≡ On → hz ≡ pitch_of e.millihertz
+      → Steps view (note_on_rule u e.key hz e.velocity) t old a back new → r ≡ counted a → Steps view (event_rule u o) t old r back new
+  unfolding event_rule
+  on_heard {back = back} {a = a} k h s q =
+      let p : Steps view (note_on_rule u e.key (pitch_of e.millihertz) e.velocity) t old a back new =
+      subst (λ (x : Float). Steps view (note_on_rule u e.key x e.velocity) t old a back new) h s in
+      subst (λ (x : Outcome ℕ). Steps view (event_rule u o) t old x back new) (sym q)
+      (subst (λ (x : Outcome Event). Steps view (event_rule u x) t old (counted a) back new) (sym (event_is w k))
+      (press_heard (note_on_rule u e.key (pitch_of e.millihertz) e.velocity) (pressed_counts u e.key (pitch_of e.millihertz) e.velocity) p))
+
+  pub off_heard : {back : T} {a : Outcome ℕ} → e.kind ≡ Off → Steps view (note_off_rule u e.key e.velocity) t old a back new
+      → Steps view (event_rule u o) t old a back new
+  unfolding event_rule
+  off_heard {back = back} {a = a} k s = subst (λ (x : Outcome Event). Steps view (event_rule u x) t old a back new) (sym (event_is w k)) s
+
+  pub bend_heard : {hz : Float} {a : Outcome ℕ} → view t ≡ u → e.kind ≡ Bend → hz ≡ pitch_of e.millihertz
+      → Answers (note_pitch_rule u e.key hz) old a new → Steps view (event_rule u o) t old a t new
+  unfolding event_rule
+  bend_heard {a = a} v k h s =
+      let p : Answers (note_pitch_rule u e.key (pitch_of e.millihertz)) old a new = subst (λ (x : Float). Answers (note_pitch_rule u e.key x) old a new) h s in
+      subst (λ (x : Outcome Event). Steps view (event_rule u x) t old a t new) (sym (event_is w k))
+      (repitch_heard {view = view} {t = t} u (note_pitch_rule u e.key (pitch_of e.millihertz)) v (repitch_counts u e.key (pitch_of e.millihertz)) p)
+
+-- no event
+pub malformed_heard : {T : Type 0} {view : T → Tuner} (u : Tuner) {t : T} {old : List ℕ} {o : Outcome Event} {n : ℕ} {a : Outcome ℕ} → refused n ≡ o → a ≡ refused n
+    → Steps view (event_rule u o) t old a t old
+unfolding event_rule
+malformed_heard u e h = rw (← e, h) (record { told_is = refl; moved_is = refl; left_is = refl })
 
 -- ---- an event's effect: bytes that are counted, and no more than 18; or a refusal
 
@@ -99,9 +164,6 @@ effected t (refused n) = refusing n refl
 
 -- ---- what a call answered
 
-clash : {A B : Type 0} {n : ℕ} {b : B} → value b ≡ refused n → A
-clash e = let z : ◌≡◌ {A = ℕ} 0 1 = cc e in absurd (omega arith)
-
 -- it sent n bytes, which stand at the buffer's start
 pub record SentHere (o : Outcome (Effect ℕ Tuner)) (n : ℕ) (back : Tuner) (new : List ℕ) : Type 0 where
   pub effect_is : o ≡ sends (take n new) back
@@ -112,13 +174,16 @@ pub sent_longer : {o : Outcome (Effect ℕ Tuner)} {n : ℕ} {back : Tuner} {new
 sent_longer {o} {n} {back} {new} w rest =
     record {
       effect_is = w.effect_is ∙ ap (λ (l : List ℕ). sends l back) (sym (take-append-le n new rest w.within));
-      within = omega (arith, w.within, length-append new rest);
+      within = omega (arith, length-append new rest);
     }
 
 -- it was refused: by its rule, or for want of room
 pub data Unsent (o : Outcome (Effect ℕ Tuner)) (room n : ℕ) : Type 0 where
   by_rule : o ≡ refused n → Unsent o room n
   by_room : (bs : List ℕ) (t : Tuner) → o ≡ sends bs t → length bs ≤ 18 → room < length bs → n ≡ 10 → Unsent o room n
+
+clash : {A B : Type 0} {n : ℕ} {b : B} → value b ≡ refused n → A
+clash e = let z : ◌≡◌ {A = ℕ} 0 1 = cc e in absurd (omega arith)
 
 module _ {T : Type 0} {view : T → Tuner} {o : Outcome (Effect ℕ Tuner)} {t back : T} {old new : List ℕ} (x : Effected o) where
   pub sent_some : {n : ℕ} → Steps view o t old (value n) back new → SentHere o n (view back) new
@@ -155,7 +220,7 @@ module _ {T : Type 0} {view : T → Tuner} {o : Outcome (Effect ℕ Tuner)} {t b
           (by_rule (e ∙ ap refused i), rw e at s.moved_is)
       go (sending bs u e l) = by bs u e l (leb (length bs) (length old)) refl
 
--- ---- no event is refused for want of room by its rule
+-- ---- no line's event is refused for want of room by its rule
 
 abbrev Roomy : {A : Type 0} → Outcome A → Type 0
 Roomy (value a) = Unit {0}
@@ -190,24 +255,64 @@ unfolding keeping
 keeping_roomy t (value e) p = tt
 keeping_roomy t (refused n) p = p
 
-event_roomy : (t : Tuner) (l : Line) → Roomy (event_rule t (meant l))
-unfolding event_rule meant
-event_roomy t (IsEvent On key m v) =
+event_roomy : (t : Tuner) (o : Outcome Event) → Roomy o → Roomy (event_rule t o)
+unfolding event_rule
+event_roomy t (value (event On key m v)) p =
     heard_roomy (note_on_rule t key (pitch_of m) v)
     (roomy_unless 8 (is_data v) (press_effect t v (register_rule t.pool key (pitch_of m))) (λ e. let z : ⊥ = omega arith in z)
     (effect_roomy t v (register_rule t.pool key (pitch_of m)) (register_roomy t.pool key (pitch_of m))))
-event_roomy t (IsEvent Off key m v) =
+event_roomy t (value (event Off key m v)) p =
     roomy_unless 8 (is_data v) (sends (bytes_of (key_messages Silent t.pool.channels v (found t.pool key))) (with_pool t (released t.pool key)))
     (λ e. let z : ⊥ = omega arith in z) tt
-event_roomy t (IsEvent Bend key m v) = keeping_roomy t (repitch_rule t.pool key (pitch_of m)) (repitch_roomy t.pool key (pitch_of m))
-event_roomy t Malformed = λ e. let z : ⊥ = omega arith in z
+event_roomy t (value (event Bend key m v)) p = keeping_roomy t (repitch_rule t.pool key (pitch_of m)) (repitch_roomy t.pool key (pitch_of m))
+event_roomy t (refused n) p = p
 
-pub not_short : (t : Tuner) (l : Line) {n : ℕ} → event_rule t (meant l) ≡ refused n → n ≡ 10 → ⊥
-not_short t l {n} e = subst Roomy e (event_roomy t l)
+thirteen : ◌≡◌ {A = ℕ} 13 10 → ⊥
+thirteen e = let z : ⊥ = omega arith in z
+
+four_roomy : (k : Option Kind) (a m v : Option ℕ) → Roomy (event_of k a m v)
+unfolding event_of
+four_roomy none a m v = thirteen
+four_roomy (some k) none m v = thirteen
+four_roomy (some k) (some a) none v = thirteen
+four_roomy (some k) (some a) (some m) none = thirteen
+four_roomy (some k) (some a) (some m) (some v) = roomy_unless 13 (allowed k a m v) (value (event k a m v)) thirteen tt
+
+fields_roomy : (fs : List (List ℕ)) → Roomy (of_fields fs)
+unfolding of_fields
+fields_roomy [] = thirteen
+fields_roomy (k ∷ []) = thirteen
+fields_roomy (k ∷ a ∷ []) = thirteen
+fields_roomy (k ∷ a ∷ m ∷ []) = thirteen
+fields_roomy (k ∷ a ∷ m ∷ v ∷ []) = four_roomy (kind_of k) (digits_number 3 a) (digits_number 9 m) (digits_number 3 v)
+fields_roomy (k ∷ a ∷ m ∷ v ∷ f ∷ fs) = thirteen
+
+line_roomy : (line : List ℕ) → Roomy (meaning line)
+unfolding meaning
+line_roomy line = roomy_unless 13 (leb (length line) 64) (of_fields (split 44 line)) thirteen (fields_roomy (split 44 line))
+
+not_short : (t : Tuner) (line : List ℕ) {n : ℕ} → event_rule t (meaning line) ≡ refused n → n ≡ 10 → ⊥
+not_short t line {n} e = subst Roomy e (event_roomy t (meaning line) (line_roomy line))
+
+-- 10 is the number of one refusal
+pub the_short : (r : Refusal) → number r ≡ 10 → r ≡ BufferTooShort
+the_short PitchOutOfRange e = absurd (omega arith)
+the_short NotMeasurable e = absurd (omega arith)
+the_short DetuningOutOfRange e = absurd (omega arith)
+the_short NoteOutOfRange e = absurd (omega arith)
+the_short KeyTwice e = absurd (omega arith)
+the_short ChannelOver15 e = absurd (omega arith)
+the_short ChannelTwice e = absurd (omega arith)
+the_short DataByteOver127 e = absurd (omega arith)
+the_short BendOutOfRange e = absurd (omega arith)
+the_short BufferTooShort e = refl
+the_short KeyHeld e = absurd (omega arith)
+the_short ListsUnequal e = absurd (omega arith)
+the_short LineMalformed e = absurd (omega arith)
 
 -- ---- the answer's line
 
-pub line_sent : (t : Tuner) (line : List ℕ) {n : ℕ} {back : Tuner} {bs : List ℕ} → SentHere (event_rule t (meaning line)) n back bs
+line_sent : (t : Tuner) (line : List ℕ) {n : ℕ} {back : Tuner} {bs : List ℕ} → SentHere (event_rule t (meaning line)) n back bs
     → (answer t line ≡ bytes_line (take n bs)) × (next t line ≡ back)
 unfolding answer next shown after
 line_sent t line w = (rw w.effect_is, rw w.effect_is)
@@ -216,12 +321,12 @@ pub line_refused : (t : Tuner) (line : List ℕ) (n : ℕ) → event_rule t (mea
 unfolding answer next shown after
 line_refused t line n e = (rw e, rw e)
 
-module _ {T : Type 0} {view : T → Tuner} (u : Tuner) (line : List ℕ) {m : Outcome Event} (is : m ≡ meaning line) where
+module _ {T : Type 0} {view : T → Tuner} (u : Tuner) (line : List ℕ) where
   -- the line of what was sent, with room for it
-  pub line_written : {t back : T} {out new bytes : List ℕ} {n : ℕ} {a : Outcome ℕ} → SentHere (event_rule u m) n (view back) bytes
+  pub line_written : {t back : T} {out new bytes : List ℕ} {n : ℕ} {a : Outcome ℕ} → SentHere (event_rule u (meaning line)) n (view back) bytes
       → length (bytes_line (take n bytes)) ≤ length out → Answers (sent (bytes_line (take n bytes))) out a new → Steps view (line_rule u line) t out a back new
   line_written {t} {back} {out} {new} {bytes} {n} {a} w fits p =
-      let l = line_sent u line (subst (λ (x : Outcome Event). SentHere (event_rule u x) n (view back) bytes) is w) in
+      let l = line_sent u line w in
       let text = bytes_line (take n bytes) in
       let h : leb (length text) (length out) ≡ true = le-leb (length text) (length out) fits in
       let s : Steps view (sends text (view back)) t out a back new =
@@ -229,83 +334,39 @@ module _ {T : Type 0} {view : T → Tuner} (u : Tuner) (line : List ℕ) {m : Ou
       rw (l.0, l.1) s
 
   -- that of a refusal, which leaves the tuner
-  pub line_kept : {t : T} {out new : List ℕ} {n : ℕ} {a : Outcome ℕ} → view t ≡ u → event_rule u m ≡ refused n
+  line_kept : {t : T} {out new : List ℕ} {n : ℕ} {a : Outcome ℕ} → view t ≡ u → event_rule u (meaning line) ≡ refused n
       → Answers (sent (refusal_line n)) out a new → Steps view (line_rule u line) t out a t new
   line_kept {t} {out} {new} {n} {a} same e p = rw (l.0, l.1) (go (leb (length (refusal_line n)) (length out)) refl)
     where
       l : (answer u line ≡ refusal_line n) × (next u line ≡ u)
-      l = line_refused u line n (ap (event_rule u) (sym is) ∙ e)
+      l = line_refused u line n e
 
       go : (b : Bool) → leb (length (refusal_line n)) (length out) ≡ b → Steps view (sends (refusal_line n) u) t out a t new
       go true h = record { told_is = rw h (rw h at p.told_is); moved_is = rw h same; left_is = rw h (rw h at p.left_is) }
       go false h = record { told_is = rw h (rw h at p.told_is); moved_is = rw h refl; left_is = rw h (rw h at p.left_is) }
 
   -- no room for the line of what would be sent
-  pub line_short : {t : T} {out bs : List ℕ} {w : Tuner} → event_rule u m ≡ sends bs w → length out < length (bytes_line bs)
+  line_short : {t : T} {out bs : List ℕ} {w : Tuner} → event_rule u (meaning line) ≡ sends bs w → length out < length (bytes_line bs)
       → Steps view (line_rule u line) t out (refused buffer_too_short) t out
   unfolding answer shown
   line_short {t} {out} {bs} {w} e h =
-      let text : answer u line ≡ bytes_line bs = ap (λ (o : Outcome (Effect ℕ Tuner)). shown o) (ap (event_rule u) (sym is) ∙ e) in
+      let text : answer u line ≡ bytes_line bs = ap (λ (o : Outcome (Effect ℕ Tuner)). shown o) e in
       ends_short {view = view} {s = t} refl (rw text h)
 
--- ---- the same in the places of the code
+  -- the tuner was refused for want of room: there is none for the answer's line
+  pub unsent_short : {t back : T} {out : List ℕ} {room n : ℕ} → Unsent (event_rule u (meaning line)) room n × (back ≡ t) → n ≡ 10 → room ≡ min (length out / 3) 18
+      → Steps view (line_rule u line) t out (refused n) back out
+  unsent_short {t} {back} {out} {room} {n} h ten fits = rw (h.1, ten) (go h.0)
+    where
+      go : Unsent (event_rule u (meaning line)) room n → Steps view (line_rule u line) t out (refused 10) t out
+      go (by_rule e) = absurd (not_short u line e ten)
+      go (by_room bs w e few more i) = line_short e (omega (arith, shown_length bs (omega arith)))
 
-pub meant_event : {l : Line} {k k' : Kind} {a m v : ℕ} → l ≡ IsEvent k a m v → k ≡ k' → meant l ≡ value (event k' a m v)
-unfolding meant
-meant_event {a = a} {m = m} {v = v} e f = ap meant e ∙ ap (λ (k : Kind). value (event k a m v)) f
-
-module _ {T : Type 0} {view : T → Tuner} (u : Tuner) {t back : T} {old new : List ℕ} {o : Outcome Event} {key m v : ℕ} where
-  pub on_heard : {hz : Float} {a : Outcome Pressed} {r : Outcome ℕ} → o ≡ value (event On key m v) → hz ≡ pitch_of m
-      → Steps view (note_on_rule u key hz v) t old a back new → r ≡ counted a → Steps view (event_rule u o) t old r back new
-  unfolding event_rule
-  on_heard {a = a} e h s q =
-      let p : Steps view (note_on_rule u key (pitch_of m) v) t old a back new =
-      subst (λ (x : Float). Steps view (note_on_rule u key x v) t old a back new) h s in
-      subst (λ (x : Outcome ℕ). Steps view (event_rule u o) t old x back new) (sym q)
-      (subst (λ (x : Outcome Event). Steps view (event_rule u x) t old (counted a) back new) (sym e)
-      (press_heard (note_on_rule u key (pitch_of m) v) (pressed_counts u key (pitch_of m) v) p))
-
-  pub off_heard : {a : Outcome ℕ} → o ≡ value (event Off key m v) → Steps view (note_off_rule u key v) t old a back new
-      → Steps view (event_rule u o) t old a back new
-  unfolding event_rule
-  off_heard {a = a} e s = subst (λ (x : Outcome Event). Steps view (event_rule u x) t old a back new) (sym e) s
-
-pub bend_heard : {T : Type 0} {view : T → Tuner} (u : Tuner) {t : T} {old new : List ℕ} {o : Outcome Event} {key m v : ℕ} {hz : Float} {a : Outcome ℕ} → view t ≡ u → o ≡ value (event Bend key m v)
-    → hz ≡ pitch_of m → Answers (note_pitch_rule u key hz) old a new → Steps view (event_rule u o) t old a t new
-unfolding event_rule
-bend_heard {view = view} u {t = t} {old = old} {new = new} {key = key} {m = m} {a = a} w e h s =
-    let p : Answers (note_pitch_rule u key (pitch_of m)) old a new = subst (λ (x : Float). Answers (note_pitch_rule u key x) old a new) h s in
-    subst (λ (x : Outcome Event). Steps view (event_rule u x) t old a t new) (sym e)
-    (repitch_heard {view = view} {t = t} u (note_pitch_rule u key (pitch_of m)) w (repitch_counts u key (pitch_of m)) p)
-
-module _ {T : Type 0} {view : T → Tuner} (u : Tuner) (m : Outcome Event) {t back : T} {old new : List ℕ} {s : Sent} {n : ℕ}
-    (h : Steps view (event_rule u m) t old (sent_answer s) back new) where
-  pub heard_some : s ≡ Written n → SentHere (event_rule u m) n (view back) new
-  heard_some e = sent_some {view = view} {t = t} {back = back} (effected u m) (subst (λ (x : Sent). Steps view (event_rule u m) t old (sent_answer x) back new) e h)
-
-  pub heard_none : s ≡ Refused n → Unsent (event_rule u m) (length old) n × (back ≡ t)
-  heard_none e = sent_none {view = view} (effected u m) (subst (λ (x : Sent). Steps view (event_rule u m) t old (sent_answer x) back new) e h)
-
--- ---- what a line's answer says of its text and of the tuner
-
-pub as_text : {T : Type 0} {view : T → Tuner} (text : List ℕ) (u : Tuner) {t back : T} {out new : List ℕ} {a : Outcome ℕ} → Steps view (sends text u) t out a back new → Answers (sent text) out a new
-as_text text u {t = t} {back = back} {out = out} {new = new} {a = a} s = go (leb (length text) (length out)) refl
-  where
-    go : (b : Bool) → leb (length text) (length out) ≡ b → Answers (sent text) out a new
-    go true h = record { told_is = rw h (rw h at s.told_is); moved_is = rw h refl; left_is = rw h (rw h at s.left_is) }
-    go false h = record { told_is = rw h (rw h at s.told_is); moved_is = rw h refl; left_is = rw h (rw h at s.left_is) }
-
-pub as_next : {T : Type 0} {view : T → Tuner} (text : List ℕ) {t back : T} {u : Tuner} {out new : List ℕ} {n : ℕ} → Steps view (sends text u) t out (value n) back new → view back ≡ u
-as_next {view = view} text {t = t} {back = back} {u = u} {out = out} {new = new} {n = n} s = go (leb (length text) (length out)) refl
-  where
-    go : (b : Bool) → leb (length text) (length out) ≡ b → view back ≡ u
-    go true h = rw h at s.moved_is
-    go false h = clash (rw h at s.told_is)
-
--- and of the state where it is refused
-pub as_kept : {T : Type 0} {view : T → Tuner} (text : List ℕ) {t back : T} {u : Tuner} {out new : List ℕ} {n : ℕ} → Steps view (sends text u) t out (refused n) back new → back ≡ t
-as_kept {view = view} text {t = t} {back = back} {u = u} {out = out} {new = new} {n = n} s = go (leb (length text) (length out)) refl
-  where
-    go : (b : Bool) → leb (length text) (length out) ≡ b → back ≡ t
-    go true h = clash (sym (rw h at s.told_is))
-    go false h = rw h at s.moved_is
+  -- it was refused otherwise, which is shown
+  pub unsent_shown : {t back : T} {out new : List ℕ} {room n : ℕ} {a : Outcome ℕ} → view t ≡ u → Unsent (event_rule u (meaning line)) room n × (back ≡ t)
+      → (n ≡ 10 → ⊥) → Answers (sent (refusal_line n)) out a new → Steps view (line_rule u line) t out a back new
+  unsent_shown {t} {back} {out} {new} {room} {n} {a} same h other p = rw h.1 (go h.0)
+    where
+      go : Unsent (event_rule u (meaning line)) room n → Steps view (line_rule u line) t out a t new
+      go (by_rule e) = line_kept same e p
+      go (by_room bs w e few more i) = absurd (other i)

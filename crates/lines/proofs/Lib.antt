@@ -1,12 +1,11 @@
+-- Laws about the definitions of specs/.
 pub mod Splits
 pub mod Lines
-pub mod Writes
+pub mod Puts
 pub mod Shows
-pub mod Holds
-pub mod Clips
 pub mod Hears
-pub mod Ends
-pub mod Stepping
-pub mod Fills
-pub mod Progress
 pub mod Rooms
+pub mod Ends
+pub mod Clips
+pub mod Stepping
+pub mod Progress

@@ -4,44 +4,32 @@ use native.Mathlib.Nat.{pow-suc, pow-le-pow_right, lt_of_lt_of_le, le_of_eq}
 use native.Mathlib.Numerals.{add-one}
 use native.Mathlib.Omega.{arith}
 use mathlib.Core.Path.{◌≡◌, refl, sym, ◌∙◌, ap}
-use mathlib.Core.Bool.{Bool, true, false, and-false}
+use mathlib.Core.Bool.{Bool, true, false, cond, and-false}
 use mathlib.Core.List.{List, [], ◌∷◌}
 use mathlib.Core.Option.{Option, some, none}
+use mathlib.Core.Logic.{◌⊎◌, inl, inr}
 use lib.ListN.{length, take, drop, get_or, drop_of_length-le, length-take}
 use lib.Seq.{take_all}
 use lib.Dec.{eqb, leb, lit<}
 use borrow.Author.Tests.{eq-eqb, ne_eqb, eqb-true, eqb-false, le-leb, lt-leb, leb-true, leb-false}
 use Rattle.channels.specs.Outcome.{value, refused}
-use Rattle.channels.proofs.ListLaws.{passed, failed, outcome}
+use Rattle.std.specs.Prelude.{Some, None, Result, Ok, Err, IfNone}
+use Rattle.std.specs.Bool.{then_some}
+use Rattle.std.specs.Result.{OkIff, result_ok}
+use Rattle.std.specs.Prelude.{Option as Optional}
+use Rattle.std.specs.Char.{is_ascii_digit}
+use Rattle.std.proofs.lemmas.List.{at_drop_more}
 use Rattle.lines.specs.Grammar.{digits, decimal, allowed, zeros}
-use Rattle.lines.specs.Line.{same, kind_of, number, event, event_of, of_fields, meaning}
+use Rattle.lines.specs.Line.{kind_of, number, event, event_of, of_fields, meaning}
 use Rattle.lines.specs.Split.{into, split}
+use Rattle.lines.specs.Inner.{meant_by}
 use Rattle.lines.specs.declared.line.Kind.{Kind}
-use Rattle.lines.proofs.Splits.{drop_step, into_none, split_sep, split_other}
+use Rattle.lines.proofs.Splits.{into_none, split_sep, split_other}
 
--- lists of different lengths are not the same
-pub same_apart : (s t : List ℕ) → (length s ≡ length t → ⊥) → same s t ≡ false
-unfolding same
-same_apart [] [] n = absurd (n refl)
-same_apart [] (b ∷ t) n = refl
-same_apart (a ∷ s) [] n = refl
-same_apart (a ∷ s) (b ∷ t) n = rw (same_apart s t (λ e. n (ap suc e))) (and-false (eqb a b))
-
-module _ (s t : List ℕ) (i : ℕ) (hs : i < length s) (ht : i < length t) where
-  -- nor lists that differ at i
-  pub same_differ : (get_or s i 0 ≡ get_or t i 0 → ⊥) → same (drop i s) (drop i t) ≡ false
-  unfolding same
-  same_differ n = rw (drop_step s i hs, drop_step t i ht, ne_eqb (get_or s i 0) (get_or t i 0) n)
-
-  -- lists that agree at i are the same if what follows is
-  pub same_passed : get_or s i 0 ≡ get_or t i 0 → same (drop i s) (drop i t) ≡ same (drop (i + 1) s) (drop (i + 1) t)
-  unfolding same
-  same_passed e = rw (drop_step s i hs, drop_step t i ht, eq-eqb (get_or s i 0) (get_or t i 0) e)
-
--- nothing is left of either
-pub same_end : (s t : List ℕ) (i : ℕ) → i ≡ length s → i ≡ length t → same (drop i s) (drop i t) ≡ true
-unfolding same
-same_end s t i p q = rw (drop_of_length-le s (le_of_eq (sym p)), drop_of_length-le t (le_of_eq (sym q)))
+-- what holds in any case holds of an answer that is none
+pub where_none : {A P : Type 0} (r : Optional A) → P → IfNone r P
+where_none None p = p
+where_none (Some x) p = tt
 
 -- a number needs 1 to `places` bytes, all digits
 pub number_none : (places : ℕ) (s : List ℕ) → length s ≡ 0 → number places s ≡ none
@@ -61,23 +49,19 @@ unfolding number
 number_some places s h l d = rw (le-leb 1 (length s) h, le-leb (length s) places l, d)
 
 module _ (s : List ℕ) (i : ℕ) (h : i < length s) where
-  -- the byte at i is below `0`, or above `9`
-  pub digits_low : get_or s i 0 < 48 → digits (drop i s) ≡ false
+  -- the byte at i is no digit
+  pub digits_stop : is_ascii_digit (get_or s i 0) ≡ false → digits (drop i s) ≡ false
   unfolding digits
-  digits_low l = rw (drop_step s i h, lt-leb 48 (get_or s i 0) l)
+  digits_stop e = at_drop_more digits s i 0 h ∙ rw e
 
-  pub digits_high : 57 < get_or s i 0 → digits (drop i s) ≡ false
+  -- it is one
+  pub digits_more : is_ascii_digit (get_or s i 0) ≡ true → digits (drop i s) ≡ digits (drop (i + 1) s)
   unfolding digits
-  digits_high l = rw (drop_step s i h, lt-leb (get_or s i 0) 57 l, and-false)
+  digits_more e = at_drop_more digits s i 0 h ∙ rw e
 
-  -- it is a digit
-  pub digits_passed : 48 ≤ get_or s i 0 → get_or s i 0 ≤ 57 → digits (drop i s) ≡ digits (drop (i + 1) s)
-  unfolding digits
-  digits_passed l k = rw (drop_step s i h, le-leb 48 (get_or s i 0) l, le-leb (get_or s i 0) 57 k)
-
-  pub decimal_passed : (n : ℕ) → decimal n (drop i s) ≡ decimal (n * 10 + (get_or s i 0 - 48)) (drop (i + 1) s)
+  pub decimal_more : (n : ℕ) → decimal n (drop i s) ≡ decimal (n * 10 + (get_or s i 0 - 48)) (drop (i + 1) s)
   unfolding decimal
-  decimal_passed n = rw (drop_step s i h)
+  decimal_more n = at_drop_more (decimal n) s i 0 h
 
 -- i digits spell a number below 10 ^ i
 pub more_digits : (n i d : ℕ) → n < 10 ^ i → d ≤ 9 → n * 10 + d < 10 ^ (i + 1)
@@ -86,27 +70,10 @@ more_digits n i d h l = rw (add-one, pow-suc) (omega arith)
 pub few_digits : (n i : ℕ) → n < 10 ^ i → i ≤ 8 → n < 10 ^ 8
 few_digits n i h l = lt_of_lt_of_le h (pow-le-pow_right (lit< tt) l)
 
--- four fields that can be read are an event where the values are allowed
-module _ (k : Kind) (a m v : ℕ) where
-  pub event_some : allowed k a m v ≡ true → event_of (some k) (some a) (some m) (some v) ≡ value (event k a m v)
-  unfolding event_of
-  event_some h = rw h
-
-  pub event_none : allowed k a m v ≡ false → event_of (some k) (some a) (some m) (some v) ≡ refused 13
-  unfolding event_of
-  event_none h = rw h
-
-  pub allowed_key : 255 < a → allowed k a m v ≡ false
-  unfolding allowed
-  allowed_key h = rw (lt-leb a 255 h)
-
-  pub allowed_velocity : 255 < v → allowed k a m v ≡ false
-  unfolding allowed
-  allowed_velocity h = rw (lt-leb v 255 h, and-false)
-
-  pub allowed_zeros : a ≤ 255 → v ≤ 255 → allowed k a m v ≡ zeros k m v
-  unfolding allowed
-  allowed_zeros h l = rw (le-leb a 255 h, le-leb v 255 l)
+-- an event, where the values of four fields are allowed
+pub event_some : (k : Kind) (a m v : ℕ) → allowed k a m v ≡ true → event_of (some k) (some a) (some m) (some v) ≡ value (event k a m v)
+unfolding event_of
+event_some k a m v h = rw h
 
 -- the meaning of a line by its length and its fields
 pub meaning_long : (s : List ℕ) → 64 < length s → meaning s ≡ refused 13
@@ -117,50 +84,65 @@ pub meaning_fields : (s : List ℕ) (fs : List (List ℕ)) → length s ≤ 64 �
 unfolding meaning
 meaning_fields s fs h e = rw (le-leb (length s) 64 h, e)
 
--- a fifth field is too many
-pub five_fields : (k a m v s : List ℕ) → of_fields (k ∷ a ∷ m ∷ v ∷ split 44 s) ≡ refused 13
-unfolding of_fields into
-five_fields k a m v s = rw (← into_none 44 s) (go (split 44 s))
-  where
-    go : (x : List (List ℕ)) → of_fields (k ∷ a ∷ m ∷ v ∷ into [] x) ≡ refused 13
-    go [] = refl
-    go (f ∷ fs) = refl
-
--- The last field with what follows it: either it is all, or there is a comma in it, and it is no number.
-data Last (l : List ℕ) : Type 0 where
-  whole : split 44 l ≡ l ∷ [] → Last l
-  parted : (f s : List ℕ) → split 44 l ≡ f ∷ split 44 s → digits l ≡ false → Last l
-
-last_of_lem : (l : List ℕ) → Last l
-unfolding split into digits
-last_of_lem [] = whole refl
-last_of_lem (b ∷ l) =
-    elim (outcome (eqb b 44)) [
-      | passed e ↦ let is : b ≡ 44 = eqb-true b 44 e in parted [] l (split_sep 44 b l is) (rw is refl)
-      | failed e ↦ more (last_of_lem l) (split_other 44 b l (eqb-false b 44 e))
-    ]
-  where
-    more : Last l → split 44 (b ∷ l) ≡ into (b ∷ []) (split 44 l) → Last (b ∷ l)
-    more (whole w) e = whole (e ∙ ap (into (b ∷ [])) w)
-    more (parted f s w d) e = parted (b ∷ f) s (e ∙ ap (into (b ∷ [])) w) (rw (d, and-false))
-
-event_unread : (k : Option Kind) (a m : Option ℕ) → event_of k a m none ≡ refused 13
-unfolding event_of
-event_unread none a m = refl
-event_unread (some k) none m = refl
-event_unread (some k) (some a) none = refl
-event_unread (some k) (some a) (some m) = refl
-
-pub last_field : (k a m l : List ℕ) → of_fields (k ∷ a ∷ m ∷ split 44 l) ≡ event_of (kind_of k) (number 3 a) (number 9 m) (number 3 l)
+-- a short line of four fields
+pub meaning_four : (line k a m v : List ℕ) → length line ≤ 64 → split 44 line ≡ k ∷ a ∷ m ∷ v ∷ []
+    → meaning line ≡ event_of (kind_of k) (number 3 a) (number 9 m) (number 3 v)
 unfolding of_fields
-last_field k a m l = go (last_of_lem l)
-  where
-    go : Last l → of_fields (k ∷ a ∷ m ∷ split 44 l) ≡ event_of (kind_of k) (number 3 a) (number 9 m) (number 3 l)
-    go (whole w) = ap (λ (x : List (List ℕ)). of_fields (k ∷ a ∷ m ∷ x)) w
-    go (parted f s w d) =
-        ap (λ (x : List (List ℕ)). of_fields (k ∷ a ∷ m ∷ x)) w
-        ∙ five_fields k a m f s
-        ∙ sym (ap (event_of (kind_of k) (number 3 a) (number 9 m)) (number_other 3 l d) ∙ event_unread (kind_of k) (number 3 a) (number 9 m))
+meaning_four line k a m v h e = meaning_fields line (k ∷ a ∷ m ∷ v ∷ []) h e
+
+-- a field that can't be read
+unread_kind : (a m v : Option ℕ) → event_of none a m v ≡ refused 13
+unfolding event_of
+unread_kind a m v = refl
+
+unread_key : (k : Option Kind) (m v : Option ℕ) → event_of k none m v ≡ refused 13
+unfolding event_of
+unread_key none m v = refl
+unread_key (some k) m v = refl
+
+unread_pitch : (k : Option Kind) (a v : Option ℕ) → event_of k a none v ≡ refused 13
+unfolding event_of
+unread_pitch none a v = refl
+unread_pitch (some k) none v = refl
+unread_pitch (some k) (some a) v = refl
+
+unread_velocity : (k : Option Kind) (a m : Option ℕ) → event_of k a m none ≡ refused 13
+unfolding event_of
+unread_velocity none a m = refl
+unread_velocity (some k) none m = refl
+unread_velocity (some k) (some a) none = refl
+unread_velocity (some k) (some a) (some m) = refl
+
+pub unread : (k : Option Kind) (a m v : Option ℕ) → ((k ≡ none) ⊎ ((a ≡ none) ⊎ ((m ≡ none) ⊎ (v ≡ none)))) → event_of k a m v ≡ refused 13
+unread k a m v (inl e) = ap (λ (x : Option Kind). event_of x a m v) e ∙ unread_kind a m v
+unread k a m v (inr (inl e)) = ap (λ (x : Option ℕ). event_of k x m v) e ∙ unread_key k m v
+unread k a m v (inr (inr (inl e))) = ap (λ (x : Option ℕ). event_of k a x v) e ∙ unread_pitch k a v
+unread k a m v (inr (inr (inr e))) = ap (λ (x : Option ℕ). event_of k a m x) e ∙ unread_velocity k a m
+
+-- a number that is to be a byte
+pub no_byte : {E : Type 0} (r : Result ℕ E) {n : ℕ} → OkIff r (n < 256) n → None ≡ result_ok r → 255 < n
+no_byte (Ok x) h e = absurd (let z : ◌≡◌ {A = ℕ} 0 1 = cc in omega arith)
+no_byte (Err e) h z = omega (arith, h)
+
+pub a_byte : {E : Type 0} (r : Result ℕ E) {n x : ℕ} → OkIff r (n < 256) n → Some x ≡ result_ok r → (x ≡ n) × (n < 256)
+a_byte (Ok y) h e = (cc, h.0)
+a_byte (Err d) h e = absurd (let z : ◌≡◌ {A = ℕ} 0 1 = cc in omega arith)
+
+-- four fields that are read are an event where their values are allowed
+module _ (k : Kind) (a m v : ℕ) where
+  pub event_refused : (255 < a) ⊎ (255 < v) → event_of (some k) (some a) (some m) (some v) ≡ refused 13
+  unfolding event_of allowed
+  event_refused (inl h) = rw (lt-leb a 255 h)
+  event_refused (inr h) = rw (lt-leb v 255 h, and-false)
+
+  pub event_read : {allows : Bool} {x y : ℕ} → (x ≡ a) × (a < 256) → (y ≡ v) × (v < 256) → allows ≡ zeros k m v
+      → meant_by (then_some allows (record { kind = k; key = x; millihertz = m; velocity = y })) ≡ event_of (some k) (some a) (some m) (some v)
+  unfolding event_of allowed
+  event_read {allows} h l e = rw (h.0, l.0, le-leb a 255 (omega arith), le-leb v 255 (omega arith), ← e) (go allows)
+    where
+      go : (t : Bool) → meant_by (then_some t (record { kind = k; key = a; millihertz = m; velocity = v })) ≡ cond t (value (event k a m v)) (refused 13)
+      go true = refl
+      go false = refl
 
 -- 65 bytes of a line decide what it means
 pub meaning_clip : (s : List ℕ) → meaning (take 65 s) ≡ meaning s

@@ -3,148 +3,116 @@ use Prim.Native.Nat.{ℕ, ◌+◌, ◌-◌, ◌≤◌, ◌<◌}
 use native.Mathlib.Nat.{zero-add, add-zero, sub-zero}
 use native.Mathlib.Omega.{arith}
 use mathlib.Core.Path.{◌≡◌, refl, sym, ◌∙◌, ap, subst}
-use mathlib.Core.List.{List, [], ◌++◌, append-nil}
-use lib.ListN.{length, take, drop, length-drop, drop_of_length-le, take-append-drop}
-use lib.Seq.{drop-drop, length-take-le, take-length}
+use mathlib.Core.List.{List, [], ◌++◌, append_assoc, append-nil}
+use lib.ListN.{length, take, drop, get_or, length-append, length-drop, drop_of_length-le, take-append-drop}
+use lib.Seq.{drop-drop, take_at, drop_at}
 use borrow.Rule.Slice.PartMut.{put_mid}
-use Rattle.channels.specs.Outcome.{value}
-use Rattle.senders.specs.Lent.{Answers, sent, written}
-use Rattle.senders.specs.Answers.{sent_answer}
-use Rattle.senders.specs.Jit.{Tuner}
-use Rattle.senders.proofs.Lent.{tail_part, tail_back}
-use Rattle.senders.specs.declared.midi.Sent.{Sent}
-use Rattle.senders.specs.declared.midi.Sent.TheVariants.{Written, Refused}
-use Rattle.lines.specs.Split.{feed, First}
+use Rattle.std.proofs.lemmas.List.{take_rest}
+use Rattle.senders.specs.Lent.{written}
+use Rattle.lines.specs.Split.{feed}
 use Rattle.lines.specs.Console.{answer}
-use Rattle.lines.specs.Session.{Session, session, Taken, nothing, step_rule, Stepped}
-use Rattle.lines.specs.Inner.{ended_by, longer_by, EndedBy}
-use Rattle.lines.specs.declared.step.Console.{Console}
-use Rattle.lines.proofs.Fills.{Filled, unfilled, filled_is, put_length, put_refused, fill, fill_text}
+use Rattle.lines.specs.Session.{Session, line_ended, Taken, nothing, step_rule, Stepped}
+use Rattle.lines.specs.Inner.{longer_by}
+use Rattle.lines.proofs.Puts.{SentAll, SentNone}
 use Rattle.lines.proofs.Stepping.{behind, behind_behind, Small, no_feed, no_room, line_ends}
 
--- `at` bytes of the piece are taken and w bytes written: what a call does is that, and then what it does with the rest
-pub record Progress (s₀ : Session) (piece old : List ℕ) (s : Session) (at w : ℕ) (out : List ℕ) : Type 0 where
-  pub within : at ≤ length piece
-  pub buffer : Filled w old out
-  pub small : Small s
-  pub result : step_rule (length old) s₀ piece ≡ behind at (take w out) (step_rule (length old - w) s (drop at piece))
+-- `used` bytes of the piece are taken and w bytes written: what a call does is that, and then what it does with the rest
+pub record Progress (s₀ : Session) (piece old : List ℕ) (s : Session) (used w : ℕ) (out : List ℕ) : Type 0 where
+  pub output : List ℕ
+  pub within : used ≤ length piece
+  pub count_is : w ≡ length output
+  pub room : w ≤ length old
+  pub out_is : out ≡ output ++ drop w old
+  pub result : step_rule (length old) s₀ piece ≡ behind used output (step_rule (length old - w) s (drop used piece))
 
-pub starting : (s : Session) (piece out : List ℕ) → Small s → Progress s piece out s 0 0 out
-starting s piece out m =
+pub starting : (s : Session) (piece out : List ℕ) → Progress s piece out s 0 0 out
+starting s piece out =
     let r = step_rule (length out) s piece in
     record {
+      output = [];
       within = omega arith;
-      buffer = unfilled out;
-      small = m;
+      count_is = refl;
+      room = omega arith;
+      out_is = refl;
       result =
           ap (λ (k : ℕ). record { session = r.session; used = k; output = r.output }) (sym (zero-add r.used))
           ∙ ap (λ (k : ℕ). behind 0 [] (step_rule k s piece)) (sym (sub-zero (length out)));
     }
 
--- the rest is held: the call ends
-pub closing : {s₀ s s' : Session} {piece old out : List ℕ} {at w : ℕ} (k : ℕ) (con : Console) → Progress s₀ piece old s at w out
-    → step_rule (length old - w) s (drop at piece) ≡ behind k [] (nothing s') → session con ≡ s'
-    → Stepped s₀ piece old out (record { console = con; used = at + k; written = w })
-closing {s₀} {s} {s'} {piece} {old} {out} {at} {w} k con p e h =
-    let o = take w out in
-    let all : step_rule (length old) s₀ piece ≡ record { session = s'; used = at + k; output = o } =
-    p.result
-    ∙ ap (behind at o) e
-    ∙ behind_behind at k o [] (nothing s')
-    ∙ ap (λ (j : ℕ). record { session = s'; used = j; output = (o ++ []) ++ [] }) (add-zero (at + k))
-    ∙ ap (λ (l : List ℕ). record { session = s'; used = at + k; output = l }) (append-nil (o ++ []) ∙ append-nil o) in
-    record {
-      session_is = h ∙ sym (ap (λ (r : Taken). r.session) all);
-      used_is = sym (ap (λ (r : Taken). r.used) all);
-      written_is = sym (ap (λ (r : Taken). length r.output) all ∙ length-take-le w out p.buffer.within);
-      left_is = filled_is p.buffer ∙ sym (ap (λ (r : Taken). written r.output old) all);
-    }
-
-module _ {s₀ : Session} {piece old out : List ℕ} (con : Console) {at w n : ℕ}
-    (p : Progress s₀ piece old (session con) at w out)
-    (f : First feed (take (length piece - at) (drop at piece)) n) where
-  rest_is : take (length piece - at) (drop at piece) ≡ drop at piece
-  rest_is = tail_part piece at
-
-  place : First feed (drop at piece) n
-  place = subst (λ (l : List ℕ). First feed l n) rest_is f
+module _ {s₀ s : Session} {piece old out : List ℕ} {used w : ℕ} (p : Progress s₀ piece old s used w out) where
+  -- the rest is kept: the call ends
+  closing : {s' t : Session} {end : ℕ} (k : ℕ) → step_rule (length old - w) s (drop used piece) ≡ behind k [] (nothing s') → t ≡ s' → end ≡ used + k
+      → Stepped s₀ piece old out t (record { used = end; written = w })
+  closing {s'} {t} {end} k e h i =
+      let o = p.output in
+      let all : step_rule (length old) s₀ piece ≡ record { session = s'; used = used + k; output = o } =
+      p.result
+      ∙ ap (behind used o) e
+      ∙ behind_behind used k o [] (nothing s')
+      ∙ ap (λ (j : ℕ). record { session = s'; used = j; output = (o ++ []) ++ [] }) (add-zero (used + k))
+      ∙ ap (λ (l : List ℕ). record { session = s'; used = used + k; output = l }) (append-nil (o ++ []) ∙ append-nil o) in
+      record {
+        session_is = h ∙ sym (ap (λ (r : Taken). r.session) all);
+        used_is = i ∙ sym (ap (λ (r : Taken). r.used) all);
+        written_is = p.count_is ∙ sym (ap (λ (r : Taken). length r.output) all);
+        left_is = p.out_is ∙ ap (λ (k : ℕ). o ++ drop k old) p.count_is ∙ sym (ap (λ (r : Taken). written r.output old) all);
+      }
 
   -- no line ends in the rest
-  pub stopped : (back : Console) → n ≡ length (take (length piece - at) (drop at piece))
-      → session back ≡ longer_by (session con) (take (length piece - at) (drop at piece))
-      → Stepped s₀ piece old out (record { console = back; used = at + n; written = w })
-  stopped back e h =
-      let i : n ≡ length (drop at piece) = e ∙ ap length rest_is in
-      let all : take n (drop at piece) ≡ drop at piece = ap (λ (k : ℕ). take k (drop at piece)) i ∙ take-length (drop at piece) in
-      closing n back p (no_feed (length old - w) (session con) (drop at piece) p.small place i)
-      (h ∙ ap (longer_by (session con)) (rest_is ∙ sym all))
+  pub stopped : {t : Session} → Small s → ((k : ℕ) → k < length (drop used piece) → get_or (drop used piece) k 0 ≡ feed → ⊥) → t ≡ longer_by s (drop used piece)
+      → Stepped s₀ piece old out t (record { used = length piece; written = w })
+  stopped small f h =
+      closing (length (drop used piece)) (no_feed (length old - w) s (drop used piece) small f) h (omega (arith, length-drop used piece, p.within))
 
-  module _ {ys : List ℕ} {r : Sent} {t : Tuner} (h : n ≡ length (take (length piece - at) (drop at piece)) → ⊥)
-      (e : EndedBy (session con) (take n (take (length piece - at) (drop at piece))) (take (length out - w) (drop w out)) ys r t) where
-    pub below : n < length (drop at piece)
-    below = subst (λ (l : List ℕ). n < length l) rest_is (omega (arith, f.within))
+  -- one ends at place n of it, of which s' is what is kept
+  module _ {s' : Session} {n : ℕ} (small : Small s) (h : n < length (drop used piece)) (e : get_or (drop used piece) n 0 ≡ feed)
+      (f : (k : ℕ) → k < n → get_or (drop used piece) k 0 ≡ feed → ⊥) (is : s' ≡ longer_by s (take n (drop used piece))) where
+    -- there is no room for its answer
+    pub held_up : {t : Session} {lent ys : List ℕ} {j : ℕ} → lent ≡ drop w out → j ≡ length out - w → length lent < length (answer s'.tuner s'.begun) → ys ≡ lent → t ≡ s'
+        → Stepped s₀ piece old (put_mid w j out ys) t (record { used = used + n; written = w })
+    held_up {t} {lent} {ys} {j} l i q y is' =
+        subst (λ (m : List ℕ). Stepped s₀ piece old m t (record { used = used + n; written = w })) (sym same)
+        (closing n (no_room (length old - w) s s' (drop used piece) n small h e f is (omega (arith, ap length l, length-drop w out, size))) is' refl)
+      where
+        size : length out ≡ length old
+        size = ap length p.out_is ∙ length-append p.output (drop w old) ∙ omega (arith, p.count_is, length-drop w old, p.room)
 
-    line_is : take n (take (length piece - at) (drop at piece)) ≡ take n (drop at piece)
-    line_is = ap (take n) rest_is
+        same : put_mid w j out ys ≡ out
+        same =
+            ap (λ (m : List ℕ). take w out ++ (m ++ drop j (drop w out))) (y ∙ l)
+            ∙ ap (λ (m : List ℕ). take w out ++ (drop w out ++ m)) (drop_of_length-le (drop w out) (omega (arith, length-drop w out)))
+            ∙ ap (λ (m : List ℕ). take w out ++ m) (append-nil (drop w out))
+            ∙ take-append-drop w out
 
-    -- the line's answer, in the rest of the buffer
-    shown : Answers (sent (answer (session con).tuner ((session con).begun ++ take n (drop at piece)))) (drop w out) (sent_answer r) ys
-    shown =
-        subst (λ (l : List ℕ). Answers (sent (answer (session con).tuner ((session con).begun ++ l))) (drop w out) (sent_answer r) ys) line_is
-        (subst (λ (o : List ℕ). Answers (sent (answer (session con).tuner ((session con).begun ++ take n (take (length piece - at) (drop at piece))))) o (sent_answer r) ys) (tail_part out w) e.text)
-
-    -- there was no room for it
-    refused_text : {k : ℕ} → r ≡ Refused k
-        → (length (drop w out) < length (answer (session con).tuner ((session con).begun ++ take n (drop at piece)))) × (ys ≡ drop w out)
-    refused_text {k} q =
-        let text = answer (session con).tuner ((session con).begun ++ take n (drop at piece)) in
-        put_refused text (drop w out) ys k (subst (λ (a : Sent). Answers (sent text) (drop w out) (sent_answer a) ys) q shown)
-
-    pub unchanged : {k : ℕ} → r ≡ Refused k → put_mid w (length out - w) out ys ≡ out
-    unchanged q = tail_back out ys w ∙ ap (λ (l : List ℕ). take w out ++ l) (refused_text q).1 ∙ take-append-drop w out
-
-    pub held_up : {k : ℕ} (back : Console) → r ≡ Refused k
-        → session back ≡ longer_by (session con) (take n (take (length piece - at) (drop at piece)))
-        → Stepped s₀ piece old (put_mid w (length out - w) out ys) (record { console = back; used = at + n; written = w })
-    held_up back q b =
-        let text = answer (session con).tuner ((session con).begun ++ take n (drop at piece)) in
-        let short : length old - w < length text = omega (arith, (refused_text q).0, length-drop w out, p.buffer.size) in
-        subst (λ (l : List ℕ). Stepped s₀ piece old l (record { console = back; used = at + n; written = w })) (sym (unchanged q))
-        (closing n back p (no_room (length old - w) (session con) (drop at piece) p.small place below short)
-        (b ∙ ap (longer_by (session con)) line_is))
-
-    -- it was written
-    pub turn : {k : ℕ} (back : Session) → r ≡ Written k → back ≡ record { tuner = t; begun = [] }
-        → Progress s₀ piece old (back) (at + (n + 1)) (w + k) (put_mid w (length out - w) out ys)
-    turn {k} back q is =
-        let line = take n (drop at piece) in
-        let text = answer (session con).tuner ((session con).begun ++ line) in
-        let u : Answers (sent text) (drop w out) (value k) ys = subst (λ (a : Sent). Answers (sent text) (drop w out) (sent_answer a) ys) q shown in
-        let z = put_length text (drop w out) ys k u in
-        let b : put_mid w (length out - w) out ys ≡ take w out ++ ys = tail_back out ys w in
-        let ends : back ≡ ended_by (session con) line = is ∙ ap (λ (t : Tuner). record { tuner = t; begun = [] }) (e.session_is q) ∙ ap (ended_by (session con)) line_is in
-        let room : length text ≤ length old - w = omega (arith, z.2, length-drop w out, p.buffer.size) in
-        let left : length old - w - length text ≡ length old - (w + k) = omega (arith, z.0) in
-        let more : drop (n + 1) (drop at piece) ≡ drop (at + (n + 1)) piece = drop-drop (n + 1) at piece in
-        let o : take w out ++ text ≡ take (w + k) (put_mid w (length out - w) out ys) = sym (ap (take (w + k)) b ∙ fill_text {text = text} p.buffer u) in
+    -- it was answered
+    pub answered : {t : Session} {lent ys : List ℕ} {k j : ℕ} → lent ≡ drop w out → j ≡ length out - w → SentAll (answer s'.tuner s'.begun) (line_ended s') t lent ys k
+        → Progress s₀ piece old t (used + (n + 1)) (w + k) (put_mid w j out ys)
+    answered {t} {lent} {ys} {k} {j} l i a =
+        let o = p.output in
+        let text = answer s'.tuner s'.begun in
+        let front : take w out ≡ o = ap (take w) p.out_is ∙ take_at o (drop w old) w (sym p.count_is) in
+        let rest : drop w out ≡ drop w old = ap (drop w) p.out_is ∙ drop_at o (drop w old) w (sym p.count_is) in
+        let none : drop j (drop w out) ≡ [] = drop_of_length-le (drop w out) (omega (arith, length-drop w out)) in
+        let over : ys ≡ text ++ drop (w + k) old =
+        a.left_is ∙ ap (λ (m : List ℕ). text ++ drop (length text) m) (l ∙ rest) ∙ ap (λ (m : List ℕ). text ++ m) (drop-drop (length text) w old)
+        ∙ ap (λ (m : ℕ). text ++ drop (w + m) old) (sym a.count_is) in
+        let fits : length text ≤ length old - w = omega (arith, a.fits, ap length (l ∙ rest), length-drop w old) in
+        let left : length old - w - length text ≡ length old - (w + k) = omega (arith, a.count_is) in
         record {
-          within = omega (arith, below, length-drop at piece, p.within);
-          buffer = subst (Filled (w + k) old) (sym b) (fill {text = text} p.buffer u);
-          small = subst Small (sym ends) (omega arith);
+          output = o ++ text;
+          within = omega (arith, h, length-drop used piece, p.within);
+          count_is = sym (length-append o text ∙ omega (arith, p.count_is, a.count_is));
+          room = omega (arith, fits, a.count_is, p.room);
+          out_is =
+              ap (λ (m : List ℕ). m ++ (ys ++ drop j (drop w out))) front
+              ∙ ap (λ (m : List ℕ). o ++ (ys ++ m)) none
+              ∙ ap (λ (m : List ℕ). o ++ m) (append-nil ys ∙ over)
+              ∙ sym (append_assoc o text (drop (w + k) old));
           result =
               p.result
-              ∙ ap (behind at (take w out)) (line_ends (length old - w) (session con) (drop at piece) p.small place below room)
-              ∙ behind_behind at (n + 1) (take w out) text (step_rule (length old - w - length text) (ended_by (session con) line) (drop (n + 1) (drop at piece)))
-              ∙ ap (λ (l : List ℕ). behind (at + (n + 1)) l (step_rule (length old - w - length text) (ended_by (session con) line) (drop (n + 1) (drop at piece)))) o
-              ∙ ap (λ (l : List ℕ). behind (at + (n + 1)) (take (w + k) (put_mid w (length out - w) out ys)) (step_rule (length old - w - length text) (ended_by (session con) line) l)) more
-              ∙ ap (λ (j : ℕ). behind (at + (n + 1)) (take (w + k) (put_mid w (length out - w) out ys)) (step_rule j (ended_by (session con) line) (drop (at + (n + 1)) piece))) left
-              ∙ ap (λ (x : Session). behind (at + (n + 1)) (take (w + k) (put_mid w (length out - w) out ys)) (step_rule (length old - (w + k)) x (drop (at + (n + 1)) piece))) (sym ends);
+              ∙ ap (behind used o) (line_ends (length old - w) s s' (drop used piece) n small h e f is fits)
+              ∙ behind_behind used (n + 1) o text (step_rule (length old - w - length text) (line_ended s') (drop (n + 1) (drop used piece)))
+              ∙ ap (λ (m : List ℕ). behind (used + (n + 1)) (o ++ text) (step_rule (length old - w - length text) (line_ended s') m)) (drop-drop (n + 1) used piece)
+              ∙ ap (λ (m : ℕ). behind (used + (n + 1)) (o ++ text) (step_rule m (line_ended s') (drop (used + (n + 1)) piece))) left
+              ∙ ap (λ (u : Session). behind (used + (n + 1)) (o ++ text) (step_rule (length old - (w + k)) u (drop (used + (n + 1)) piece))) (sym a.next_is);
         }
-
--- the piece is taken to its end
-pub ended : {s₀ : Session} {piece old out : List ℕ} {at w : ℕ} (con : Console) → Progress s₀ piece old (session con) at w out → length piece ≤ at
-    → Stepped s₀ piece old out (record { console = con; used = at; written = w })
-unfolding step_rule
-ended {s₀} {piece} {old} {out} {at} {w} con p h =
-    subst (λ (k : ℕ). Stepped s₀ piece old out (record { console = con; used = k; written = w })) (add-zero at)
-    (closing 0 con p (ap (step_rule (length old - w) (session con)) (drop_of_length-le piece h)) refl)

@@ -98,5 +98,5 @@ rule_within room s (b ∷ bs) = go (leb (length (text s b)) room) (rule_within (
     go true h = omega arith
     go false h = omega arith
 
-pub used_within : {s : Session} {piece old new : List ℕ} {r : Step} → Stepped s piece old new r → r.used ≤ length piece
-used_within {s} {piece} {old} p = rw p.used_is (rule_within (length old) s piece)
+pub used_within : {s t : Session} {piece old new : List ℕ} {r : Step} → Stepped s piece old new t r → r.used ≤ length piece
+used_within {s} {piece = piece} {old = old} p = rw p.used_is (rule_within (length old) s piece)

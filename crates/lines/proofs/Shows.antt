@@ -1,14 +1,22 @@
 -- Laws of the answer lines. Assumes nothing.
-use Prim.Native.Nat.{ℕ, ◌+◌, ◌*◌, ◌/◌, ◌%◌, ◌≤◌, ◌<◌}
+use Prim.Native.Nat.{ℕ, suc, ◌+◌, ◌-◌, ◌*◌, ◌/◌, ◌%◌, ◌≤◌, ◌<◌}
 use native.Mathlib.Omega.{arith}
-use mathlib.Core.Path.{◌≡◌, refl}
-use mathlib.Core.List.{List, [], ◌∷◌}
-use lib.ListN.{length, drop, get_or}
+use mathlib.Core.Path.{◌≡◌, refl, sym, ◌∙◌, ap}
+use mathlib.Core.List.{List, [], ◌∷◌, ◌++◌, append_assoc, append-nil}
+use lib.ListN.{length, take, drop, get_or, set, length-append}
+use lib.Seq.{take_at, drop_at, drop-drop, length-take-le, take-length}
+use lib.Dec.{lit<}
 use borrow.Author.Tests.{lt-ltb, le-ltb}
+use borrow.Rule.Slice.PartMut.{put_mid}
+use Rattle.std.proofs.lemmas.List.{take_more}
+use Rattle.arithmetic.specs.Refusal.{number}
+use Rattle.arithmetic.specs.declared.refusal.Refusal.{Refusal}
+use Rattle.arithmetic.specs.declared.refusal.Refusal.TheVariants.{PitchOutOfRange, NotMeasurable, DetuningOutOfRange, NoteOutOfRange, KeyTwice, ChannelOver15, ChannelTwice}
+use Rattle.arithmetic.specs.declared.refusal.Refusal.TheVariants.{DataByteOver127, BendOutOfRange, BufferTooShort, KeyHeld, ListsUnequal, LineMalformed}
 use Rattle.lines.specs.Show.{bytes_line, refusal_line, further, decimal_of, hex_digit}
-use Rattle.lines.proofs.Splits.{drop_step}
 
--- the line of a refusal, by the number of its digits
+-- ---- the line of a refusal
+
 module _ (n : ℕ) where
   pub shown_one : n < 10 → refusal_line n ≡ 82 ∷ (48 + n) ∷ 10 ∷ []
   unfolding refusal_line decimal_of
@@ -18,27 +26,81 @@ module _ (n : ℕ) where
   unfolding refusal_line decimal_of
   shown_two l h = rw (le-ltb n 10 l, lt-ltb n 100 h)
 
-  pub shown_three : 100 ≤ n → refusal_line n ≡ 82 ∷ (48 + n / 100) ∷ (48 + n / 10 % 10) ∷ (48 + n % 10) ∷ 10 ∷ []
-  unfolding refusal_line decimal_of
-  shown_three l = rw (le-ltb n 10 (omega arith), le-ltb n 100 l)
+pub number_small : (r : Refusal) → number r < 100
+number_small PitchOutOfRange = lit< tt
+number_small NotMeasurable = lit< tt
+number_small DetuningOutOfRange = lit< tt
+number_small NoteOutOfRange = lit< tt
+number_small KeyTwice = lit< tt
+number_small ChannelOver15 = lit< tt
+number_small ChannelTwice = lit< tt
+number_small DataByteOver127 = lit< tt
+number_small BendOutOfRange = lit< tt
+number_small BufferTooShort = lit< tt
+number_small KeyHeld = lit< tt
+number_small ListsUnequal = lit< tt
+number_small LineMalformed = lit< tt
 
--- the line of bytes, and its length
+-- ---- the line of bytes
+
 pub shown_none : (bs : List ℕ) → length bs ≡ 0 → bytes_line bs ≡ 45 ∷ 10 ∷ []
 unfolding bytes_line
 shown_none [] h = refl
 shown_none (b ∷ bs) h = absurd (omega arith)
 
-pub shown_first : (bs : List ℕ) → 0 < length bs → bytes_line bs ≡ hex_digit (get_or bs 0 0 / 16) ∷ hex_digit (get_or bs 0 0 % 16) ∷ further (drop 1 bs)
-unfolding bytes_line
-shown_first [] h = absurd (omega arith)
-shown_first (b ∷ bs) h = refl
+-- bytes as they are shown, each with a space behind it
+abbrev pub spaced : List ℕ → List ℕ
+spaced [] = []
+spaced (b ∷ bs) = hex_digit (b / 16) ∷ hex_digit (b % 16) ∷ 32 ∷ spaced bs
 
-pub further_step : (bs : List ℕ) (i : ℕ) → i < length bs
-    → further (drop i bs) ≡ 32 ∷ hex_digit (get_or bs i 0 / 16) ∷ hex_digit (get_or bs i 0 % 16) ∷ further (drop (i + 1) bs)
-unfolding further
-further_step bs i h = rw (drop_step bs i h)
+pub length-spaced : (bs : List ℕ) → length (spaced bs) ≡ 3 * length bs
+length-spaced [] = refl
+length-spaced (b ∷ bs) = omega (arith, length-spaced bs)
 
-pub further_length : (bs : List ℕ) → length (further bs) ≡ 3 * length bs + 1
+spaced-append : (bs cs : List ℕ) → spaced (bs ++ cs) ≡ spaced bs ++ spaced cs
+spaced-append [] cs = refl
+spaced-append (b ∷ bs) cs = ap (λ (l : List ℕ). hex_digit (b / 16) ∷ hex_digit (b % 16) ∷ 32 ∷ l) (spaced-append bs cs)
+
+-- the first i bytes stand so in a buffer that was `old`
+pub record Spaced (bs old : List ℕ) (i end : ℕ) (out : List ℕ) : Type 0 where
+  pub end_is : end ≡ 3 * i
+  pub out_is : out ≡ spaced (take i bs) ++ drop end old
+
+-- one byte more, in the k places behind them
+pub spaced_more : {bs old out : List ℕ} {i end : ℕ} (k : ℕ) → Spaced bs old i end out → i < length bs → k ≡ 3
+    → Spaced bs old (i + 1) (end + 3) (put_mid end k out (spaced (get_or bs i 0 ∷ [])))
+spaced_more {bs} {old} {out} {i} {end} k r h three =
+    let front = spaced (take i bs) in
+    let more = spaced (get_or bs i 0 ∷ []) in
+    let size : length front ≡ end = length-spaced (take i bs) ∙ omega (arith, length-take-le i bs (omega arith)) in
+    let before : take end out ≡ front = ap (take end) r.out_is ∙ take_at front (drop end old) end size in
+    let behind : drop k (drop end out) ≡ drop (end + 3) old =
+    ap (λ (l : List ℕ). drop k (drop end l)) r.out_is
+    ∙ ap (drop k) (drop_at front (drop end old) end size)
+    ∙ drop-drop k end old
+    ∙ ap (λ (j : ℕ). drop (end + j) old) three in
+    let all : spaced (take (i + 1) bs) ≡ front ++ more = ap spaced (take_more bs i 0 h) ∙ spaced-append (take i bs) (get_or bs i 0 ∷ []) in
+    record {
+      end_is = omega arith;
+      out_is =
+          ap (λ (l : List ℕ). l ++ (more ++ drop k (drop end out))) before
+          ∙ ap (λ (l : List ℕ). front ++ (more ++ l)) behind
+          ∙ sym (append_assoc front more (drop (end + 3) old))
+          ∙ ap (λ (l : List ℕ). l ++ drop (end + 3) old) (sym all);
+    }
+
+-- the feed in the place of the last space
+pub spaced_end : (bs rest : List ℕ) → 0 < length bs → set (spaced bs ++ rest) (3 * length bs - 1) 10 ≡ bytes_line bs ++ rest
+unfolding bytes_line further
+spaced_end [] rest h = absurd (omega arith)
+spaced_end (b ∷ []) rest h = refl
+spaced_end (b ∷ c ∷ bs) rest h =
+    let e : 3 * length (b ∷ c ∷ bs) - 1 ≡ suc (suc (suc (3 * length (c ∷ bs) - 1))) = omega arith in
+    ap (λ (i : ℕ). set (spaced (b ∷ c ∷ bs) ++ rest) i 10) e
+    ∙ ap (λ (l : List ℕ). hex_digit (b / 16) ∷ hex_digit (b % 16) ∷ 32 ∷ l) (spaced_end (c ∷ bs) rest (omega arith))
+
+-- how long it is
+further_length : (bs : List ℕ) → length (further bs) ≡ 3 * length bs + 1
 unfolding further
 further_length [] = refl
 further_length (b ∷ bs) = omega (arith, further_length bs)
@@ -47,3 +109,12 @@ pub shown_length : (bs : List ℕ) → 0 < length bs → length (bytes_line bs) 
 unfolding bytes_line
 shown_length [] h = absurd (omega arith)
 shown_length (b ∷ bs) h = omega (arith, further_length bs)
+
+-- all bytes stand so, and then the feed: the line is written
+pub spaced_all : {bs old out : List ℕ} {i end : ℕ} → Spaced bs old i end out → i ≡ length bs → 0 < length bs
+    → (set out (end - 1) 10 ≡ bytes_line bs ++ drop (length (bytes_line bs)) old) × (end ≡ length (bytes_line bs))
+spaced_all {bs} {old} {out} {i} {end} r all some =
+    let l : end ≡ length (bytes_line bs) = omega (arith, shown_length bs some) in
+    let e : end - 1 ≡ 3 * length bs - 1 = omega arith in
+    let o : out ≡ spaced bs ++ drop end old = r.out_is ∙ ap (λ (k : ℕ). spaced (take k bs) ++ drop end old) all ∙ rw take-length in
+    (ap (λ (m : List ℕ). set m (end - 1) 10) o ∙ ap (λ (k : ℕ). set (spaced bs ++ drop end old) k 10) e ∙ spaced_end bs (drop end old) some ∙ rw l, l)

@@ -1,23 +1,14 @@
--- Laws of `split`, and of the place of the first separator. Assumes nothing.
-use Prim.Native.Nat.{ℕ, zero, suc, ◌+◌, ◌-◌, ◌≤◌, ◌<◌}
-use native.Mathlib.Nat.{le_of_eq}
-use native.Mathlib.Numerals.{add-one}
-use native.Mathlib.Omega.{arith}
-use mathlib.Core.Path.{◌≡◌, refl, sym, ◌∙◌}
+-- Laws of `split`. Assumes nothing.
+use Prim.Native.Nat.{ℕ}
+use mathlib.Core.Path.{◌≡◌, refl, sym, ◌∙◌, ap, subst}
 use mathlib.Core.Bool.{Bool, true, false, cond}
 use mathlib.Core.List.{List, [], ◌∷◌, ◌++◌, append_assoc, append-nil}
-use lib.ListN.{length, take, drop, get_or, length-drop}
-use lib.Seq.{drop-cons, take-suc, take_all, take-length, drop-length}
 use lib.Dec.{eqb}
 use borrow.Author.Tests.{eq-eqb, ne_eqb}
-use Rattle.lines.specs.Split.{into, split, First}
-
--- what is left of s at i, where i is not the end
-pub drop_step : (s : List ℕ) (i : ℕ) → i < length s → drop i s ≡ get_or s i 0 ∷ drop (i + 1) s
-drop_step s i h = rw (add-one, drop-cons s i 0)
-
-pub take_step : (s : List ℕ) (i : ℕ) → i < length s → take (i + 1) s ≡ take i s ++ (get_or s i 0 ∷ [])
-take_step s i h = rw (add-one, take-suc s i 0)
+use Rattle.std.specs.Prelude.{Option, Some, None}
+use Rattle.std.specs.List.{slice_split, onto_first}
+use Rattle.std.proofs.lemmas.Iterator.{YieldsList}
+use Rattle.lines.specs.Split.{into, split}
 
 pub into_into : (p q : List ℕ) (x : List (List ℕ)) → into (p ++ q) x ≡ into p (into q x)
 unfolding into
@@ -44,54 +35,31 @@ into_none sep (b ∷ s) = go (eqb b sep)
     go true = refl
     go false = sym (into_into [] (b ∷ []) (split sep s))
 
--- one byte more of the first part has been passed
-pub passed : (sep : ℕ) (s : List ℕ) (i : ℕ) → i < length s → (get_or s i 0 ≡ sep → ⊥)
-    → into (take i s) (split sep (drop i s)) ≡ into (take (i + 1) s) (split sep (drop (i + 1) s))
-passed sep s i h n = rw (drop_step s i h, split_other sep (get_or s i 0) (drop (i + 1) s) n, take_step s i h, into_into)
+-- the parts are those of the library's `split`
+pub parts_are : (sep : ℕ) (s : List ℕ) → slice_split (λ b. eqb b sep) s ≡ split sep s
+unfolding split into
+parts_are sep [] = refl
+parts_are sep (b ∷ s) =
+    ap (λ (x : List (List ℕ)). cond (eqb b sep) ([] ∷ x) (onto_first b x)) (parts_are sep s) ∙ go (eqb b sep) (split sep s)
+  where
+    go : (t : Bool) (x : List (List ℕ)) → cond t ([] ∷ x) (onto_first b x) ≡ cond t ([] ∷ x) (into (b ∷ []) x)
+    go true x = refl
+    go false [] = refl
+    go false (f ∷ fs) = refl
 
--- the first part ends at i
-pub ended : (sep : ℕ) (s : List ℕ) (i : ℕ) → i < length s → get_or s i 0 ≡ sep
-    → into (take i s) (split sep (drop i s)) ≡ take i s ∷ split sep (drop (i + 1) s)
-unfolding into
-ended sep s i h e = rw (drop_step s i h, split_sep sep (get_or s i 0) (drop (i + 1) s) e, append-nil)
+-- ---- calls of `next`, of an iterator that yields a list
 
--- it ends at the end
-pub ended_last : (sep : ℕ) (s : List ℕ) → into s (split sep []) ≡ s ∷ []
-unfolding into split
-ended_last sep s = rw append-nil
+pub onwards : {B : Type 0} {y : B} {ys zs ws : List B} → ys ≡ y ∷ zs → zs ≡ ws → ys ≡ y ∷ ws
+onwards {y = y} e f = e ∙ ap (λ (l : List _). y ∷ l) f
 
--- the bytes before the first separator belong to the first part
-before_first : (sep : ℕ) (s : List ℕ) (i : ℕ) → i ≤ length s → ((k : ℕ) → k < i → get_or s k 0 ≡ sep → ⊥)
-    → split sep s ≡ into (take i s) (split sep (drop i s))
-before_first sep s zero h n = sym (into_none sep s)
-before_first sep s (suc i) h n =
-    before_first sep s i (omega arith) (λ k l. n k (omega arith))
-    ∙ passed sep s i (omega arith) (n i (omega arith))
-    ∙ rw add-one
+module _ {S A B : Type 0} {steps : S → Option A → S → Type 0} {v : A → B} {s : S} {r : Option A} where
+  pub next_some : {ys : List B} {x : A} {t : S} → steps s r t → r ≡ Some x → YieldsList steps v s ys
+      → (zs : List B) × (ys ≡ v x ∷ zs) × YieldsList steps v t zs
+  next_some {ys = []} {x = x} {t = t} n e y = absurd (y.runs x t (subst (λ (o : Option A). steps s o t) e n))
+  next_some {ys = z ∷ zs} {x = x} {t = t} n e y =
+      let h = y.runs.1 x t (subst (λ (o : Option A). steps s o t) e n) in
+      (zs, ap (λ (w : B). w ∷ zs) (sym h.0), record { runs = h.1 })
 
--- the first part ends at r: at a separator, or at the end of s
-pub record Parts (sep : ℕ) (s : List ℕ) (r : ℕ) : Type 0 where
-  pub within : r ≤ length s
-  pub more : r < length s → split sep s ≡ take r s ∷ split sep (drop (r + 1) s)
-  pub last : r ≡ length s → split sep s ≡ s ∷ []
-
-pub parts : {sep : ℕ} {s : List ℕ} {r : ℕ} → First sep s r → Parts sep s r
-parts {sep} {s} {r} f =
-    record {
-      within = f.within;
-      more = λ h. before_first sep s r f.within f.before ∙ ended sep s r h (f.found h);
-      last = λ e.
-          before_first sep s r f.within f.before
-          ∙ rw (e, take-length, drop-length) (ended_last sep s);
-    }
-
--- what follows the separator at r, as `&s[r + 1..]` has it
-abbrev pub rest : List ℕ → ℕ → List ℕ
-rest s r = take (length s - (r + 1)) (drop (r + 1) s)
-
-pub parts_more : {sep : ℕ} {s : List ℕ} {r : ℕ} → First sep s r → r < length s → split sep s ≡ take r s ∷ split sep (rest s r)
-parts_more {sep} {s} {r} f h = rw (take_all (length s - (r + 1)) (drop (r + 1) s) (le_of_eq (length-drop (r + 1) s))) ((parts f).more h)
-
--- no separator is found: s is one part
-pub parts_last : {sep : ℕ} {s : List ℕ} {r : ℕ} → First sep s r → r ≡ length s → split sep s ≡ s ∷ []
-parts_last f e = (parts f).last e
+  pub next_none : {ys : List B} (t : S) → steps s r t → r ≡ None → YieldsList steps v s ys → ys ≡ []
+  next_none {ys = []} t n e y = refl
+  next_none {ys = z ∷ zs} t n e y = absurd (y.runs.0 t (subst (λ (o : Option A). steps s o t) e n))

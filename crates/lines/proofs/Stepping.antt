@@ -5,15 +5,14 @@ use native.Mathlib.Omega.{arith}
 use mathlib.Core.Path.{◌≡◌, sym, ◌∙◌, ap}
 use mathlib.Core.List.{List, [], ◌∷◌, ◌++◌, append_assoc, append-nil}
 use lib.ListN.{length, take, drop, get_or, length-take}
-use lib.Seq.{take_all, drop-length}
+use lib.Seq.{take_all, take-length, drop-length}
+use Rattle.std.proofs.lemmas.List.{drop_more}
 use borrow.Author.Tests.{le-leb, lt-leb, eq-eqb, ne_eqb}
-use Rattle.senders.specs.Jit.{Tuner}
-use Rattle.lines.specs.Split.{feed, First}
-use Rattle.lines.specs.Console.{answer, next}
-use Rattle.lines.specs.Session.{Session, clip, then, text, Taken, nothing, byte_then, step_rule}
-use Rattle.lines.specs.Inner.{ended_by, longer_by}
-use Rattle.lines.proofs.Splits.{drop_step}
-use Rattle.lines.proofs.Clips.{clip_append, answer_clip, next_clip}
+use Rattle.lines.specs.Split.{feed}
+use Rattle.lines.specs.Console.{answer}
+use Rattle.lines.specs.Session.{Session, clip, then, text, line_ended, Taken, nothing, byte_then, step_rule}
+use Rattle.lines.specs.Inner.{longer_by}
+use Rattle.lines.proofs.Clips.{clip_append}
 
 -- what was taken behind n bytes that answered `out`
 abbrev pub behind : ℕ → List ℕ → Taken → Taken
@@ -64,60 +63,47 @@ before_feed room s (suc n) (b ∷ l) m h f =
     ∙ ap (λ (k : ℕ). behind k [] r) one
 
 -- a feed, with room for the answer and without
-abbrev pub end_here : Session → Session
-end_here s = record { tuner = next s.tuner s.begun; begun = [] }
-
 pub feed_byte : (room : ℕ) (s : Session) (b : ℕ) (bs : List ℕ) → b ≡ feed → length (answer s.tuner s.begun) ≤ room
     → step_rule room s (b ∷ bs)
-    ≡ behind 1 (answer s.tuner s.begun) (step_rule (room - length (answer s.tuner s.begun)) (end_here s) bs)
+    ≡ behind 1 (answer s.tuner s.begun) (step_rule (room - length (answer s.tuner s.begun)) (line_ended s) bs)
 unfolding step_rule text then
 feed_byte room s b bs e h =
     rw (eq-eqb b feed e, le-leb (length (answer s.tuner s.begun)) room h)
-    (byte_behind (answer s.tuner s.begun) (step_rule (room - length (answer s.tuner s.begun)) (end_here s) bs))
+    (byte_behind (answer s.tuner s.begun) (step_rule (room - length (answer s.tuner s.begun)) (line_ended s) bs))
 
 pub no_room_byte : (room : ℕ) (s : Session) (b : ℕ) (bs : List ℕ) → b ≡ feed → room < length (answer s.tuner s.begun) → step_rule room s (b ∷ bs) ≡ nothing s
 unfolding step_rule text then
 no_room_byte room s b bs e h = rw (eq-eqb b feed e, lt-leb (length (answer s.tuner s.begun)) room h)
 
--- ---- a piece that starts with a line, by the place of its feed
+-- ---- a piece by the place of its first feed
 
-module _ (room : ℕ) (s : Session) (l : List ℕ) {n : ℕ} (m : Small s) (f : First feed l n) where
-  up_to_feed : step_rule room s l ≡ behind n [] (step_rule room (longer_by s (take n l)) (drop n l))
-  up_to_feed = before_feed room s n l m f.within f.before
+-- no line ends in the piece
+pub no_feed : (room : ℕ) (s : Session) (l : List ℕ) → Small s → ((k : ℕ) → k < length l → get_or l k 0 ≡ feed → ⊥)
+    → step_rule room s l ≡ behind (length l) [] (nothing (longer_by s l))
+unfolding step_rule
+no_feed room s l m f =
+    before_feed room s (length l) l m (omega arith) f
+    ∙ ap (λ (x : List ℕ). behind (length l) [] (step_rule room (longer_by s x) (drop (length l) l))) (take-length l)
+    ∙ ap (λ (x : List ℕ). behind (length l) [] (step_rule room (longer_by s l) x)) (drop-length l)
 
-  at_feed : n < length l → drop n l ≡ get_or l n 0 ∷ drop (n + 1) l
-  at_feed h = drop_step l n h
-
-  kept : answer s.tuner (clip (s.begun ++ take n l)) ≡ answer s.tuner (s.begun ++ take n l)
-  kept = answer_clip s.tuner (s.begun ++ take n l)
-
-  kept_next : next s.tuner (clip (s.begun ++ take n l)) ≡ next s.tuner (s.begun ++ take n l)
-  kept_next = next_clip s.tuner (s.begun ++ take n l)
-
-  -- no line ends in the piece
-  pub no_feed : n ≡ length l → step_rule room s l ≡ behind n [] (nothing (longer_by s (take n l)))
-  unfolding step_rule
-  no_feed e =
-      up_to_feed
-      ∙ ap (λ (x : List ℕ). behind n [] (step_rule room (longer_by s (take n l)) x)) (ap (λ (k : ℕ). drop k l) e ∙ drop-length l)
+-- one ends at the feed, of which s' is what is kept
+module _ (room : ℕ) (s s' : Session) (l : List ℕ) (n : ℕ) (m : Small s) (h : n < length l) (e : get_or l n 0 ≡ feed)
+    (f : (k : ℕ) → k < n → get_or l k 0 ≡ feed → ⊥) (is : s' ≡ longer_by s (take n l)) where
+  up_to_feed : step_rule room s l ≡ behind n [] (step_rule room s' (get_or l n 0 ∷ drop (n + 1) l))
+  up_to_feed =
+      before_feed room s n l m (omega arith) f
+      ∙ ap (λ (x : Session). behind n [] (step_rule room x (drop n l))) (sym is)
+      ∙ ap (λ (x : List ℕ). behind n [] (step_rule room s' x)) (drop_more l n 0 h)
 
   -- there is no room for its answer
-  pub no_room : n < length l → room < length (answer s.tuner (s.begun ++ take n l)) → step_rule room s l ≡ behind n [] (nothing (longer_by s (take n l)))
-  no_room h q =
-      up_to_feed
-      ∙ ap (λ (x : List ℕ). behind n [] (step_rule room (longer_by s (take n l)) x)) (at_feed h)
-      ∙ ap (behind n []) (no_room_byte room (longer_by s (take n l)) (get_or l n 0) (drop (n + 1) l) (f.found h) (rw kept q))
+  pub no_room : room < length (answer s'.tuner s'.begun) → step_rule room s l ≡ behind n [] (nothing s')
+  no_room q = up_to_feed ∙ ap (behind n []) (no_room_byte room s' (get_or l n 0) (drop (n + 1) l) e q)
 
   -- it is answered
-  pub line_ends : n < length l → length (answer s.tuner (s.begun ++ take n l)) ≤ room
-      → step_rule room s l
-      ≡ behind (n + 1) (answer s.tuner (s.begun ++ take n l))
-      (step_rule (room - length (answer s.tuner (s.begun ++ take n l))) (ended_by s (take n l)) (drop (n + 1) l))
-  line_ends h q =
-      let a = answer s.tuner (s.begun ++ take n l) in
+  pub line_ends : length (answer s'.tuner s'.begun) ≤ room
+      → step_rule room s l ≡ behind (n + 1) (answer s'.tuner s'.begun) (step_rule (room - length (answer s'.tuner s'.begun)) (line_ended s') (drop (n + 1) l))
+  line_ends q =
+      let a = answer s'.tuner s'.begun in
       up_to_feed
-      ∙ ap (λ (x : List ℕ). behind n [] (step_rule room (longer_by s (take n l)) x)) (at_feed h)
-      ∙ ap (behind n []) (feed_byte room (longer_by s (take n l)) (get_or l n 0) (drop (n + 1) l) (f.found h) (rw kept q))
-      ∙ ap (λ (x : List ℕ). behind n [] (behind 1 x (step_rule (room - length x) (end_here (longer_by s (take n l))) (drop (n + 1) l)))) kept
-      ∙ ap (λ (u : Session). behind n [] (behind 1 a (step_rule (room - length a) u (drop (n + 1) l)))) (ap (λ (t : Tuner). record { tuner = t; begun = [] }) kept_next)
-      ∙ behind_behind n 1 [] a (step_rule (room - length a) (ended_by s (take n l)) (drop (n + 1) l))
+      ∙ ap (behind n []) (feed_byte room s' (get_or l n 0) (drop (n + 1) l) e q)
+      ∙ behind_behind n 1 [] a (step_rule (room - length a) (line_ended s') (drop (n + 1) l))

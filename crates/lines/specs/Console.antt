@@ -1,4 +1,4 @@
--- The console program (document 01): what it answers to a line, and what it writes for an input. Assumes nothing.
+-- The console program: what it answers to a line, and what it writes for an input. Assumes nothing.
 use Rattle.std.specs.Prelude.{ℕ, List, [], ◌∷◌, ◌++◌, pos, Float}
 use Rattle.std.specs.Float.{binary64}
 use Rattle.std.specs.Float.Ieee.{of_int, div}
@@ -12,11 +12,11 @@ use Rattle.lines.specs.Line.{Event, event, meaning}
 use Rattle.lines.specs.Show.{bytes_line, refusal_line}
 use Rattle.lines.specs.declared.line.Kind.TheVariants.{On, Off, Bend}
 
--- "It has fine tuning, channels 0 and 1, Stop, channel groups."
+-- its tuner has fine tuning, channels 0 and 1, Stop, channel groups
 unfoldable pub opened : Tuner
 opened = (start_rule (0 ∷ 1 ∷ []) FineTuning Stop).1
 
--- "Pitch: millihertz as f64, divided by 1000"
+-- the pitch in Hz: millihertz as f64, divided by 1000
 unfoldable pub pitch_of : ℕ → Float
 pitch_of millihertz = div binary64 (of_int binary64 (pos millihertz)) (of_int binary64 (pos 1000))
 
@@ -60,7 +60,7 @@ line_rule t line = sends (answer t line) (next t line)
 
 -- ---- an input answered
 
--- "an end right behind a feed starts no line"
+-- an end right behind a feed starts no line
 unfoldable pub nonempty : List ℕ → List (List ℕ)
 nonempty [] = []
 nonempty (b ∷ s) = (b ∷ s) ∷ []
@@ -71,7 +71,7 @@ ended [] = []
 ended (f ∷ []) = nonempty f
 ended (f ∷ g ∷ gs) = f ∷ ended (g ∷ gs)
 
--- "A line ends at a line feed .. or at the end of the input"
+-- a line ends at a line feed or at the end of the input
 unfoldable pub lines_of : List ℕ → List (List ℕ)
 lines_of input = ended (split feed input)
 

@@ -1,4 +1,4 @@
--- The words and numbers of the console's lines (document 01, "The console program"). Which lines are events is said by `Means` of `theorems`. Assumes nothing.
+-- The words and numbers of the console's lines. Which lines are events is said by `Means` of `theorems`. Assumes nothing.
 use Rattle.std.specs.Prelude.{ℕ, ◌+◌, ◌*◌, ◌-◌, Bool, true, ◌&&◌, List, [], ◌∷◌, eqb, leb}
 use Rattle.lines.specs.declared.line.Kind.{Kind}
 use Rattle.lines.specs.declared.line.Kind.TheVariants.{On, Off, Bend}
@@ -19,12 +19,12 @@ unfoldable pub decimal : ℕ → List ℕ → ℕ
 decimal n [] = n
 decimal n (b ∷ s) = decimal (n * 10 + (b - 48)) s
 
--- "`off` has millihertz 0, `bend` velocity 0": the number is 0, in however many digits
+-- `off` has millihertz 0, `bend` velocity 0, in however many digits
 unfoldable pub zeros : Kind → ℕ → ℕ → Bool
 zeros On m v = true
 zeros Off m v = eqb m 0
 zeros Bend m v = eqb v 0
 
--- "Numbers over 255 for key or velocity .. are 13"
+-- the numbers that an event can have: key and velocity are at most 255
 unfoldable pub allowed : Kind → ℕ → ℕ → ℕ → Bool
 allowed k a m v = (leb a 255 && leb v 255) && zeros k m v

@@ -1,6 +1,6 @@
--- What a line means, by its fields (document 01, "The console program"): an event, or refusal 13. `proofs/Grammar` shows that it is the grammar's
--- event exactly where the grammar has one. Assumes nothing.
-use Rattle.std.specs.Prelude.{ℕ, Bool, true, false, cond, ◌&&◌, List, [], ◌∷◌, length, eqb, leb}
+-- What a line means, by its fields: an event, or refusal 13. Assumes nothing.
+use Rattle.std.specs.Prelude.{ℕ, cond, ◌&&◌, List, [], ◌∷◌, length, leb}
+use Rattle.std.specs.Str.{bytes_eq}
 use Rattle.std.proofs.Math.Option.{Option, some, none}
 use Rattle.channels.specs.Outcome.{Outcome, value, refused, refuse◌unless◌then◌}
 use Rattle.channels.specs.Refusal.{line_malformed}
@@ -8,27 +8,15 @@ use Rattle.lines.specs.Split.{comma, split}
 use Rattle.lines.specs.Grammar.{word, digits, decimal, allowed}
 use Rattle.lines.specs.declared.line.Kind.{Kind}
 use Rattle.lines.specs.declared.line.Kind.TheVariants.{On, Off, Bend}
-use Rattle.lines.specs.declared.line.Line.{Line}
-use Rattle.lines.specs.declared.line.Line.TheVariants.{Event as IsEvent, Malformed}
-use Rattle.lines.specs.declared.line.Word.{Word}
-use Rattle.lines.specs.declared.line.Word.TheVariants.{Is, Unknown}
-use Rattle.lines.specs.declared.line.Number.{Number}
-use Rattle.lines.specs.declared.line.Number.TheVariants.{Value, Unreadable}
+use Rattle.lines.specs.declared.line.Event.{Event as ParsedEvent}
 
 -- kind, key, millihertz and velocity
 pub data Event : Type 0 where
   event : Kind → ℕ → ℕ → ℕ → Event
 
--- the two lists are the same
-unfoldable pub same : List ℕ → List ℕ → Bool
-same [] [] = true
-same [] (b ∷ t) = false
-same (a ∷ s) [] = false
-same (a ∷ s) (b ∷ t) = eqb a b && same s t
-
 -- the kind that a field names
 unfoldable pub kind_of : List ℕ → Option Kind
-kind_of s = cond (same s (word On)) (some On) (cond (same s (word Off)) (some Off) (cond (same s (word Bend)) (some Bend) none))
+kind_of s = cond (bytes_eq s (word On)) (some On) (cond (bytes_eq s (word Off)) (some Off) (cond (bytes_eq s (word Bend)) (some Bend) none))
 
 -- the number that 1 to `places` digits spell
 unfoldable pub number : ℕ → List ℕ → Option ℕ
@@ -55,16 +43,6 @@ of_fields (k ∷ a ∷ m ∷ v ∷ f ∷ fs) = refused line_malformed
 unfoldable pub meaning : List ℕ → Outcome Event
 meaning line = refuse line_malformed unless leb (length line) 64 then of_fields (split comma line)
 
--- ---- the parser's answers in these words
-
-unfoldable pub meant : Line → Outcome Event
-meant (IsEvent k a m v) = value (event k a m v)
-meant Malformed = refused line_malformed
-
-unfoldable pub named : Word → Option Kind
-named (Is k) = some k
-named Unknown = none
-
-unfoldable pub numbered : Number → Option ℕ
-numbered (Value n) = some n
-numbered Unreadable = none
+-- the parser's event in these words
+abbrev pub meant : ParsedEvent → Event
+meant e = event e.kind e.key e.millihertz e.velocity

@@ -1,6 +1,7 @@
 -- The console while its input comes: what it holds between two pieces, what a piece does, and runs of calls. Assumes nothing.
 use Rattle.std.specs.Prelude.{ℕ, suc, ◌-◌, ◌≡◌, cond, List, [], ◌∷◌, ◌++◌, length, take, drop, eqb, leb}
-use Rattle.senders.specs.Lent.{Answer, sent, written}
+use Rattle.channels.specs.Outcome.{Outcome}
+use Rattle.senders.specs.Lent.{Effect, sends, written}
 use Rattle.senders.specs.Jit.{Tuner, view}
 use Rattle.lines.specs.Split.{feed}
 use Rattle.lines.specs.Console.{opened, answer, answers, next, nonempty}
@@ -13,7 +14,7 @@ pub record Session : Type 0 where
   pub begun : List ℕ
 
 abbrev pub session : Console → Session
-session c = record { tuner = view c.cells; begun = take c.len c.held }
+session c = record { tuner = view c.tuner; begun = c.begun.items }
 
 -- before the input
 abbrev pub start : Session
@@ -53,9 +54,9 @@ step_rule room s [] = nothing s
 step_rule room s (b ∷ bs) =
     cond (leb (length (text s b)) room) (byte_then (text s b) (step_rule (room - length (text s b)) (then s b) bs)) (nothing s)
 
--- what `Console::step` answers, and the buffer at exit
-pub record Stepped (s : Session) (piece old new : List ℕ) (r : Step) : Type 0 where
-  pub session_is : session r.console ≡ (step_rule (length old) s piece).session
+-- what `Console::step` answers, and the buffer and the session at exit
+pub record Stepped (s : Session) (piece old new : List ℕ) (t : Session) (r : Step) : Type 0 where
+  pub session_is : t ≡ (step_rule (length old) s piece).session
   pub used_is : r.used ≡ (step_rule (length old) s piece).used
   pub written_is : r.written ≡ length (step_rule (length old) s piece).output
   pub left_is : new ≡ written (step_rule (length old) s piece).output old
@@ -64,8 +65,13 @@ pub record Stepped (s : Session) (piece old new : List ℕ) (r : Step) : Type 0 
 unfoldable pub finish : Session → List ℕ
 finish s = answers s.tuner (nonempty s.begun)
 
-abbrev pub finish_rule : Session → Answer
-finish_rule s = sent (finish s)
+-- a line that ends is answered, and none has begun
+abbrev pub line_ended : Session → Session
+line_ended s = record { tuner = next s.tuner s.begun; begun = [] }
+
+-- the session at the end of the input: an empty line, where none has begun, leaves the tuner as it is
+abbrev pub finish_rule : Session → Outcome (Effect ℕ Session)
+finish_rule s = sends (finish s) (line_ended s)
 
 -- ---- a run of the program as its calls: what a call leaves of its piece goes before the rest of the input
 

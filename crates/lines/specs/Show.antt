@@ -1,10 +1,10 @@
--- The answer lines (document 01, "The console program"), each with its line feed: "bytes in upper-case hexadecimal parted by a space; `-` for none; `R`
--- and the number joined, as `R13`, for a refusal". Assumes nothing.
+-- The answer lines, each with its line feed: bytes in upper-case hexadecimal parted by a space; `-` for none; `R` and the number joined, as `R13`, for a
+-- refusal. Assumes nothing.
 use Rattle.std.specs.Prelude.{ℕ, ◌+◌, ◌-◌, ◌/◌, ◌%◌, cond, List, [], ◌∷◌, ◌++◌, ltb}
 use Rattle.lines.specs.Split.{feed}
 
 -- the hexadecimal digit of a number below 16: `0` to `9`, `A` to `F`
-unfoldable pub hex_digit : ℕ → ℕ
+abbrev pub hex_digit : ℕ → ℕ
 hex_digit d = cond (ltb d 10) (48 + d) (65 + (d - 10))
 
 -- what follows the two digits of a byte: the further bytes, each behind a space, and the line feed

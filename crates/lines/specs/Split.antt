@@ -1,5 +1,5 @@
 -- Lists of bytes parted by a separator: a line into its fields, the input into its lines. Assumes nothing.
-use Rattle.std.specs.Prelude.{ℕ, ◌≤◌, ◌<◌, ◌≡◌, cond, List, [], ◌∷◌, ◌++◌, length, get_or, eqb}
+use Rattle.std.specs.Prelude.{ℕ, cond, List, [], ◌∷◌, ◌++◌, eqb}
 
 abbrev pub comma : ℕ
 comma = 44
@@ -16,9 +16,3 @@ into p (f ∷ fs) = (p ++ f) ∷ fs
 unfoldable pub split : ℕ → List ℕ → List (List ℕ)
 split sep [] = [] ∷ []
 split sep (b ∷ s) = cond (eqb b sep) ([] ∷ split sep s) (into (b ∷ []) (split sep s))
-
--- r is the place of the first separator in s, or s's length where there is none
-pub record First (sep : ℕ) (s : List ℕ) (r : ℕ) : Type 0 where
-  pub within : r ≤ length s
-  pub before : (k : ℕ) → k < r → get_or s k 0 ≡ sep → ⊥
-  pub found : r < length s → get_or s r 0 ≡ sep

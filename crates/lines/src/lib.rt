@@ -1,5 +1,4 @@
-// The console program but for reading and writing (document 01, "The console program"): the lines' parser, the line function, and the step over a
-// piece of the input.
+// The console program but for reading and writing: the lines' parser, the line function, and the step over a piece of the input.
 #![tactic(auto)]
 
 pub mod answer;

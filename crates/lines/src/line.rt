@@ -1,188 +1,121 @@
 // The lines of the console program: `kind,key,millihertz,velocity`.
 
-ghost use Rattle.std.specs.Prelude.{◌≡◌, ◌≤◌};
-ghost use Rattle.lines.specs.Line.{meaning, meant, number, numbered, kind_of, named, event_of};
-ghost use Rattle.lines.specs.Line.{same as List·same};
-ghost use Rattle.lines.specs.Split.{First};
+ghost use Rattle.std.specs.Prelude.{◌≡◌, ◌≤◌, [], ◌∷◌, IfSome, IfNone};
+ghost use Rattle.arithmetic.specs.Answers.{optional, outcome_by};
+ghost use Rattle.arithmetic.specs.Outcome.{refused};
+ghost use Rattle.arithmetic.specs.Refusal.{line_malformed};
+ghost use Rattle.lines.specs.Split.{comma, split};
+ghost use Rattle.lines.specs.Line.{meaning, meant, kind_of, number, of_fields};
+ghost use Rattle.lines.specs.Inner.{meant_by};
 
-// "At most 64 bytes a line."
+use channels::Refusal;
+
+// The bytes of the longest line.
 const LONGEST_LINE: usize = 64;
 
-// Digits of a key or a velocity, and of a pitch in millihertz.
+// The most digits of a key or a velocity, and of a pitch in millihertz.
 const BYTE_DIGITS: usize = 3;
 
 const PITCH_DIGITS: usize = 9;
 
-#[derive(Clone, Copy)]
+#[derive(Clone, Copy, Debug, PartialEq, Eq)]
 pub enum Kind {
     On,
     Off,
     Bend,
 }
 
-#[derive(Clone, Copy)]
-pub enum Line {
-    // Kind, key, millihertz and velocity.
-    Event(Kind, u8, u32, u8),
-    // 13.
-    Malformed,
+// What a line asks of the tuner.
+#[derive(Clone, Copy, Debug, PartialEq, Eq)]
+pub struct Event {
+    pub kind: Kind,
+    pub key: u8,
+    pub millihertz: u32,
+    pub velocity: u8,
 }
 
-// What a line means, which is given without its feed. Every line that does not have the four fields, parted by commas, is malformed.
-pub fn parse(line: &[u8]) -> Line
-    ensures { meant result ≡ meaning line.now }
+// What a line means, which is given without its feed. Refuses 13 every line that does not have the four fields, parted by commas.
+pub fn parse(line: &[u8]) -> Result<Event, Refusal>
+    ensures { outcome_by meant result ≡ meaning line.now }
+{
+    event_of(line).ok_or(Refusal::LineMalformed)
+}
+
+// The event of a line that has one.
+fn event_of(line: &[u8]) -> Option<Event>
+    ensures { meant_by result ≡ meaning line.now }
 {
     if line.len() > LONGEST_LINE {
-        return Line::Malformed;
+        return None;
     }
-    let a = find(line, b',');
-    if a == line.len() {
-        return Line::Malformed;
-    }
-    let rest = &line[a + 1..];
-    let b = find(rest, b',');
-    if b == rest.len() {
-        return Line::Malformed;
-    }
-    let tail = &rest[b + 1..];
-    let c = find(tail, b',');
-    if c == tail.len() {
-        return Line::Malformed;
-    }
-    // A fifth field would leave a comma in the last, which is then no number.
-    let last = &tail[c + 1..];
-    let kind = kind_of(&line[..a]);
-    let key = digits(&rest[..b], BYTE_DIGITS);
-    let millihertz = digits(&tail[..c], PITCH_DIGITS);
-    let velocity = digits(last, BYTE_DIGITS);
-    event(kind, key, millihertz, velocity)
+    let (kind, key, millihertz, velocity) = fields(line)?;
+    let kind = Kind::named(kind)?;
+    let key = number(key, BYTE_DIGITS)?;
+    let millihertz = number(millihertz, PITCH_DIGITS)?;
+    let velocity = number(velocity, BYTE_DIGITS)?;
+    let allowed = match kind {
+        Kind::On => true,
+        Kind::Off => millihertz == 0,
+        Kind::Bend => velocity == 0,
+    };
+    let event = Event {
+        kind,
+        key: u8::try_from(key).ok()?,
+        millihertz,
+        velocity: u8::try_from(velocity).ok()?,
+    };
+    allowed.then_some(event)
 }
 
-// A field that names a kind, or none.
-#[derive(Clone, Copy)]
-enum Word {
-    Is(Kind),
-    Unknown,
-}
-
-// A field that is a number, or none.
-#[derive(Clone, Copy)]
-enum Number {
-    Value(u32),
-    Unreadable,
-}
-
-// The event of four fields that were read, where their values are allowed.
-fn event(kind: Word, key: Number, millihertz: Number, velocity: Number) -> Line
-    ensures { meant result ≡ event_of (named kind) (numbered key) (numbered millihertz) (numbered velocity) }
+// The four fields of a line that has four.
+fn fields(line: &[u8]) -> Option<(&[u8], &[u8], &[u8], &[u8])>
+    ensures four { IfSome result (λ f. split comma line.now ≡ f.0.now ∷ f.1.now ∷ f.2.now ∷ f.3.now ∷ []) }
+    ensures others { IfNone result (of_fields (split comma line.now) ≡ refused line_malformed) }
 {
-    let Word::Is(k) = kind else {
-        return Line::Malformed;
-    };
-    let Number::Value(a) = key else {
-        return Line::Malformed;
-    };
-    let Number::Value(m) = millihertz else {
-        return Line::Malformed;
-    };
-    let Number::Value(v) = velocity else {
-        return Line::Malformed;
-    };
-    if a > 255 {
-        return Line::Malformed;
+    let mut fields = line.split(|&byte| byte == b',');
+    let four = (
+        fields.next()?,
+        fields.next()?,
+        fields.next()?,
+        fields.next()?,
+    );
+    match fields.next() {
+        Some(_) => None,
+        None => Some(four),
     }
-    if v > 255 {
-        return Line::Malformed;
-    }
-    match k {
-        Kind::On => Line::Event(Kind::On, a as u8, m, v as u8),
-        Kind::Off => {
-            if m == 0 {
-                Line::Event(Kind::Off, a as u8, m, v as u8)
-            } else {
-                Line::Malformed
-            }
-        }
-        Kind::Bend => {
-            if v == 0 {
-                Line::Event(Kind::Bend, a as u8, m, v as u8)
-            } else {
-                Line::Malformed
-            }
+}
+
+impl Kind {
+    // The kind that a field names.
+    fn named(field: &[u8]) -> Option<Kind>
+        ensures { optional result ≡ kind_of field.now }
+    {
+        if field == b"on".as_slice() {
+            Some(Kind::On)
+        } else if field == b"off".as_slice() {
+            Some(Kind::Off)
+        } else if field == b"bend".as_slice() {
+            Some(Kind::Bend)
+        } else {
+            None
         }
     }
-}
-
-// The kind that a field names.
-fn kind_of(s: &[u8]) -> Word
-    ensures { named result ≡ kind_of s.now }
-{
-    if same(s, b"on") {
-        return Word::Is(Kind::On);
-    }
-    if same(s, b"off") {
-        return Word::Is(Kind::Off);
-    }
-    if same(s, b"bend") {
-        return Word::Is(Kind::Bend);
-    }
-    Word::Unknown
 }
 
 // The number that 1 to `places` digits spell.
-fn digits(s: &[u8], places: usize) -> Number
+fn number(field: &[u8], places: usize) -> Option<u32>
     requires { places ≤ 9 }
-    ensures { numbered result ≡ number places s.now }
+    ensures { optional result ≡ number places field.now }
 {
-    if s.len() == 0 {
-        return Number::Unreadable;
+    if field.is_empty() || field.len() > places {
+        return None;
     }
-    if s.len() > places {
-        return Number::Unreadable;
-    }
-    let mut n: u32 = 0;
-    let mut i = 0;
-    while i < s.len() {
-        let b = s[i];
-        if b < b'0' {
-            return Number::Unreadable;
+    let mut number = 0;
+    for &byte in field {
+        if !byte.is_ascii_digit() {
+            return None;
         }
-        if b > b'9' {
-            return Number::Unreadable;
-        }
-        n = n * 10 + ((b - b'0') as u32);
-        i += 1;
+        number = number * 10 + u32::from(byte - b'0');
     }
-    Number::Value(n)
-}
-
-// Whether two slices hold the same bytes.
-fn same(s: &[u8], t: &[u8]) -> bool
-    ensures { result ≡ List·same s.now t.now }
-{
-    if s.len() != t.len() {
-        return false;
-    }
-    let mut i = 0;
-    while i < s.len() {
-        if s[i] != t[i] {
-            return false;
-        }
-        i += 1;
-    }
-    true
-}
-
-// The place of the first byte of s that equals sep, or s's length where there is none.
-pub(crate) fn find(s: &[u8], sep: u8) -> usize
-    ensures { First sep s.now result }
-{
-    let mut i = 0;
-    while i < s.len() {
-        if s[i] == sep {
-            return i;
-        }
-        i += 1;
-    }
-    i
+    Some(number)
 }

@@ -1,99 +1,63 @@
 // The answer lines of the console program, each with its feed, written into a lent buffer.
 
 ghost use Rattle.std.specs.Prelude.{◌≡◌, ◌<◌};
+ghost use Rattle.arithmetic.specs.Refusal.{number};
+ghost use Rattle.arithmetic.specs.Answers.{outcome};
 ghost use Rattle.senders.specs.Lent.{Answers, sent};
-ghost use Rattle.senders.specs.Answers.{sent_answer};
 ghost use Rattle.lines.specs.Show.{bytes_line, refusal_line, hex_digit};
 
-use channels::refusal::BUFFER_TOO_SHORT;
-use senders::midi::Sent;
+use channels::Refusal;
 
-// The line of bytes that are sent. Refuses 10.
-pub(crate) fn show_bytes(bytes: &[u8], out: &mut [u8]) -> Sent
-    ensures { Answers (sent (bytes_line bytes.now)) out.old (sent_answer result) out.new }
+// The line of bytes that are sent, each shown by two digits and what parts it from the next, or the feed. Refuses 10.
+pub(crate) fn show_bytes(bytes: &[u8], out: &mut [u8]) -> Result<usize, Refusal>
+    ensures { Answers (sent (bytes_line bytes.now)) out.old (outcome result) out.new }
 {
-    let n = bytes.len();
-    if n == 0 {
+    if bytes.is_empty() {
         return put(b"-\n", out);
     }
-    if out.len() / 3 < n {
-        return Sent::Refused(BUFFER_TOO_SHORT);
+    if out.len() / 3 < bytes.len() {
+        return Err(Refusal::BufferTooShort);
     }
-    let first = bytes[0];
-    out[0] = hex_digit(first / 16);
-    out[1] = hex_digit(first % 16);
-    let mut i = 1;
-    let mut w = 2;
-    while i < n {
-        let b = bytes[i];
-        out[w] = b' ';
-        out[w + 1] = hex_digit(b / 16);
-        out[w + 2] = hex_digit(b % 16);
-        i += 1;
-        w += 3;
+    let mut end = 0;
+    for &byte in bytes {
+        let shown = [hex_digit(byte / 16), hex_digit(byte % 16), b' '];
+        out[end..end + 3].copy_from_slice(&shown);
+        end += 3;
     }
-    out[w] = b'\n';
-    Sent::Written(w + 1)
+    out[end - 1] = b'\n';
+    Ok(end)
 }
 
-// The line of a refusal. Refuses 10.
-pub(crate) fn show_refusal(n: u8, out: &mut [u8]) -> Sent
-    ensures { Answers (sent (refusal_line n)) out.old (sent_answer result) out.new }
+// The line of a refusal, whose number has one digit or two. Refuses 10.
+pub(crate) fn show_refusal(refusal: Refusal, out: &mut [u8]) -> Result<usize, Refusal>
+    ensures { Answers (sent (refusal_line (number refusal))) out.old (outcome result) out.new }
 {
-    if n < 10 {
-        return put(&[b'R', b'0' + n, b'\n'], out);
+    let number = refusal.number();
+    if number < 10 {
+        return put(&[b'R', b'0' + number, b'\n'], out);
     }
-    if n < 100 {
-        return put(&[b'R', b'0' + n / 10, b'0' + n % 10, b'\n'], out);
-    }
-    put(
-        &[
-            b'R',
-            b'0' + n / 100,
-            b'0' + n / 10 % 10,
-            b'0' + n % 10,
-            b'\n',
-        ],
-        out,
-    )
+    put(&[b'R', b'0' + number / 10, b'0' + number % 10, b'\n'], out)
 }
 
 // A text at the start of a buffer. Refuses 10.
-fn put(text: &[u8], out: &mut [u8]) -> Sent
-    ensures { Answers (sent text.now) out.old (sent_answer result) out.new }
+fn put(text: &[u8], out: &mut [u8]) -> Result<usize, Refusal>
+    ensures { Answers (sent text.now) out.old (outcome result) out.new }
 {
     if out.len() < text.len() {
-        return Sent::Refused(BUFFER_TOO_SHORT);
+        return Err(Refusal::BufferTooShort);
     }
-    let mut i = 0;
-    while i < text.len() {
-        out[i] = text[i];
-        i += 1;
-    }
-    Sent::Written(i)
+    out[..text.len()].copy_from_slice(text);
+    Ok(text.len())
 }
 
 // The hexadecimal digit of a number below 16.
-fn hex_digit(d: u8) -> u8
-    requires { d < 16 }
-    ensures { result ≡ hex_digit d }
+fn hex_digit(number: u8) -> u8
+    requires { number < 16 }
+    ensures { result ≡ hex_digit number }
 {
-    match d {
-        0 => b'0',
-        1 => b'1',
-        2 => b'2',
-        3 => b'3',
-        4 => b'4',
-        5 => b'5',
-        6 => b'6',
-        7 => b'7',
-        8 => b'8',
-        9 => b'9',
-        10 => b'A',
-        11 => b'B',
-        12 => b'C',
-        13 => b'D',
-        14 => b'E',
-        _ => b'F',
+    if number < 10 {
+        b'0' + number
+    } else {
+        b'A' + (number - 10)
     }
 }

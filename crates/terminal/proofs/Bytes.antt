@@ -1,20 +1,24 @@
 -- What turns take from a reader and give to a writer. Assumes nothing.
-use Prim.Native.Nat.{ℕ}
+use Prim.Native.Nat.{ℕ, ◌<◌}
 use native.Mathlib.Omega.{arith}
 use mathlib.Core.Path.{◌≡◌, refl, sym, ◌∙◌, ap, subst}
-use mathlib.Core.Bool.{true, false}
+use mathlib.Core.Bool.{Bool, true, false}
 use mathlib.Core.List.{List, [], ◌∷◌, ◌++◌, append_assoc, append-nil}
-use lib.ListN.{length, take}
+use lib.ListN.{length, take, drop}
 use Rattle.std.specs.Prelude.{Some, None, Result, Ok, Err}
+use Rattle.std.specs.Result.{IfErr, IsErrAnd, result_ok}
+use Rattle.std.proofs.lemmas.Bool.{false≢true}
 use Rattle.std.specs.Io.{ReadsAtMost}
 use Rattle.std.specs.Io.KnownBytes.{Keeps, Consumes, Appends, ReadConsumes, WriteAppends}
 use Rattle.std.specs.declared.option.Option.{Option}
+use Rattle.std.specs.declared.io.Error.{Error}
 use Rattle.terminal.specs.Stream.{State, view, part, start, brought, receive, read_rule, count, write_rule, answer_rule}
-use Rattle.terminal.specs.Stream.{rests, Turned, Reached, starts, turns, Ran}
-use Rattle.terminal.specs.Moved.{number}
+use Rattle.terminal.specs.Stream.{Idle, rests, Reached, starts, turns, Ran}
+use Rattle.terminal.specs.Failure.{Passes, FailedAt}
+use Rattle.terminal.specs.declared.failure.Failure.{Failure}
+use Rattle.terminal.specs.declared.failure.Failure.TheVariants.{Input, Output}
 use Rattle.terminal.specs.declared.stream.Stream.{Stream}
 use Rattle.terminal.specs.Bytes.{EndsBehind, TurnedOver, RanOver, Finished}
-use Rattle.terminal.proofs.Counts.{true_false}
 use Rattle.terminal.proofs.Turns.{turn_writes, turn_answers, turn_reads}
 
 -- ---- known bytes
@@ -49,31 +53,30 @@ gives_more (Some l) None c x y p q = absurd p
 gives_more (Some l) (Some m) None x y p q = absurd q
 gives_more (Some l) (Some m) (Some n) x y p q = q ∙ ap (λ (r : List ℕ). r ++ y) p ∙ append_assoc l x y
 
--- ---- what a call moved, by its number
+-- ---- what a call moved
 
 module _ {E : Type 0} (a b : Option (List ℕ)) where
   -- a write
-  pub given_by : (res : Result ℕ E) (buf : List ℕ) → WriteAppends a b res buf → Appends a b (take (count (number res)) buf)
-  unfolding count number
+  pub given_by : (res : Result ℕ E) (buf : List ℕ) → WriteAppends a b res buf → Appends a b (take (count (result_ok res)) buf)
   given_by (Ok n) buf h = h
   given_by (Err e) buf h = gives_kept a b h
 
   -- a read
-  pub taken_by : (res : Result ℕ E) (buf : List ℕ) → ReadConsumes a b res buf → Consumes a b (brought (number res) buf)
-  unfolding brought number
+  pub taken_by : (res : Result ℕ E) (buf : List ℕ) → ReadConsumes a b res buf → Consumes a b (brought (result_ok res) buf)
+  unfolding brought
   taken_by (Ok n) buf h = h.0
   taken_by (Err e) buf h = takes_kept a b h
 
   -- it takes the end of the input only behind all of it
   pub behind_by : (res : Result ℕ E) (buf : List ℕ) (room : ℕ) (s : State) → ReadsAtMost res buf → ReadConsumes a b res buf → s.ended ≡ false
-      → EndsBehind (length buf) (read_rule room (number res) buf s) b
-  unfolding read_rule number receive
+      → EndsBehind (length buf) (read_rule room (result_ok res) buf s) b
+  unfolding read_rule receive
   behind_by (Ok n) buf room s most h going = go (take n buf) refl
     where
       go : (l : List ℕ) → take n buf ≡ l → EndsBehind (length buf) (receive room l s) b
       go [] e = λ x some. h.1 (most.1 ∙ ap length e) some
-      go (c ∷ l) e = λ x some. absurd (true_false (sym x ∙ going))
-  behind_by (Err e) buf room s most h going = λ x some. absurd (true_false (sym x ∙ going))
+      go (c ∷ l) e = λ x some. absurd (false≢true (sym going ∙ x))
+  behind_by (Err e) buf room s most h going = λ x some. absurd (false≢true (sym going ∙ x))
 
 -- ---- a turn
 
@@ -83,12 +86,12 @@ over_rests size a b s =
 
 -- a write that answered `res`
 pub over_writes : (size : ℕ) (a b b' : Option (List ℕ)) (s t : State) {E : Type 0} (res : Result ℕ E) → WriteAppends b b' res s.unwritten
-    → t ≡ write_rule (number res) s → TurnedOver size a a b b' s t
+    → t ≡ write_rule (result_ok res) s → TurnedOver size a a b b' s t
 over_writes size a b b' s t res h e =
     record {
       read = [];
-      put = take (count (number res)) s.unwritten;
-      turn = turn_writes s t (number res) e;
+      put = take (count (result_ok res)) s.unwritten;
+      turn = turn_writes s t (result_ok res) e;
       taken = takes_none a;
       given = given_by b b' res s.unwritten h;
       behind = λ f x some. f (sym (ap (λ (u : State). u.ended) e) ∙ x) some;
@@ -108,13 +111,13 @@ over_answers size a b s t room none e =
 
 -- a read that answered `res`
 pub over_reads : (s : Stream) (a a' b : Option (List ℕ)) (t : State) (room : ℕ) {E : Type 0} (res : Result ℕ E) (before piece out : List ℕ)
-    → length piece ≡ length before → part s.at s.len before ≡ [] → part s.from s.end out ≡ [] → s.ended ≡ false → ReadsAtMost res piece
-    → ReadConsumes a a' res piece → t ≡ read_rule room (number res) piece (view s piece out) → TurnedOver (length before) a a' b b (view s before out) t
+    → length piece ≡ length before → part s.unanswered before ≡ [] → part s.unwritten out ≡ [] → s.ended ≡ false → ReadsAtMost res piece
+    → ReadConsumes a a' res piece → t ≡ read_rule room (result_ok res) piece (view s piece out) → TurnedOver (length before) a a' b b (view s before out) t
 over_reads s a a' b t room res before piece out same none written going most h e =
     record {
-      read = brought (number res) piece;
+      read = brought (result_ok res) piece;
       put = [];
-      turn = turn_reads s t room (number res) before piece out same none written going e;
+      turn = turn_reads s t room (result_ok res) before piece out same none written going e;
       taken = taken_by a a' res piece h;
       given = gives_none b;
       behind = λ f x some.
@@ -126,9 +129,6 @@ over_reads s a a' b t room res before piece out same none written going most h e
 pub ran_over : {size : ℕ} {a a' b b' : Option (List ℕ)} {s : State} → RanOver size a a' b b' s → Ran s
 ran_over r = record { input = r.input; output = r.output; reached = r.reached }
 
-pub turned_over : {size : ℕ} {a a' b b' : Option (List ℕ)} {s t : State} → TurnedOver size a a' b b' s t → Turned s t
-turned_over r = record { read = r.read; put = r.put; turn = r.turn }
-
 pub over_none : (size : ℕ) (a b : Option (List ℕ)) (s : State) → s ≡ start → RanOver size a a b b s
 over_none size a b s e =
     record {
@@ -137,7 +137,7 @@ over_none size a b s e =
       reached = subst (λ (u : State). Reached u [] []) (sym e) starts;
       taken = takes_none a;
       given = gives_none b;
-      behind = λ x some. absurd (true_false (sym x ∙ ap (λ (u : State). u.ended) e));
+      behind = λ x some. absurd (false≢true (sym (ap (λ (u : State). u.ended) e) ∙ x));
     }
 
 pub over_more : {size : ℕ} {a a' a'' b b' b'' : Option (List ℕ)} {s t : State} → RanOver size a a' b b' s → TurnedOver size a' a'' b' b'' s t
@@ -152,7 +152,32 @@ over_more {a = a} {a' = a'} {a'' = a''} {b = b} {b' = b'} {b'' = b''} r n =
       behind = n.behind r.behind;
     }
 
--- ---- more to do
+-- ---- a failure that ends the program: `f` is made of the error of a call that answered `res`
 
-pub not_yet : (s : State) → true ≡ false → Finished s
-not_yet s e = absurd (true_false e)
+handed_on : (r : Result Bool Failure) (f : Failure) (t : State) → IsErrAnd r (λ d. d ≡ f) → FailedAt f t → IfErr r (λ d. FailedAt d t)
+handed_on (Ok x) f t is h = absurd is
+handed_on (Err d) f t is h = subst (λ (d : Failure). FailedAt d t) (sym is) h
+
+module _ (r : Result Bool Failure) {f : Failure} (is : IsErrAnd r (λ d. d ≡ f)) {ends : Result (Unit {0}) Error} (res : Result ℕ Error)
+    (last : IfErr ends (λ e. (res ≡ Err e) × (Passes e → ⊥))) (s t : State) where
+  -- a write that failed has taken nothing
+  pub output_failed : (e : Error) × (ends ≡ Err e) × (f ≡ Output e) → t ≡ write_rule (result_ok res) s → 0 < length s.unwritten → IfErr r (λ d. FailedAt d t)
+  output_failed z step some = handed_on r f t is (subst (λ (d : Failure). FailedAt d t) (sym z.2) ((λ none. omega (arith, ap length (kept z.0 failed.0), ap length none)), failed.1))
+    where
+      failed : (res ≡ Err z.0) × (Passes z.0 → ⊥)
+      failed = subst (λ (x : Result (Unit {0}) Error). IfErr x (λ e. (res ≡ Err e) × (Passes e → ⊥))) z.1 last
+
+      kept : (e : Error) → res ≡ Err e → t.unwritten ≡ s.unwritten
+      kept e h = ap (λ (u : State). u.unwritten) step ∙ ap (λ (x : Result ℕ Error). drop (count (result_ok x)) s.unwritten) h
+
+  -- a read that failed has brought nothing
+  pub input_failed : (room : ℕ) (buffer : List ℕ) → (e : Error) × (ends ≡ Err e) × (f ≡ Input e) → t ≡ read_rule room (result_ok res) buffer s → Idle s
+      → IfErr r (λ d. FailedAt d t)
+  unfolding read_rule
+  input_failed room buffer z step idle = handed_on r f t is (subst (λ (d : Failure). FailedAt d t) (sym z.2) (subst Idle (sym (kept z.0 failed.0)) idle, failed.1))
+    where
+      failed : (res ≡ Err z.0) × (Passes z.0 → ⊥)
+      failed = subst (λ (x : Result (Unit {0}) Error). IfErr x (λ e. (res ≡ Err e) × (Passes e → ⊥))) z.1 last
+
+      kept : (e : Error) → res ≡ Err e → t ≡ s
+      kept e h = step ∙ ap (λ (x : Result ℕ Error). read_rule room (result_ok x) buffer s) h

@@ -1,4 +1,4 @@
 -- The words of the program between its calls of the system.
 pub mod Stream
-pub mod Moved
+pub mod Failure
 pub mod Bytes

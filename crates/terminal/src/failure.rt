@@ -1,7 +1,12 @@
 // Why a run ended before its input did.
 
+ghost use Rattle.std.specs.Prelude.{◌≡◌, Err, IfErr, OnOk};
+ghost use Rattle.terminal.specs.Failure.{Passes};
+
 use std::error::Error;
-use std::{fmt, io};
+use std::io::ErrorKind;
+use std::time::{Clock, Duration};
+use std::{fmt, io, thread};
 
 // The side that failed, and how; or that no end came in more turns than a run can make.
 #[derive(Clone, Copy, Debug)]
@@ -22,3 +27,22 @@ impl fmt::Display for Failure {
 }
 
 impl Error for Failure {}
+
+// Whether the program goes on after a read or a write that answered so. One that a signal interrupted, or that can move nothing yet, is made again: the latter
+// after a thousandth of a second, in which no processor time is used.
+pub(crate) fn goes_on<C: Clock>(clock: &C, moved: io::Result<usize>) -> io::Result<()>
+    ensures ok { OnOk result (IfErr moved Passes) }
+    ensures err { IfErr result (λ e. (moved ≡ Err e) × (Passes e → ⊥)) }
+{
+    let Err(e) = moved else {
+        return Ok(());
+    };
+    match e.kind() {
+        ErrorKind::Interrupted => Ok(()),
+        ErrorKind::WouldBlock => {
+            thread::sleep(clock, Duration::from_millis(1));
+            Ok(())
+        }
+        _ => Err(e),
+    }
+}

@@ -1,18 +1,17 @@
 // Standard input through the console to standard output.
 #![tactic(auto)]
 
-ghost use Rattle.std.specs.Prelude.{◌≡◌, ◌≤◌, false, length, IfOk, OnOk};
-ghost use Rattle.terminal.specs.Stream.{view, Turned, Ran};
+ghost use Rattle.std.specs.Prelude.{◌≡◌, ◌≤◌, false, length, IfOk, IfErr, OnOk};
+ghost use Rattle.terminal.specs.Stream.{view, Ran};
 ghost use Rattle.terminal.specs.Bytes.{TurnedOver, RanOver, Finished};
+ghost use Rattle.terminal.specs.Failure.{FailedAt};
 
-use failure::Failure;
-use moved::{goes_on, moved};
+use failure::{Failure, goes_on};
 use std::io::{Read, Write};
 use std::time::Clock;
 use stream::Stream;
 
 pub mod failure;
-mod moved;
 pub mod stream;
 
 // The longest answer: eighteen bytes, each with the space or the feed behind it.
@@ -38,65 +37,59 @@ pub fn run<R: Read, W: Write, C: Clock>(
         (W.contents output.new)
         (view result.0 piece.new out.new) }
     ensures all { OnOk result.1 (54 ≤ length out.old → Finished (view result.0 piece.new out.new)) }
+    ensures failed { IfErr result.1 (λ failure. FailedAt failure (view result.0 piece.new out.new)) }
 {
     let mut stream = Stream::new();
     if out.len() < LONGEST_ANSWER {
         return (stream, Ok(()));
     }
     for _ in 0..u64::MAX {
-        let (next, more) = turn(input, output, clock, stream, piece, out);
-        stream = next;
-        match more {
+        match turn(input, output, clock, &mut stream, piece, out) {
             Ok(true) => {}
             Ok(false) => return (stream, Ok(())),
-            Err(e) => return (stream, Err(e)),
+            Err(failure) => return (stream, Err(failure)),
         }
     }
     (stream, Err(Failure::Endless))
 }
 
-// Writes what is answered; or else answers what was read; or else reads. The stream after that, and whether there is more to do.
+// Writes what is answered; or else answers what was read; or else reads. Whether there is more to do.
 fn turn<R: Read, W: Write, C: Clock>(
     input: &mut R,
     output: &mut W,
     clock: &C,
-    stream: Stream,
+    stream: &mut Stream,
     piece: &mut [u8],
     out: &mut [u8],
-) -> (Stream, Result<bool, Failure>)
-    ensures turned { Turned
-        (view stream piece.old out.old)
-        (view result.0 piece.new out.new) }
+) -> Result<bool, Failure>
     ensures bytes { TurnedOver
         (length piece.old)
         (R.remaining input.old)
         (R.remaining input.new)
         (W.contents output.old)
         (W.contents output.new)
-        (view stream piece.old out.old)
-        (view result.0 piece.new out.new) }
-    ensures all { IfOk result.1 (λ more. more ≡ false → Finished (view result.0 piece.new out.new)) }
+        (view stream.old piece.old out.old)
+        (view stream.new piece.new out.new) }
+    ensures all { IfOk result (λ more. more ≡ false → Finished (view stream.new piece.new out.new)) }
+    ensures failed { IfErr result (λ failure. FailedAt failure (view stream.new piece.new out.new)) }
 {
-    if stream.unwritten(out).len() > 0 {
-        let put = output.write(stream.unwritten(out));
-        let more = match goes_on(clock, &put) {
-            Ok(()) => Ok(true),
-            Err(e) => Err(Failure::Output(e)),
-        };
-        let put = moved(&put, stream.unwritten(out));
-        return (stream.wrote(put, out), more);
+    let unwritten = stream.unwritten(out);
+    if !unwritten.is_empty() {
+        let put = output.write(unwritten);
+        stream.wrote(put.ok(), out);
+        goes_on(clock, put).map_err(|e| Failure::Output(e))?;
+        return Ok(true);
     }
-    if stream.unanswered(piece).len() > 0 {
-        return (stream.answer(piece, out), Ok(true));
+    if !stream.unanswered(piece).is_empty() {
+        stream.answer(piece, out);
+        return Ok(true);
     }
     let ended = stream.has_ended();
     if ended {
-        return (stream, Ok(false));
+        return Ok(false);
     }
     let got = input.read(piece);
-    let more = match goes_on(clock, &got) {
-        Ok(()) => Ok(true),
-        Err(e) => Err(Failure::Input(e)),
-    };
-    (stream.read(moved(&got, piece), piece, out), more)
+    stream.read(got.ok(), piece, out);
+    goes_on(clock, got).map_err(|e| Failure::Input(e))?;
+    Ok(true)
 }

@@ -1,4 +1,4 @@
--- `terminal::run` meets its contract: it has made turns from the start. Assumes nothing.
+-- `terminal::run`: it has made turns from the start. Assumes nothing.
 use lib.ListN.{length}
 use Rattle.terminal.specs.Stream.{view}
 use Rattle.terminal.specs.Bytes.{RanOver}

@@ -1,24 +1,26 @@
--- `answer::hear` meets its contract: each kind of event by its call. Assumes nothing.
-use mathlib.Core.Path.{refl, ap}
+-- `answer::hear`: each kind of event by its call. Assumes nothing.
+use Rattle.std.proofs.Common.{refl, ap, ◌∙◌}
+use Rattle.channels.specs.Outcome.{value}
 use Rattle.senders.specs.Jit.{view}
-use Rattle.senders.proofs.Lent.{ends_refused}
-use Rattle.lines.specs.Line.{meant}
-use Rattle.lines.specs.Console.{event_rule}
-use Rattle.lines.proofs.Hears.{meant_event, on_heard, off_heard, bend_heard}
-use Rattle.lines.specs.declared.line.Line.{Line}
+use Rattle.lines.proofs.Hears.{handed_on, counted_sent, counted_refused, on_heard, off_heard, bend_heard, malformed_heard}
 use Rattle.lines.proofs.answer.hear.Goals as goal
 
-pub returns-in_default : goal.returns-in_default
-unfolding event_rule meant
-returns-in_default c = ends_refused (ap (λ (l : Line). event_rule (view c.args.cells.now) (meant l)) c.in_default.is)
+pub returns-in_err-event : goal.returns-in_err-event
+returns-in_err-event c = malformed_heard (view c.args.tuner.now) c.in_err-event.ensures (handed_on c.from_residual.result _ c.from_residual.ensures.1)
 
-pub returns-in-On : goal.returns-in-On
-returns-in-On c = on_heard (view c.args.cells.now) (meant_event c.in-Event.is c.in-On.is) c.pitch_of.ensures c.note_on.ensures c.sent_of.ensures
+pub returns-in_err-note_on-in-On : goal.returns-in_err-note_on-in-On
+returns-in_err-note_on-in-On c =
+    on_heard (view c.args.tuner.now) c.in_ok-event.event c.in_ok-event.ensures c.in-On.is c.pitch_of-pitch.ensures c.in_err-note_on-in-On.ensures
+    (handed_on c.from_residual-in_err-note_on-in-On.result _ c.from_residual-in_err-note_on-in-On.ensures.1 ∙ counted_refused _)
+
+pub returns-in_ok-note_on-in-On : goal.returns-in_ok-note_on-in-On
+returns-in_ok-note_on-in-On c =
+    on_heard (view c.args.tuner.now) c.in_ok-event.event c.in_ok-event.ensures c.in-On.is c.pitch_of-pitch.ensures c.in_ok-note_on-in-On.ensures
+    (ap value c.unwrap_or.ensures ∙ counted_sent c.in_ok-note_on-in-On.field-0)
 
 pub returns-in-Off : goal.returns-in-Off
-returns-in-Off c = off_heard (view c.args.cells.now) (meant_event c.in-Event.is c.in-Off.is) c.note_off.ensures
+returns-in-Off c = off_heard (view c.args.tuner.now) c.in_ok-event.event c.in_ok-event.ensures c.in-Off.is c.note_off.ensures
 
 pub returns-in-Bend : goal.returns-in-Bend
 returns-in-Bend c =
-    let l = c.args.cells.now in
-    bend_heard {view = view} (view l) {t = l} refl (meant_event c.in-Event.is c.in-Bend.is) c.pitch_of-in-Bend.ensures c.note_pitch.ensures
+    bend_heard {view = view} (view c.args.tuner.now) {t = c.args.tuner.now} c.in_ok-event.event c.in_ok-event.ensures refl c.in-Bend.is c.pitch_of-pitch.ensures c.note_pitch.ensures

@@ -1,4 +1,4 @@
--- `lines::answer::pitch_of` meets its contract. Assumes nothing.
+-- `answer::pitch_of`: 1000.0 is the whole number 1000. Assumes nothing.
 use lib.Ieee.{of_bits, of_int}
 use Rattle.lines.specs.Console.{pitch_of}
 use Rattle.lines.proofs.answer.pitch_of.Goals as goal

@@ -1,27 +1,18 @@
--- `terminal::stream::Stream::answer` meets its contract: a step over what was read. Assumes nothing.
-use Prim.Native.Nat.{ℕ, ◌≤◌}
-use native.Mathlib.Omega.{arith}
-use mathlib.Core.Path.{subst}
-use mathlib.Core.List.{List}
-use lib.ListN.{length}
-use Rattle.lines.proofs.Rooms.{used_within}
-use Rattle.terminal.specs.Stream.{part}
-use Rattle.terminal.proofs.Parts.{part_size}
+-- `stream::Stream::answer`: a step over what was read. Assumes nothing.
+use Rattle.std.proofs.Common.{◌-◌, List, ℕ, drop, ap, subst, arith, length}
+use Rattle.std.proofs.lemmas.List.{length-take, length-drop}
 use Rattle.lines.specs.Session.{session, Stepped}
+use Rattle.lines.proofs.Rooms.{used_within}
 use Rattle.terminal.proofs.Streams.{answer_law}
 use Rattle.terminal.proofs.stream.Stream.answer.Goals as goal
 
-pub overflow_add-next : goal.overflow_add-next
-overflow_add-next c =
-    let a = c.args in
-    let s = c.step-step in
-    let h : s.result.used ≤ length (part a.self.at a.self.len a.piece.now) =
-    subst (λ (l : List ℕ). s.result.used ≤ length l) c.part.ensures (used_within s.ensures) in
-    omega (arith, h, part_size a.self.at a.self.len a.piece.now, c.well_formed)
+pub overflow_add-self : goal.overflow_add-self
+overflow_add-self c =
+    let p = c.args.self.now.unanswered in
+    omega (arith, used_within c.step-step.ensures, ap length c.of.ensures, length-take (p.end - p.start) (drop p.start c.args.piece.now), length-drop p.start c.args.piece.now)
 
 pub returns : goal.returns
 returns c =
     let a = c.args in
-    let s = c.step-step in
-    let found : List ℕ → Type 0 = λ l. Stepped (session a.self.console) l a.out.now s.new.out s.result in
-    answer_law a.self s.result a.piece.now a.out.now s.new.out (subst found c.part.ensures s.ensures)
+    answer_law a.self.now c.step-step.new.self c.first-self.result c.step-step.result a.piece.now a.out.now c.step-step.new.out c.first-self.ensures
+    (subst (λ (l : List ℕ). Stepped (session a.self.now.console) l a.out.now c.step-step.new.out (session c.step-step.new.self) c.step-step.result) c.of.ensures c.step-step.ensures)

@@ -1,30 +1,20 @@
--- `terminal::stream::Stream::read` meets its contract, whether the read failed, ended or brought bytes. Assumes nothing.
-use Prim.Native.Nat.{min}
-use mathlib.Core.Path.{◌∙◌, ap}
-use lib.ListN.{length}
-use lib.IntN.{ℤ}
-use mir.Syntax.{w64}
-use mir.ValLaws.{to_z-of_z}
-use Rattle.terminal.specs.Stream.{count}
+-- `stream::Stream::read`: a read failed, told the end or brought bytes. Assumes nothing.
+use Rattle.std.proofs.Common.{length, ap, ◌∙◌, sym, arith}
+use Rattle.std.proofs.lemmas.Bool.Decides.{nat_tests}
 use Rattle.terminal.proofs.Streams.{read_failed, read_some, read_none}
 use Rattle.terminal.proofs.stream.Stream.read.Goals as goal
 
-pub returns-then-failed : goal.returns-then-failed
-returns-then-failed c =
-    let a = c.args in
-    let e = to_z-of_z w64 a.got c.ranges.got in
-    read_failed a.self a.got _ a.piece.now a.out.now (rw e at c.if-failed.true) tt
+pub returns-in_default : goal.returns-in_default
+returns-in_default c = read_failed c.args.self.now c.args.got c.args.piece.now c.args.out.now c.in_default.is
 
-pub returns-then-n-eq0 : goal.returns-then-n-eq0
-returns-then-n-eq0 c =
-    let a = c.args in
-    let e = to_z-of_z w64 a.got c.ranges.got in
-    let got = c.count-n.ensures ∙ ap (λ (z : ℤ). min (count z) (length a.piece.now)) e in
-    read_none a.self c.end.result c.count-n.result a.got a.piece.now a.out.now _ (rw e at c.if-failed.false) got c.if-n-eq0.true (c.end.ensures a.piece.now)
+pub returns-then-is_empty : goal.returns-then-is_empty
+returns-then-is_empty c =
+    let size = ap length c.of.ensures in
+    read_none c.args.self.now c.args.got c.in-Some.n c.first-brought.result c.args.piece.now c.in-Some.is c.first-brought.ensures c.end.new.self c.args.out.now c.end.new.out
+    (grind (arith, nat_tests)) (c.end.ensures c.args.piece.now)
 
-pub returns : goal.returns
-returns c =
-    let a = c.args in
-    let e = to_z-of_z w64 a.got c.ranges.got in
-    let got = c.count-n.ensures ∙ ap (λ (z : ℤ). min (count z) (length a.piece.now)) e in
-    read_some a.self c.count-n.result a.got a.piece.now a.out.now got c.if-n-eq0.false
+pub returns-else-is_empty : goal.returns-else-is_empty
+returns-else-is_empty c =
+    let size = ap length c.of.ensures in
+    read_some c.args.self.now c.args.got c.in-Some.n c.first-brought.result c.args.piece.now c.in-Some.is c.first-brought.ensures c.args.out.now
+    (λ none. grind (arith, nat_tests))

@@ -1,0 +1,49 @@
+-- `line::number`: what a byte more does to the digits and the number so far. Assumes nothing.
+use Rattle.std.proofs.Common.{◌+◌, ◌*◌, drop, refl, sym, ap, ◌∙◌, arith, rules}
+use Rattle.std.proofs.lemmas.Bool.Decides.{nat_tests}
+use Rattle.std.proofs.lemmas.List.{at_drop_all}
+use Rattle.std.proofs.Math.Option.{some}
+use Rattle.lines.specs.Line.{number}
+use Rattle.lines.specs.Grammar.{digits, decimal}
+use Rattle.lines.proofs.Lines.{number_other, number_some, digits_stop, digits_more, decimal_more, more_digits, few_digits}
+use Rattle.lines.proofs.line.number.Goals as goal
+
+pub returns-then-is_empty : goal.returns-then-is_empty
+unfolding number
+returns-then-is_empty c = search rules
+
+pub loop-byte-init : goal.loop-byte-init
+loop-byte-init c = record { digits_left = refl; value = refl; small = omega arith }
+
+pub returns-then-not-is_ascii_digit : goal.returns-then-not-is_ascii_digit
+returns-then-not-is_ascii_digit c =
+    let stop = digits_stop c.args.field.now c.loop-byte.byte-index (omega arith) (search (rules, nat_tests)) in
+    sym (number_other _ _ (c.loop-byte.invariant.digits_left ∙ stop))
+
+pub overflow_mul-number : goal.overflow_mul-number
+overflow_mul-number c = omega (arith, few_digits c.loop-byte.number c.loop-byte.byte-index c.loop-byte.invariant.small (omega arith))
+
+pub overflow_add-number : goal.overflow_add-number
+overflow_add-number c = omega (arith, few_digits c.loop-byte.number c.loop-byte.byte-index c.loop-byte.invariant.small (omega arith))
+
+pub loop-byte-preserved : goal.loop-byte-preserved
+loop-byte-preserved c =
+    let s = c.args.field.now in
+    let i = c.loop-byte.byte-index in
+    record {
+      digits_left = c.loop-byte.invariant.digits_left ∙ digits_more s i (omega arith) (search (rules, nat_tests));
+      value =
+          c.loop-byte.invariant.value
+          ∙ decimal_more s i (omega arith) c.loop-byte.number
+          ∙ ap (λ d. decimal (c.loop-byte.number * 10 + d) (drop (i + 1) s)) (sym c.from.ensures);
+      small = more_digits c.loop-byte.number i c.from.result c.loop-byte.invariant.small (omega (arith, c.if-not-is_ascii_digit.ensures.cases));
+    }
+
+pub returns : goal.returns
+unfolding digits decimal
+returns c =
+    let s = c.args.field.now in
+    let n = c.loop-byte.number in
+    let d = at_drop_all digits s c.loop-byte.byte-index (omega arith) in
+    let v = at_drop_all (decimal n) s c.loop-byte.byte-index (omega arith) in
+    sym (number_some _ s (grind (arith, nat_tests)) (omega arith) (c.loop-byte.invariant.digits_left ∙ d) ∙ ap some (c.loop-byte.invariant.value ∙ v))
