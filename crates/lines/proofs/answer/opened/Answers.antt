@@ -4,4 +4,4 @@ use Rattle.lines.proofs.answer.opened.Goals as goal
 
 pub returns : goal.returns
 unfolding opened
-returns c = ap (λ p. p.1) c.open.ensures
+returns c = ap (λ p. p.1) c.start.ensures
