@@ -6,13 +6,12 @@ use mathlib.Core.Path.{◌≡◌, refl, sym, ◌∙◌, ap}
 use mathlib.Core.Bool.{Bool, true, false, cond}
 use mathlib.Core.List.{List, [], ◌∷◌, ◌++◌, append_assoc, append-nil}
 use lib.ListN.{length, take, drop, length-drop, take-append-drop}
-use lib.IntN.{ℤ, pos, negsuc}
-use Rattle.std.specs.Prelude.{Some}
+use Rattle.std.specs.Prelude.{Option, Some, None}
 use lib.Dec.{leb}
 use borrow.Author.Tests.{le-leb}
 use Rattle.lines.specs.Split.{feed}
 use Rattle.lines.specs.Console.{opened, answer, answers, nonempty, ended, lines_of, output}
-use Rattle.lines.specs.Session.{Session, step_rule, finish}
+use Rattle.lines.specs.Session.{Session, step_rule, line_ended, finish}
 use Rattle.lines.proofs.Splits.{into_none}
 use Rattle.lines.proofs.Rooms.{answer_room, rule_uses}
 use Rattle.theorems.proofs.Console.Streaming.{ahead, ahead_none, ahead_step}
@@ -53,7 +52,7 @@ came {s} {input} {put} bytes idle w =
 closed : {s : State} {input put : List ℕ} (room : ℕ) → Idle s → Written s input put → Written (end_rule room s) input put
 closed {s} {input} {put} room idle w = go (leb (length (finish s.session)) room)
   where
-    go : (b : Bool) → Written (cond b (record { session = s.session; unanswered = []; unwritten = finish s.session; ended = true }) s) input put
+    go : (b : Bool) → Written (cond b (record { session = line_ended s.session; unanswered = []; unwritten = finish s.session; ended = true }) s) input put
     go true =
         record {
           more = λ e. different e;
@@ -68,11 +67,11 @@ closed {s} {input} {put} room idle w = go (leb (length (finish s.session)) room)
         }
     go false = w
 
-read_on : {s : State} {input put : List ℕ} (room : ℕ) (got : ℤ) (buffer : List ℕ) → Idle s → Written s input put
+read_on : {s : State} {input put : List ℕ} (room : ℕ) (got : Option ℕ) (buffer : List ℕ) → Idle s → Written s input put
     → Written (read_rule room got buffer s) (input ++ brought got buffer) put
 unfolding read_rule brought receive
-read_on {s} {input} {put} room (negsuc k) buffer idle w = rw (append-nil input) w
-read_on {s} {input} {put} room (pos n) buffer idle w = go (take n buffer)
+read_on {s} {input} {put} room None buffer idle w = rw (append-nil input) w
+read_on {s} {input} {put} room (Some n) buffer idle w = go (take n buffer)
   where
     go : (bytes : List ℕ) → Written (receive room bytes s) (input ++ bytes) put
     go [] = rw (append-nil input) (closed room idle w)
@@ -94,7 +93,7 @@ answered {s} {input} {put} room none w =
     go [] e h = (refl, h)
     go (b ∷ l) e h = absurd (let z : length (b ∷ l) ≡ 0 = ap length e in omega arith)
 
-wrote : {s : State} {input put : List ℕ} (n : ℤ) → Written s input put → Written (write_rule n s) input (put ++ take (count n) s.unwritten)
+wrote : {s : State} {input put : List ℕ} (n : Option ℕ) → Written s input put → Written (write_rule n s) input (put ++ take (count n) s.unwritten)
 wrote {s} {input} {put} n w =
     let u = s.unwritten in
     let k = count n in
