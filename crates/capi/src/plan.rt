@@ -1,8 +1,6 @@
 // The plan tuner and the plan model in a block of the caller's memory. Every content of a block is some tuner, and some model. Entries that are the pool's but for
 // the block stay beside those: in C each has a name of its own, and so has each kind of lists.
 
-#![tactic(auto, using(crate::proofs::Entries::plan_read, crate::proofs::Entries::plan_sent_read, crate::proofs::Entries::placed_is,))]
-
 ghost use Rattle.std.specs.Prelude.{◌≡◌};
 ghost use Rattle.plans.specs.PlanLists.{note_lists, pitch_lists};
 ghost use Rattle.plans.specs.PlanBlock.{group_by_of};
@@ -132,6 +130,7 @@ pub extern "C" fn tarvoued_plan_stop(plan: &Plan, out: &mut [u8]) -> Answer
 }
 
 // The channel and the note of a key of the plan.
+#[tactic(auto, unfolding(channels::specs::Places::place))]
 #[unsafe(no_mangle)]
 pub extern "C" fn tarvoued_plan_lookup(plan: &Plan, key: u8) -> Note
     ensures { result ≡ of_place (found (view plan.now) key) }

@@ -35,7 +35,7 @@ use Rattle.senders.specs.Jit as Jit
 use Rattle.senders.specs.declared.jit.JitTuner.{JitTuner}
 use Rattle.plan_tuner.specs.Aot as Aot
 use Rattle.plan_tuner.specs.declared.aot.AotTuner.{AotTuner}
-use Rattle.capi.specs.Answers.{of_sent, of_press, of_list, of_plan, of_plan_sent, of_registered, of_repitched, of_nearest, of_pitch, of_measure, of_tuning}
+use Rattle.capi.specs.Answers.{plan_in, plan_sent_in, of_sent, of_press, of_list, of_plan, of_plan_sent, of_registered, of_repitched, of_nearest, of_pitch, of_measure, of_tuning}
 use Rattle.capi.specs.Entry.{EntryMeets}
 use Rattle.capi.specs.declared.answer.Answer.{Answer}
 use Rattle.theorems.specs.Entries as E
@@ -228,3 +228,15 @@ pub tuning_untouched :
 tuning_untouched (m, M.tuned n) old new p k h = absurd (omega (arith, h))
 tuning_untouched (m, M.untuned n) old new p k h = absurd (omega (arith, h))
 tuning_untouched (m, M.refused n) old new p k h = rw (p.1, k)
+
+-- ---- what a plan answers is read back from its numbers: the clauses `smallest` of the entries that plan speak of the very answer
+
+pub plan_read : (a : M.Answer) → plan_in (of_plan a) ≡ a
+plan_read (M.tuned n) = refl
+plan_read (M.untuned n) = refl
+plan_read (M.refused n) = refl
+
+pub plan_sent_read : (o : Outcome Aot.Planned) → plan_sent_in (of_plan_sent o) ≡ o
+plan_sent_read (value (Aot.tunes n bytes)) = refl
+plan_sent_read (value (Aot.cannot n)) = refl
+plan_sent_read (refused n) = refl
