@@ -14,6 +14,7 @@ ghost use Rattle.plan_tuner.specs.Aot.{view, start_rule, Starts, tuning_rule, pl
 ghost use Rattle.plan_tuner.specs.Aot.{Sendable, channel_messages, plan_messages, found};
 ghost use Rattle.plan_tuner.specs.Aot.{note_on_rule, note_off_rule, note_attr_rule, global_attr_rule, stop_rule};
 
+use arrayvec::ArrayVec;
 use channels::keys::Place;
 use channels::list::ChannelList;
 use channels::tuning_value::TuningKind;
@@ -21,7 +22,8 @@ use channels::{Ratio, Refusal};
 use plans::aot::{AotTuningModel, GroupBy, Planned};
 use plans::lists::TuningLists;
 use senders::midi::ChannelMessageType;
-use senders::mts::channel_tuning;
+use senders::mts::{LONGEST_TUNING, tuning_bytes};
+use senders::outgoing::send;
 use senders::tuner::{NoteMessage, send_checked_key, send_checked_to_all};
 
 // A tuner of a plan model. Every content is some tuner, since it lies in the memory of programs in C, which compare it too: its kind has eight bytes, so that there is
@@ -180,10 +182,8 @@ impl AotTuner {
     }
 }
 
-// A list has so many channels at most, and the tuning of one takes so many bytes at most.
-const MOST_CHANNELS: usize = 16;
-
-const LONGEST_TUNING: usize = 12;
+// The tuning of each of the sixteen channels.
+const LONGEST_PLAN: usize = 16 * LONGEST_TUNING;
 
 // Writes the tunings of a plan's channels, in order, to the buffer's start. Refuses 10.
 fn send_tunings(model: &AotTuningModel, kind: TuningKind, out: &mut [u8]) -> Result<usize, Refusal>
@@ -191,36 +191,14 @@ fn send_tunings(model: &AotTuningModel, kind: TuningKind, out: &mut [u8]) -> Res
     ensures { Answers (sent (bytes_of (plan_messages kind (plan_of model.now)))) out.old (outcome result) out.new }
 {
     let channels = model.channels();
-    // They are put together here first: a buffer without room for all of them keeps its content.
-    let mut bytes = [0; MOST_CHANNELS * LONGEST_TUNING];
-    let mut len: usize = 0;
+    let mut bytes = ArrayVec::<u8, LONGEST_PLAN>::new();
     for i in 0..model.num_channels() {
-        let detuning = model.detuning(i, 0);
-        len += send_tuning(kind, channels, i, detuning, &mut bytes[len..]).unwrap();
+        if let Some(channel) = channels.entry(i as u8) {
+            if let Some(detuning) = model.detuning(i, 0) {
+                let tuning = tuning_bytes(kind, channel, Ratio::from_float(detuning))?;
+                bytes.try_extend_from_slice(tuning.as_slice()).unwrap();
+            }
+        }
     }
-    if out.len() < len {
-        return Err(Refusal::BufferTooShort);
-    }
-    out[..len].copy_from_slice(&bytes[..len]);
-    Ok(len)
-}
-
-// Writes the tuning of channel i of a list, if it has a detuning, to the buffer's start. Refuses 10.
-fn send_tuning(
-    kind: TuningKind,
-    channels: ChannelList,
-    i: u16,
-    detuning: Option<f64>,
-    out: &mut [u8],
-) -> Result<usize, Refusal>
-    requires { IfSome detuning (λ d. positive d ≡ true) × (i < 16) }
-    ensures { Answers (sent (bytes_of (channel_messages kind (entries channels) i (optional detuning)))) out.old (outcome result) out.new }
-{
-    let Some(detuning) = detuning else {
-        return Ok(0);
-    };
-    let Some(channel) = channels.entry(i as u8) else {
-        return Ok(0);
-    };
-    channel_tuning(kind, channel, Ratio::from_float(detuning), out)
+    send(bytes.as_slice(), out)
 }

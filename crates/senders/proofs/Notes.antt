@@ -19,6 +19,12 @@ unfolding midi_number
 number_is (pos n) = grind (arith, nat_tests)
 number_is (negsuc n) = refl
 
+-- and it is a data byte
+pub number_low : (z : ℤ) {n : ℕ} → some n ≡ midi_number z → n < 128
+unfolding midi_number
+number_low (pos n) e = grind (arith, nat_tests)
+number_low (negsuc n) e = cc
+
 -- ---- the message of a note
 
 pub note_valid : (kind : NoteMessage) {ch k v : ℕ} → ch < 16 → k < 128 → v < 128 → Valid (meant ch (note_type kind k v))

@@ -2,6 +2,7 @@
 pub mod Lent
 pub mod Message
 pub mod Midi
+pub mod Records
 pub mod Mts
 pub mod Tuner
 pub mod Jit

@@ -1,7 +1,7 @@
 -- The bytes of a message, and the rule for a message that a caller asks for. Assumes nothing.
 use Rattle.std.specs.Prelude.{List, [], ◌∷◌, ◌++◌, ℕ, ◌+◌, ◌-◌, ◌*◌, ◌%◌, ℤ, pos, negsuc, nat_abs, ◌+ℤ◌}
 use Rattle.std.specs.Int.Signed.{shr_z}
-use Rattle.channels.specs.Outcome.{Outcome, refuse◌unless◌then◌}
+use Rattle.channels.specs.Outcome.{Outcome, value, refuse◌unless◌then◌}
 use Rattle.channels.specs.Refusal.{channel_over15, data_byte_over127, bend_out_of_range}
 use Rattle.senders.specs.Lent.{Answer, sent}
 use Rattle.senders.specs.Message.{Message, note_off, note_on, key_pressure, control, program, channel_pressure, bend, is_channel, is_data, is_bend}
@@ -48,6 +48,10 @@ meant ch (ControlChange n v) = control ch n v
 meant ch (ProgramChange p) = program ch p
 meant ch (ChannelPressure p) = channel_pressure ch p
 meant ch (PitchBendChange b) = bend ch b
+
+-- the data byte of a number: 8
+abbrev pub data_rule : ℕ → Outcome ℕ
+data_rule b = refuse data_byte_over127 unless is_data b then value b
 
 -- 8 from left, 9, and then what is left of the rule
 abbrev pub checked : {A : Type 0} → ChannelMessageType → Outcome A → Outcome A

@@ -21,6 +21,11 @@ tuning_size kind = length (bytes_of (tuning_messages 0 (tuning_of kind (pos 0)))
 
 -- ---- "Where a detuning is passed for a message: 6, 2, 10"; `fitted` adds 10
 
+-- the bytes of a tuning that is not refused
+abbrev pub tuning_bytes : ℕ → Outcome Tuning → Outcome (List ℕ)
+tuning_bytes ch (value t) = value (bytes_of (tuning_messages ch t))
+tuning_bytes ch (refused n) = refused n
+
 abbrev pub tuning_sent : ℕ → Outcome Tuning → Answer
 tuning_sent ch (value t) = sent (bytes_of (tuning_messages ch t))
 tuning_sent ch (refused n) = refused n

@@ -1,29 +1,30 @@
 // The pool tuner: a pool model whose presses, releases and repitches are sent as they happen. Each call decides, tests its room, writes its bytes, and only then
 // changes the tuner.
 
-ghost use Rattle.std.specs.Prelude.{◌≡◌, ◌++◌, ◌+◌, ◌≤◌, ◌<◌, true, length, Some};
+ghost use Rattle.std.specs.Prelude.{◌≡◌, true, Some};
 ghost use Rattle.std.specs.Float.Ieee.Positive.{positive};
 ghost use Rattle.arithmetic.specs.Answers.{outcome, outcome_by};
 ghost use Rattle.channels.specs.ChannelList.{entries};
 ghost use Rattle.channels.specs.Places.{place};
-ghost use Rattle.channels.specs.TuningValue.{kind_of, sent_as};
-ghost use Rattle.pools.specs.Block.{state_of};
-ghost use Rattle.pools.specs.PoolAnswers.{told, retuned, stopped_note};
+ghost use Rattle.channels.specs.TuningValue.{kind_of};
+ghost use Rattle.pools.specs.PoolAnswers.{told, retuned};
 ghost use Rattle.pools.specs.Pool.{found};
 ghost use Rattle.senders.specs.Lent.{Answers, Steps, sent};
 ghost use Rattle.senders.specs.Midi.{bytes_of};
-ghost use Rattle.senders.specs.Tuner.{stop_messages, key_rule};
+ghost use Rattle.senders.specs.Tuner.{key_rule};
 ghost use Rattle.senders.specs.Answers.{press_answer};
 ghost use Rattle.senders.specs.Jit.{view, start_rule, Starts, note_on_rule, note_off_rule, note_pitch_rule, note_attr_rule, global_attr_rule, stop_rule, sound_messages, repitch_messages, release_messages};
 
-use crate::midi::{ChannelMessageType, RECORD_LEN, check_data};
-use crate::mts::{LONGEST_TUNING, put_tuning};
-use crate::outgoing::Outgoing;
-use crate::tuner::{NoteMessage, put_key, put_note, send_checked_key, send_checked_to_all};
+use crate::midi::ChannelMessageType;
+use crate::mts::{LONGEST_TUNING, tuning_bytes};
+use crate::outgoing::send;
+use crate::record::{DataByte, RECORD_LEN};
+use crate::tuner::{NoteMessage, send_checked_key, send_checked_to_all};
+use arrayvec::ArrayVec;
 use channels::keys::{KEYS, Place};
 use channels::list::ChannelList;
-use channels::tuning_value::{Tuning, TuningKind, tuning_of};
-use channels::{Note, Pitch, Ratio, Refusal};
+use channels::tuning_value::TuningKind;
+use channels::{Pitch, Ratio, Refusal};
 use pools::jit::{JitTuningModel, PoolGroupBy, PoolingMode, Registered, Repitched};
 
 // A note-off, a tuning, a note-on.
@@ -103,7 +104,7 @@ impl JitTuner {
     ) -> Result<Option<usize>, Refusal>
         ensures { Steps view (note_on_rule (view self.old) key pitch.hz velocity) self.old out.old (press_answer result) self.new out.new }
     {
-        check_data(velocity)?;
+        let velocity = DataByte::try_from(velocity)?;
         let Some(press) = self.model.allocate_key(key, pitch)? else {
             return Ok(None);
         };
@@ -185,38 +186,42 @@ impl JitTuner {
     }
 
     // A press on the channel that the model has found for it: the note-off of the stopped note with the new velocity, the tuning, the note-on.
-    #[tactic(auto, using(crate::proofs::Channels::entry_low, channels::proofs::Values::sent_in_steps, crate::proofs::Sizes::stop_small, crate::proofs::Sizes::tuning_short))]
-    fn send_press(&self, press: Registered, velocity: u8, out: &mut [u8]) -> Result<usize, Refusal>
-        requires low { velocity < 128 }
-        requires measurable { positive press.detuning ≡ true }
-        ensures { Answers (sent (bytes_of (sound_messages (view self.now) velocity (told (Some press))))) out.old (outcome result) out.new }
+    fn send_press(
+        &self,
+        press: Registered,
+        velocity: DataByte,
+        out: &mut [u8],
+    ) -> Result<usize, Refusal>
+        requires { positive press.detuning ≡ true }
+        ensures { Answers (sent (bytes_of (sound_messages (view self.now) velocity.number (told (Some press))))) out.old (outcome result) out.new }
     {
-        let mut outgoing = Outgoing::<LONGEST_PRESS>::none();
-        if let Some(channel) = self.model.channels().entry(press.channel) {
-            put_stopped(&mut outgoing, channel, press.stopped_note, velocity);
-            put_tuning(&mut outgoing, channel, self.tuning(press.detuning));
-            put_note(
-                &mut outgoing,
-                channel,
-                NoteMessage::On,
-                press.started_note,
-                velocity,
-            );
+        let Some(channel) = self.model.channels().entry(press.channel) else {
+            return Ok(0);
+        };
+        let tuning = tuning_bytes(self.kind(), channel, Ratio::from_float(press.detuning))?;
+        let mut bytes = ArrayVec::<u8, LONGEST_PRESS>::new();
+        if let Some(note) = press.stopped_note {
+            if let Some(message) = NoteMessage::Off.on(channel, note, velocity) {
+                bytes.try_extend_from_slice(&message).unwrap();
+            }
         }
-        outgoing.send(out)
+        bytes.try_extend_from_slice(tuning.as_slice()).unwrap();
+        if let Some(message) = NoteMessage::On.on(channel, press.started_note, velocity) {
+            bytes.try_extend_from_slice(&message).unwrap();
+        }
+        send(bytes.as_slice(), out)
     }
 
     // The tuning of the channel of a found key.
-    #[tactic(auto, using(crate::proofs::Channels::entry_low, channels::proofs::Values::sent_in_steps))]
     fn send_tuning(&self, repitch: Repitched, out: &mut [u8]) -> Result<usize, Refusal>
         requires { positive repitch.detuning ≡ true }
         ensures { Answers (sent (bytes_of (repitch_messages (view self.now) (retuned (Some repitch))))) out.old (outcome result) out.new }
     {
-        let mut outgoing = Outgoing::<LONGEST_TUNING>::none();
-        if let Some(channel) = self.model.channels().entry(repitch.place.channel) {
-            put_tuning(&mut outgoing, channel, self.tuning(repitch.detuning));
-        }
-        outgoing.send(out)
+        let Some(channel) = self.model.channels().entry(repitch.place.channel) else {
+            return Ok(0);
+        };
+        let tuning = tuning_bytes(self.kind(), channel, Ratio::from_float(repitch.detuning))?;
+        send(tuning.as_slice(), out)
     }
 
     // The releases of all found keys. By value: behind a reference the proof does not see that the model has no more than KEYS records.
@@ -224,40 +229,17 @@ impl JitTuner {
         ensures { Answers (sent (bytes_of (release_messages (view self)))) out.old (outcome result) out.new }
     {
         let channels = self.model.channels();
-        let mut outgoing = Outgoing::<LONGEST_STOP>::none();
+        let mut bytes = ArrayVec::<u8, LONGEST_STOP>::new();
         for held in self.model.held_keys() {
-            put_key(&mut outgoing, channels, held.place, NoteMessage::Off, 0);
+            if let Some(message) = NoteMessage::Off.at(channels, held.place, DataByte::ZERO) {
+                bytes.try_extend_from_slice(&message).unwrap();
+            }
         }
-        outgoing.send(out)
-    }
-
-    // The tuning in which a detuning is sent that can be measured.
-    #[tactic(auto, using(channels::proofs::Values::sent_value, crate::proofs::Calls::is_value))]
-    fn tuning(&self, detuning: f64) -> Tuning
-        requires { positive detuning ≡ true }
-        ensures { result ≡ sent_as (kind_of self.now.kind) detuning }
-    {
-        tuning_of(self.kind(), Ratio::from_float(detuning)).unwrap()
+        send(bytes.as_slice(), out)
     }
 }
 
-// Puts the note-off of the note that a press stops, if it stops one.
-fn put_stopped<const N: usize>(
-    outgoing: &mut Outgoing<N>,
-    channel: u8,
-    stopped: Option<Note>,
-    velocity: u8,
-)
-    requires low { (channel < 16) × (velocity < 128) }
-    requires room { length outgoing.old + RECORD_LEN ≤ N }
-    ensures { outgoing.new ≡ outgoing.old ++ bytes_of (stop_messages channel (stopped_note stopped) velocity) }
-{
-    if let Some(note) = stopped {
-        put_note(outgoing, channel, NoteMessage::Off, note, velocity);
-    }
-}
-
-// By value: the tuner goes in and is handed back.
+// By value: the tuner goes in and is handed back. A rule of the project asks for press, release, lookup and stop in this form too.
 impl JitTuner {
     // A press.
     pub fn pressed(

@@ -4,5 +4,6 @@
 pub mod jit;
 pub mod midi;
 pub mod mts;
-pub(crate) mod outgoing;
+pub mod outgoing;
+pub(crate) mod record;
 pub mod tuner;

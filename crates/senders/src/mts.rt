@@ -1,35 +1,38 @@
 // The messages that tune a channel: the four controllers of a fine tuning, or a bend.
 
-ghost use Rattle.std.specs.Prelude.{◌≡◌, ◌++◌, ◌+◌, ◌≤◌, ◌<◌, length};
-ghost use Rattle.senders.specs.Lent.{Answers};
-ghost use Rattle.arithmetic.specs.Answers.{outcome};
-ghost use Rattle.senders.specs.Message.{Valid, control};
-ghost use Rattle.senders.specs.Midi.{bytes, bytes_of};
-ghost use Rattle.channels.specs.TuningValue.{InSteps};
+ghost use Rattle.std.specs.Prelude.{◌≡◌};
+ghost use Rattle.arithmetic.specs.Answers.{outcome, outcome_by};
+ghost use Rattle.channels.specs.TuningValue.{tuning_rule};
 ghost use Rattle.channels.specs.declared.tuning_value.TuningKind.{TuningKind};
-ghost use Rattle.senders.specs.Mts.{tuning_messages, tuning_size, channel_tuning_rule};
+ghost use Rattle.senders.specs.Lent.{Answers};
+ghost use Rattle.senders.specs.Message.{control};
+ghost use Rattle.senders.specs.Midi.{bytes};
+ghost use Rattle.senders.specs.Mts.{tuning_size, tuning_bytes, channel_tuning_rule};
 
-use crate::midi::{ChannelMessageType, RECORD_LEN, check_channel};
-use crate::outgoing::Outgoing;
+use crate::midi::ChannelMessageType;
+use crate::outgoing::send;
+use crate::record::{DataByte, RECORD_LEN, Record};
+use arrayvec::ArrayVec;
+use channels::channel::Channel;
 use channels::tuning_value::{Tuning, TuningKind, tuning_of};
 use channels::{Ratio, Refusal};
 
 // The controllers that choose a registered parameter and set its value.
-const RPN_MSB: u8 = 0x65;
+const RPN_MSB: DataByte = DataByte { number: 0x65 };
 
-const RPN_LSB: u8 = 0x64;
+const RPN_LSB: DataByte = DataByte { number: 0x64 };
 
-const DATA_ENTRY_MSB: u8 = 0x06;
+const DATA_ENTRY_MSB: DataByte = DataByte { number: 0x06 };
 
-const DATA_ENTRY_LSB: u8 = 0x26;
+const DATA_ENTRY_LSB: DataByte = DataByte { number: 0x26 };
 
 // The registered parameter of a channel's fine tuning.
-const CHANNEL_FINE_TUNING_MSB: u8 = 0x00;
+const CHANNEL_FINE_TUNING_MSB: DataByte = DataByte { number: 0x00 };
 
-const CHANNEL_FINE_TUNING_LSB: u8 = 0x01;
+const CHANNEL_FINE_TUNING_LSB: DataByte = DataByte { number: 0x01 };
 
 // A fine tuning is longer than a bend.
-pub(crate) const LONGEST_TUNING: usize = 4 * RECORD_LEN;
+pub const LONGEST_TUNING: usize = 4 * RECORD_LEN;
 
 // Writes the fine tuning of a channel by a detuning to the buffer's start. Refuses 6, 2, 10.
 // Example: channel_fine_tuning(0, 33/32, 12 bytes) is b0 65 00 b0 64 01 b0 06 62 b0 26 0c
@@ -56,11 +59,9 @@ pub fn channel_tuning(
 ) -> Result<usize, Refusal>
     ensures { Answers (channel_tuning_rule kind channel detuning.float_value) out.old (outcome result) out.new }
 {
-    check_channel(channel)?;
-    let tuning = tuning_of(kind, detuning)?;
-    let mut outgoing = Outgoing::<LONGEST_TUNING>::none();
-    put_tuning(&mut outgoing, channel, tuning);
-    outgoing.send(out)
+    let channel = Channel::try_from(channel)?;
+    let bytes = tuning_bytes(kind, channel, detuning)?;
+    send(bytes.as_slice(), out)
 }
 
 // How many bytes a tuning of a kind takes, on any channel and by any detuning.
@@ -74,33 +75,45 @@ pub fn channel_tuning_len(kind: TuningKind) -> usize
     }
 }
 
-// Puts the tuning of a channel.
-pub(crate) fn put_tuning<const N: usize>(outgoing: &mut Outgoing<N>, channel: u8, tuning: Tuning)
-    requires in_range { (channel < 16) × InSteps tuning }
-    requires room { length outgoing.old + LONGEST_TUNING ≤ N }
-    ensures { outgoing.new ≡ outgoing.old ++ bytes_of (tuning_messages channel tuning) }
+// The bytes of the tuning of a channel by a detuning. Refuses 2.
+pub fn tuning_bytes(
+    kind: TuningKind,
+    channel: Channel,
+    detuning: Ratio,
+) -> Result<ArrayVec<u8, LONGEST_TUNING>, Refusal>
+    ensures { outcome_by (λ b. b.items) result ≡ tuning_bytes channel.number (tuning_rule kind detuning.float_value) }
 {
-    match tuning {
+    let mut bytes = ArrayVec::new();
+    match tuning_of(kind, detuning)? {
         Tuning::Fine(value) => {
-            let value_msb = (value / 128) as u8;
-            let value_lsb = (value % 128) as u8;
-            put_control(outgoing, channel, RPN_MSB, CHANNEL_FINE_TUNING_MSB);
-            put_control(outgoing, channel, RPN_LSB, CHANNEL_FINE_TUNING_LSB);
-            put_control(outgoing, channel, DATA_ENTRY_MSB, value_msb);
-            put_control(outgoing, channel, DATA_ENTRY_LSB, value_lsb);
+            let msb = DataByte::lowest_of(value / 128);
+            let lsb = DataByte::lowest_of(value);
+            let messages = [
+                control(channel, RPN_MSB, CHANNEL_FINE_TUNING_MSB),
+                control(channel, RPN_LSB, CHANNEL_FINE_TUNING_LSB),
+                control(channel, DATA_ENTRY_MSB, msb),
+                control(channel, DATA_ENTRY_LSB, lsb),
+            ];
+            for message in messages {
+                bytes.try_extend_from_slice(&message).unwrap();
+            }
         }
         Tuning::Bend(value) => {
-            let bend = ChannelMessageType::PitchBendChange { value };
-            outgoing.put(&bend.record(channel));
+            let bend = ChannelMessageType::PitchBendChange { value }.check()?;
+            bytes.try_extend_from_slice(&bend.on(channel)).unwrap();
         }
     }
+    Ok(bytes)
 }
 
-fn put_control<const N: usize>(outgoing: &mut Outgoing<N>, channel: u8, controller: u8, value: u8)
-    requires valid { Valid (control channel controller value) }
-    requires room { length outgoing.old + RECORD_LEN ≤ N }
-    ensures { outgoing.new ≡ outgoing.old ++ bytes (control channel controller value) }
+// A control change on a channel.
+fn control(channel: Channel, controller: DataByte, value: DataByte) -> [u8; RECORD_LEN]
+    ensures { result ≡ bytes (control channel.number controller.number value.number) }
 {
-    let message = ChannelMessageType::ControlChange { controller, value };
-    outgoing.put(&message.record(channel));
+    let record = Record {
+        kind: 0xb,
+        first: controller,
+        second: value,
+    };
+    record.on(channel)
 }

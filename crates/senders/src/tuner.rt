@@ -1,17 +1,20 @@
 // What a tuner sends on its channels: a key's note messages, and a message to all. A tuner's methods are made of these.
 
-ghost use Rattle.std.specs.Prelude.{◌≡◌, ◌++◌, ◌+◌, ◌*◌, ◌≤◌, ◌<◌, [], ◌∷◌, length};
+ghost use Rattle.std.specs.Prelude.{◌≡◌};
 ghost use Rattle.arithmetic.specs.Answers.{outcome};
 ghost use Rattle.channels.specs.ChannelList.{entries};
 ghost use Rattle.channels.specs.Places.{place};
 ghost use Rattle.senders.specs.Lent.{Answers};
-ghost use Rattle.senders.specs.Message.{Valid};
-ghost use Rattle.senders.specs.Midi.{bytes_of, meant};
-ghost use Rattle.senders.specs.Tuner.{note_type, note_messages, each, on_channel, is_kept, key_rule, to_all_rule};
+ghost use Rattle.senders.specs.Midi.{bytes_of};
+ghost use Rattle.senders.specs.Records.{bytes_in, number_in};
+ghost use Rattle.senders.specs.Tuner.{number_of, note_messages, on_channel, is_kept, key_rule, to_all_rule};
 
-use crate::midi::{ChannelMessageType, RECORD_LEN, check_data};
-use crate::outgoing::Outgoing;
+use crate::midi::ChannelMessageType;
+use crate::outgoing::send;
+use crate::record::{DataByte, RECORD_LEN, Record};
 use arithmetic::note::midi_number;
+use arrayvec::ArrayVec;
+use channels::channel::Channel;
 use channels::keys::Place;
 use channels::list::ChannelList;
 use channels::tuning_value::TuningKind;
@@ -20,7 +23,7 @@ use channels::{Note, Refusal};
 // A message on each of the sixteen channels.
 const LONGEST_TO_ALL: usize = 16 * RECORD_LEN;
 
-// The three messages of a note.
+// The three messages of a note. An enum, since the rules name the kind too: functions that are passed would be no plainer.
 #[derive(Clone, Copy, PartialEq, Eq, Debug)]
 pub enum NoteMessage {
     Off,
@@ -29,24 +32,40 @@ pub enum NoteMessage {
 }
 
 impl NoteMessage {
-    // The message of a key, with its velocity or pressure.
-    fn of_key(self, key: u8, value: u8) -> ChannelMessageType
-        ensures { result ≡ note_type self key value }
+    // The message of a note on a channel, if MIDI has a number for the note. `value` is its velocity or pressure.
+    pub(crate) fn on(
+        self,
+        channel: Channel,
+        note: Note,
+        value: DataByte,
+    ) -> Option<[u8; RECORD_LEN]>
+        ensures { bytes_in result ≡ bytes_of (note_messages self channel.number note.number value.number) }
     {
-        match self {
-            NoteMessage::Off => ChannelMessageType::NoteOff {
-                key,
-                velocity: value,
-            },
-            NoteMessage::On => ChannelMessageType::NoteOn {
-                key,
-                velocity: value,
-            },
-            NoteMessage::Pressure => ChannelMessageType::PolyphonicKeyPressure {
-                key,
-                pressure: value,
-            },
-        }
+        let key = number_of(note)?;
+        let kind = match self {
+            NoteMessage::Off => 0x8,
+            NoteMessage::On => 0x9,
+            NoteMessage::Pressure => 0xa,
+        };
+        let record = Record {
+            kind,
+            first: key,
+            second: value,
+        };
+        Some(record.on(channel))
+    }
+
+    // The message of a note at its place, if there is one and the list has such a channel.
+    pub(crate) fn at(
+        self,
+        channels: ChannelList,
+        place: Place,
+        value: DataByte,
+    ) -> Option<[u8; RECORD_LEN]>
+        ensures { bytes_in result ≡ bytes_of (on_channel (entries channels) place.channel (λ ch. note_messages self ch place.note.number value.number)) }
+    {
+        let channel = channels.entry(place.channel)?;
+        self.on(channel, place.note, value)
     }
 }
 
@@ -61,17 +80,15 @@ pub fn send_checked_key(
 ) -> Result<usize, Refusal>
     ensures { Answers (key_rule kind (entries channels) value (place found)) out.old (outcome result) out.new }
 {
-    check_data(value)?;
-    let mut outgoing = Outgoing::<RECORD_LEN>::none();
-    if let Some(place) = found {
-        put_key(&mut outgoing, channels, place, kind, value);
-    }
-    outgoing.send(out)
+    let value = DataByte::try_from(value)?;
+    let Some(message) = found.and_then(|place| kind.at(channels, place, value)) else {
+        return Ok(0);
+    };
+    send(&message, out)
 }
 
 // Writes a message to every channel of a list to the buffer's start, unless the tuner keeps such messages to itself. Refuses 8 from left, 9, also where nothing
 // is sent, and 10.
-#[tactic(auto, using(crate::proofs::Messages::checked_valid, channels::proofs::ChannelLists::entries_few))]
 pub fn send_checked_to_all(
     kind: TuningKind,
     channels: ChannelList,
@@ -80,12 +97,17 @@ pub fn send_checked_to_all(
 ) -> Result<usize, Refusal>
     ensures { Answers (to_all_rule kind (entries channels) message) out.old (outcome result) out.new }
 {
-    message.check()?;
-    let mut outgoing = Outgoing::<LONGEST_TO_ALL>::none();
-    if !is_kept(kind, message) {
-        put_to_all(&mut outgoing, channels, message);
+    let record = message.check()?;
+    if is_kept(kind, message) {
+        return Ok(0);
     }
-    outgoing.send(out)
+    let mut bytes = ArrayVec::<u8, LONGEST_TO_ALL>::new();
+    for i in 0..channels.len() {
+        if let Some(channel) = channels.entry(i) {
+            bytes.try_extend_from_slice(&record.on(channel)).unwrap();
+        }
+    }
+    send(bytes.as_slice(), out)
 }
 
 // Whether a tuner keeps a message to itself: it tunes by bends, and the message is one.
@@ -95,57 +117,11 @@ fn is_kept(kind: TuningKind, message: ChannelMessageType) -> bool
     kind == TuningKind::Bend && matches!(message, ChannelMessageType::PitchBendChange { .. })
 }
 
-// Puts a message on every channel of a list, in its order.
-#[tactic(auto, using(crate::proofs::Channels::entry_low, crate::proofs::Channels::valid_on, crate::proofs::Messages::record_length))]
-fn put_to_all<const N: usize>(
-    outgoing: &mut Outgoing<N>,
-    channels: ChannelList,
-    message: ChannelMessageType,
-)
-    requires valid { Valid (meant 0 message) }
-    requires room { length outgoing.old + RECORD_LEN * length (entries channels) ≤ N }
-    ensures { outgoing.new ≡ outgoing.old ++ bytes_of (each (λ ch. meant ch message ∷ []) (entries channels)) }
+// The number that MIDI has for a note, if it has one.
+#[tactic(auto, using(crate::proofs::Notes::number_is, crate::proofs::Notes::number_low))]
+fn number_of(note: Note) -> Option<DataByte>
+    ensures { number_in result ≡ number_of note.number }
 {
-    for i in 0..channels.len() {
-        if let Some(channel) = channels.entry(i) {
-            outgoing.put(&message.record(channel));
-        }
-    }
-}
-
-// Puts a message of a note at its place, where the list has such a channel.
-#[tactic(auto, using(crate::proofs::Channels::entry_low))]
-pub(crate) fn put_key<const N: usize>(
-    outgoing: &mut Outgoing<N>,
-    channels: ChannelList,
-    place: Place,
-    kind: NoteMessage,
-    value: u8,
-)
-    requires low { value < 128 }
-    requires room { length outgoing.old + RECORD_LEN ≤ N }
-    ensures { outgoing.new ≡ outgoing.old ++ bytes_of (on_channel (entries channels) place.channel (λ ch. note_messages kind ch place.note.number value)) }
-{
-    if let Some(channel) = channels.entry(place.channel) {
-        put_note(outgoing, channel, kind, place.note, value);
-    }
-}
-
-// Puts a note's message, if it has one. `value` is its velocity or pressure.
-#[tactic(auto, using(crate::proofs::Notes::number_is, crate::proofs::Notes::note_bytes, crate::proofs::Notes::note_silent))]
-pub(crate) fn put_note<const N: usize>(
-    outgoing: &mut Outgoing<N>,
-    channel: u8,
-    kind: NoteMessage,
-    note: Note,
-    value: u8,
-)
-    requires low { (channel < 16) × (value < 128) }
-    requires room { length outgoing.old + RECORD_LEN ≤ N }
-    ensures { outgoing.new ≡ outgoing.old ++ bytes_of (note_messages kind channel note.number value) }
-{
-    let number = midi_number(note.number());
-    if let Some(key) = number {
-        outgoing.put(&kind.of_key(key, value).record(channel));
-    }
+    let number = midi_number(note.number())?;
+    Some(DataByte { number })
 }
