@@ -9,6 +9,12 @@ use lib.ListN.{length, take, drop, length-append, length-drop, drop_of_length-le
 use lib.Seq.{take_all, length-take-le, take_at, drop_at, drop-drop}
 use borrow.Author.Tests.{lt-leb, le-leb}
 use mathlib.Core.Bool.{Bool, true, false, cond}
+use Rattle.std.specs.Prelude.{Result}
+use Rattle.std.specs.Result.{IsErrAnd}
+use Rattle.arithmetic.specs.Answers.{outcome}
+use Rattle.arithmetic.specs.Refusal.{number}
+use Rattle.arithmetic.specs.declared.refusal.Refusal.{Refusal}
+use Rattle.arithmetic.proofs.Outcomes.{hands_on}
 use Rattle.channels.specs.Outcome.{Outcome, value, refused}
 use Rattle.channels.specs.Refusal.{buffer_too_short}
 use Rattle.senders.specs.Lent.{Effect, sends, sent, told, written, left, fitted, Moved, Steps, Answers, Put, settled}
@@ -92,6 +98,10 @@ module _ {R S T : Type 0} {view : T → S} {rule : Outcome (Effect R S)} {s : T}
   -- refused by a test of its rule
   pub ends_refused : {n : ℕ} → rule ≡ refused n → Steps view rule s old (refused n) s old
   ends_refused e = record { told_is = simp e; moved_is = rw e refl; left_is = simp e }
+
+  -- refused by what another call answered
+  pub ends_handed : (r : Result R Refusal) (d : Refusal) → IsErrAnd r (λ x. x ≡ d) → rule ≡ refused (number d) → Steps view rule s old (outcome r) s old
+  ends_handed r d h e = rw (hands_on r d h refl) (ends_refused e)
 
   -- refused for want of room
   pub ends_short : {f : Effect R S} → rule ≡ value f → length old < length f.bytes → Steps view rule s old (refused buffer_too_short) s old

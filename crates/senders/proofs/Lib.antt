@@ -2,6 +2,7 @@
 pub mod Lent
 pub mod Bends
 pub mod Messages
+pub mod Tunings
 pub mod Sizes
 pub mod Room
 pub mod Notes

@@ -6,8 +6,10 @@ use Prim.Native.Nat.{ℕ, ◌<◌}
 use native.Mathlib.Omega.{arith}
 use lib.Dec.{ltb}
 use lib.ListN.{length}
-use borrow.Author.Tests.{lt-ltb, ltb-true}
-use Rattle.channels.specs.Outcome.{Outcome, value, refused}
+use borrow.Author.Tests.{lt-ltb, le-ltb, ltb-true}
+use Rattle.channels.specs.Channel.{channel_rule}
+use Rattle.channels.specs.Outcome.{Outcome, value, refused, refuse◌unless◌then◌}
+use Rattle.channels.proofs.Channels.{channel_of_number, refused_over}
 use Rattle.senders.specs.Lent.{sent}
 use Rattle.channels.specs.Refusal.{channel_over15}
 use Rattle.senders.specs.Message.{Message, note_off, note_on, key_pressure, control, program, channel_pressure, bend, Valid, is_channel, is_bend}
@@ -22,21 +24,18 @@ pub test_held : {A : Type 0} (n : ℕ) (test : Bool) (o : Outcome A) {a : A} →
 test_held n true o e = (refl, e)
 test_held n false o e = let z : ◌≡◌ {A = ℕ} 0 1 = cc in absurd (omega arith)
 
-abbrev passes : Outcome (Unit {0})
-passes = value tt
-
 -- a refusal stays what it is, whatever would have been answered
 moved_one :
-    {A : Type 0} (m : ℕ) (test : Bool) {n : ℕ} (o : Outcome A) → cond test passes (refused m) ≡ refused n
+    {A B : Type 0} (m : ℕ) (test : Bool) {n : ℕ} (b : B) (o : Outcome A) → cond test (value b) (refused m) ≡ refused n
     → cond test o (refused m) ≡ refused n
-moved_one m true o e = let z : ◌≡◌ {A = ℕ} 0 1 = cc in absurd (omega arith)
-moved_one m false {n} o e = let s : m ≡ n = cc in ap refused s
+moved_one m true b o e = let z : ◌≡◌ {A = ℕ} 0 1 = cc in absurd (omega arith)
+moved_one m false {n} b o e = let s : m ≡ n = cc in ap refused s
 
 moved_two :
-    {A : Type 0} (m : ℕ) (t u : Bool) {n : ℕ} (o : Outcome A)
-    → cond t (cond u passes (refused m)) (refused m) ≡ refused n → cond t (cond u o (refused m)) (refused m) ≡ refused n
-moved_two m true u o e = moved_one m u o e
-moved_two m false u {n} o e = let s : m ≡ n = cc in ap refused s
+    {A B : Type 0} (m : ℕ) (t u : Bool) {n : ℕ} (b : B) (o : Outcome A)
+    → cond t (cond u (value b) (refused m)) (refused m) ≡ refused n → cond t (cond u o (refused m)) (refused m) ≡ refused n
+moved_two m true u b o e = moved_one m u b o e
+moved_two m false u {n} b o e = let s : m ≡ n = cc in ap refused s
 
 -- ---- the tests of a message
 
@@ -47,14 +46,6 @@ two_held a b o e =
     let p = test_held 8 (ltb a 128) (cond (ltb b 128) o (refused 8)) e in
     let q = test_held 8 (ltb b 128) o p.1 in
     (ltb-true a 128 p.0, ltb-true b 128 q.0, q.1)
-
--- a channel that passes its test is one of the 16
-pub channel_checked : (ch : ℕ) {x : Unit {0}} → value x ≡ cond (is_channel ch) passes (refused channel_over15) → ch < 16
-channel_checked ch e = ltb-true ch 16 (test_held channel_over15 (is_channel ch) passes (sym e)).0
-
--- a byte that passes its test is a data byte
-pub data_checked : (b : ℕ) {x : Unit {0}} → value x ≡ checked (ProgramChange b) passes → b < 128
-data_checked b e = ltb-true b 128 (test_held 8 (ltb b 128) passes (sym e)).0
 
 -- A message that passes its tests is valid on each of the 16 channels.
 pub checked_valid :
@@ -77,16 +68,28 @@ valid_checked ch (ProgramChange p) o h = simp (lt-ltb p 128 h.1)
 valid_checked ch (ChannelPressure p) o h = simp (lt-ltb p 128 h.1)
 valid_checked ch (PitchBendChange b) o h = simp h.1
 
+-- a message that passes its tests, and what its record says
+module _ (m : ChannelMessageType) {f : ℕ → List ℕ} (e : value f ≡ checked m (value (λ ch. bytes (meant ch m)))) where
+  pub checked_passes : {A : Type 0} (o : Outcome A) → checked m o ≡ o
+  checked_passes o = valid_checked 0 m o (checked_valid m _ (sym e) 0 (omega arith))
+
+  pub checked_bytes : (ch : ℕ) → f ch ≡ bytes (meant ch m)
+  checked_bytes ch = ap (λ (o : Outcome (ℕ → List ℕ)). on o ch) (e ∙ checked_passes (value (λ ch. bytes (meant ch m))))
+    where
+      on : Outcome (ℕ → List ℕ) → ℕ → List ℕ
+      on (value g) c = g c
+      on (refused k) c = []
+
 -- A message that fails a test is refused whatever would have been answered.
 pub checked_refused :
-    {A : Type 0} (m : ChannelMessageType) {n : ℕ} (o : Outcome A) → checked m passes ≡ refused n → checked m o ≡ refused n
-checked_refused (NoteOff k v) o e = moved_two 8 (ltb k 128) (ltb v 128) o e
-checked_refused (NoteOn k v) o e = moved_two 8 (ltb k 128) (ltb v 128) o e
-checked_refused (PolyphonicKeyPressure k v) o e = moved_two 8 (ltb k 128) (ltb v 128) o e
-checked_refused (ControlChange k v) o e = moved_two 8 (ltb k 128) (ltb v 128) o e
-checked_refused (ProgramChange p) o e = moved_one 8 (ltb p 128) o e
-checked_refused (ChannelPressure p) o e = moved_one 8 (ltb p 128) o e
-checked_refused (PitchBendChange b) o e = moved_one 9 (is_bend b) o e
+    {A B : Type 0} (m : ChannelMessageType) {n : ℕ} (b : B) (o : Outcome A) → checked m (value b) ≡ refused n → checked m o ≡ refused n
+checked_refused (NoteOff k v) b o e = moved_two 8 (ltb k 128) (ltb v 128) b o e
+checked_refused (NoteOn k v) b o e = moved_two 8 (ltb k 128) (ltb v 128) b o e
+checked_refused (PolyphonicKeyPressure k v) b o e = moved_two 8 (ltb k 128) (ltb v 128) b o e
+checked_refused (ControlChange k v) b o e = moved_two 8 (ltb k 128) (ltb v 128) b o e
+checked_refused (ProgramChange p) b o e = moved_one 8 (ltb p 128) b o e
+checked_refused (ChannelPressure p) b o e = moved_one 8 (ltb p 128) b o e
+checked_refused (PitchBendChange z) b o e = moved_one 9 (is_bend z) b o e
 
 -- ---- the rule of a message
 
@@ -103,9 +106,14 @@ valid_channel ch (PitchBendChange b) h = h.0
 pub message_accepted : (ch : ℕ) (m : ChannelMessageType) → Valid (meant ch m) → message_rule ch m ≡ sent (bytes (meant ch m))
 message_accepted ch m h = rw (lt-ltb ch 16 (valid_channel ch m h)) (valid_checked ch m (sent (bytes (meant ch m))) h)
 
--- A message that fails a test on one of the 16 channels is refused.
-pub message_refused : (ch : ℕ) (m : ChannelMessageType) {n : ℕ} → ch < 16 → refused n ≡ checked m passes → message_rule ch m ≡ refused n
-message_refused ch m h e = rw (lt-ltb ch 16 h) (checked_refused m (sent (bytes (meant ch m))) (sym e))
+-- ---- the test of a channel
+
+module _ (n : ℕ) {A : Type 0} (o : Outcome A) where
+  pub channel_passes : (ch : ℕ) → value ch ≡ channel_rule n → (refuse channel_over15 unless is_channel n then o) ≡ o
+  channel_passes ch e = rw (lt-ltb n 16 (omega (arith, (channel_of_number n ch e).1))) refl
+
+  pub channel_refuses : (k : ℕ) → refused k ≡ channel_rule n → (refuse channel_over15 unless is_channel n then o) ≡ refused k
+  channel_refuses k e = let p = refused_over n k e in rw (le-ltb n 16 (omega (arith, p.0)), p.1) refl
 
 -- ---- lengths and bytes
 

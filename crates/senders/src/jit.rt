@@ -6,11 +6,12 @@ ghost use Rattle.std.specs.Float.Ieee.Positive.{positive};
 ghost use Rattle.arithmetic.specs.Answers.{outcome, outcome_by};
 ghost use Rattle.channels.specs.ChannelList.{entries};
 ghost use Rattle.channels.specs.Places.{place};
-ghost use Rattle.channels.specs.TuningValue.{kind_of};
+ghost use Rattle.channels.specs.TuningValue.{kind_of, sent_as};
 ghost use Rattle.pools.specs.PoolAnswers.{told, retuned};
 ghost use Rattle.pools.specs.Pool.{found};
 ghost use Rattle.senders.specs.Lent.{Answers, Steps, sent};
 ghost use Rattle.senders.specs.Midi.{bytes_of};
+ghost use Rattle.senders.specs.Mts.{tuning_messages};
 ghost use Rattle.senders.specs.Tuner.{key_rule};
 ghost use Rattle.senders.specs.Answers.{press_answer};
 ghost use Rattle.senders.specs.Jit.{view, start_rule, Starts, note_on_rule, note_off_rule, note_pitch_rule, note_attr_rule, global_attr_rule, stop_rule, sound_messages, repitch_messages, release_messages};
@@ -21,6 +22,7 @@ use crate::outgoing::send;
 use crate::record::{DataByte, RECORD_LEN};
 use crate::tuner::{NoteMessage, send_checked_key, send_checked_to_all};
 use arrayvec::ArrayVec;
+use channels::channel::Channel;
 use channels::keys::{KEYS, Place};
 use channels::list::ChannelList;
 use channels::tuning_value::TuningKind;
@@ -198,7 +200,7 @@ impl JitTuner {
         let Some(channel) = self.model.channels().entry(press.channel) else {
             return Ok(0);
         };
-        let tuning = tuning_bytes(self.kind(), channel, Ratio::from_float(press.detuning))?;
+        let tuning = self.tuning(channel, press.detuning);
         let mut bytes = ArrayVec::<u8, LONGEST_PRESS>::new();
         if let Some(note) = press.stopped_note {
             if let Some(message) = NoteMessage::Off.on(channel, note, velocity) {
@@ -220,7 +222,7 @@ impl JitTuner {
         let Some(channel) = self.model.channels().entry(repitch.place.channel) else {
             return Ok(0);
         };
-        let tuning = tuning_bytes(self.kind(), channel, Ratio::from_float(repitch.detuning))?;
+        let tuning = self.tuning(channel, repitch.detuning);
         send(tuning.as_slice(), out)
     }
 
@@ -236,6 +238,15 @@ impl JitTuner {
             }
         }
         send(bytes.as_slice(), out)
+    }
+
+    // The bytes of a channel's tuning by a detuning that can be measured.
+    #[tactic(auto, using(crate::proofs::Tunings::tuning_accepted, crate::proofs::Tunings::is_value))]
+    fn tuning(&self, channel: Channel, detuning: f64) -> ArrayVec<u8, LONGEST_TUNING>
+        requires { positive detuning ≡ true }
+        ensures { result.items ≡ bytes_of (tuning_messages channel.number (sent_as (kind_of self.now.kind) detuning)) }
+    {
+        tuning_bytes(self.kind(), channel, Ratio::from_float(detuning)).unwrap()
     }
 }
 

@@ -94,9 +94,9 @@ pub fn tuning_bytes(
                 control(channel, DATA_ENTRY_MSB, msb),
                 control(channel, DATA_ENTRY_LSB, lsb),
             ];
-            for message in messages {
-                bytes.try_extend_from_slice(&message).unwrap();
-            }
+            bytes
+                .try_extend_from_slice(messages.as_flattened())
+                .unwrap();
         }
         Tuning::Bend(value) => {
             let bend = ChannelMessageType::PitchBendChange { value }.check()?;
