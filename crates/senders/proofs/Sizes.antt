@@ -23,9 +23,6 @@ use Rattle.senders.proofs.Messages.{bytes_append}
 abbrev size : List Message → ℕ
 size ms = length (bytes_of ms)
 
-pub size_append : (ms ns : List Message) → length (bytes_of (ms ++ ns)) ≡ length (bytes_of ms) + length (bytes_of ns)
-size_append ms ns = ap length (bytes_append ms ns) ∙ length-append (bytes_of ms) (bytes_of ns)
-
 -- ---- at most so many
 
 numbered_small : (kind : NoteMessage) (ch v : ℕ) (k : Option ℕ) → size (numbered (λ k. meant ch (note_type kind k v)) k) ≤ 3
@@ -57,10 +54,15 @@ sent_size Bends ch v = refl
 
 -- ---- a press takes what its parts take
 
-pub press_parts :
-    (ch : ℕ) (s : Option ℤ) (t : Tuning) (note : ℤ) (v : ℕ)
-    → length (bytes_of (press_messages ch s t note v))
-    ≡ length (bytes_of (stop_messages ch s v)) + length (bytes_of (tuning_messages ch t)) + length (bytes_of (note_messages On ch note v))
-press_parts ch s t note v =
-    size_append (stop_messages ch s v ++ tuning_messages ch t) (note_messages On ch note v)
-    ∙ ap (λ (n : ℕ). n + size (note_messages On ch note v)) (size_append (stop_messages ch s v) (tuning_messages ch t))
+module _ (ch : ℕ) (s : Option ℤ) (t : Tuning) (note : ℤ) (v : ℕ) where
+  pub press_bytes :
+      bytes_of (press_messages ch s t note v)
+      ≡ (bytes_of (stop_messages ch s v) ++ bytes_of (tuning_messages ch t)) ++ bytes_of (note_messages On ch note v)
+  press_bytes =
+      bytes_append (stop_messages ch s v ++ tuning_messages ch t) (note_messages On ch note v)
+      ∙ ap (λ (l : List ℕ). l ++ bytes_of (note_messages On ch note v)) (bytes_append (stop_messages ch s v) (tuning_messages ch t))
+
+  pub press_parts :
+      length (bytes_of (press_messages ch s t note v))
+      ≡ length (bytes_of (stop_messages ch s v)) + length (bytes_of (tuning_messages ch t)) + length (bytes_of (note_messages On ch note v))
+  press_parts = ap length press_bytes ∙ simp length-append

@@ -7,12 +7,13 @@ ghost use Rattle.arithmetic.specs.Answers.{outcome, outcome_by};
 ghost use Rattle.channels.specs.ChannelList.{entries};
 ghost use Rattle.channels.specs.Places.{place};
 ghost use Rattle.channels.specs.TuningValue.{kind_of, sent_as};
-ghost use Rattle.pools.specs.PoolAnswers.{told, retuned};
+ghost use Rattle.pools.specs.PoolAnswers.{told, retuned, stopped_note};
 ghost use Rattle.pools.specs.Pool.{found};
 ghost use Rattle.senders.specs.Lent.{Answers, Steps, sent};
 ghost use Rattle.senders.specs.Midi.{bytes_of};
 ghost use Rattle.senders.specs.Mts.{tuning_messages};
-ghost use Rattle.senders.specs.Tuner.{key_rule};
+ghost use Rattle.senders.specs.Records.{bytes_in};
+ghost use Rattle.senders.specs.Tuner.{stop_messages, key_rule};
 ghost use Rattle.senders.specs.Answers.{press_answer};
 ghost use Rattle.senders.specs.Jit.{view, start_rule, Starts, note_on_rule, note_off_rule, note_pitch_rule, note_attr_rule, global_attr_rule, stop_rule, sound_messages, repitch_messages, release_messages};
 
@@ -26,7 +27,7 @@ use channels::channel::Channel;
 use channels::keys::{KEYS, Place};
 use channels::list::ChannelList;
 use channels::tuning_value::TuningKind;
-use channels::{Pitch, Ratio, Refusal};
+use channels::{Note, Pitch, Ratio, Refusal};
 use pools::jit::{JitTuningModel, PoolGroupBy, PoolingMode, Registered, Repitched};
 
 // A note-off, a tuning, a note-on.
@@ -202,10 +203,8 @@ impl JitTuner {
         };
         let tuning = self.tuning(channel, press.detuning);
         let mut bytes = ArrayVec::<u8, LONGEST_PRESS>::new();
-        if let Some(note) = press.stopped_note {
-            if let Some(message) = NoteMessage::Off.on(channel, note, velocity) {
-                bytes.try_extend_from_slice(&message).unwrap();
-            }
+        if let Some(message) = stop_message(channel, press.stopped_note, velocity) {
+            bytes.try_extend_from_slice(&message).unwrap();
         }
         bytes.try_extend_from_slice(tuning.as_slice()).unwrap();
         if let Some(message) = NoteMessage::On.on(channel, press.started_note, velocity) {
@@ -248,6 +247,17 @@ impl JitTuner {
     {
         tuning_bytes(self.kind(), channel, Ratio::from_float(detuning)).unwrap()
     }
+}
+
+// The note-off of the note that a press stops, if it stops one.
+fn stop_message(
+    channel: Channel,
+    stopped: Option<Note>,
+    velocity: DataByte,
+) -> Option<[u8; RECORD_LEN]>
+    ensures { bytes_in result ≡ bytes_of (stop_messages channel.number (stopped_note stopped) velocity.number) }
+{
+    NoteMessage::Off.on(channel, stopped?, velocity)
 }
 
 // By value: the tuner goes in and is handed back. A rule of the project asks for press, release, lookup and stop in this form too.
