@@ -1,0 +1,12 @@
+-- `send_checked_to_all`: the messages to the entries before `i` were put. Assumes nothing.
+use Rattle.std.proofs.Common.{◌≡◌, ◌*◌, ◌≤◌, [], ◌∷◌, length, take}
+use Rattle.channels.specs.ChannelList.{entries}
+use Rattle.senders.specs.Midi.{bytes_of, meant}
+use Rattle.senders.specs.Tuner.{each}
+use Rattle.senders.proofs.tuner.send_checked_to_all.Given as goal
+
+abbrev pub invariant-loop-i : goal.invariant-loop-i
+invariant-loop-i l = record {
+  put : l.bytes.items ≡ bytes_of (each (λ ch. meant ch l.message ∷ []) (take l.i (entries l.channels)));
+  size : length l.bytes.items ≤ 3 * l.i;
+}
