@@ -4,5 +4,6 @@ pub mod Refusal
 pub mod Lists
 pub mod Keys
 pub mod Places
+pub mod Channel
 pub mod ChannelList
 pub mod TuningValue

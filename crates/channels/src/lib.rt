@@ -2,6 +2,7 @@
 // which a channel's detuning is sent.
 #![tactic(auto)]
 
+pub mod channel;
 pub mod keys;
 pub mod list;
 pub mod tuning_value;

@@ -2,17 +2,15 @@
 
 ghost use Rattle.std.specs.Prelude.{◌≡◌, ◌==◌, [], length};
 ghost use Rattle.std.proofs.Math.ListN.{get_elem?};
-ghost use Rattle.arithmetic.specs.Answers.{optional, outcome_by};
-ghost use Rattle.channels.specs.ChannelList.{entries, list_rule};
+ghost use Rattle.arithmetic.specs.Answers.{outcome_by};
+ghost use Rattle.channels.specs.ChannelList.{entries, entry_number, list_rule};
 ghost use Rattle.channels.specs.Lists.{member};
 
+use crate::channel::{CHANNELS, Channel};
 use arithmetic::refusal::Refusal;
 
-// The highest MIDI channel.
-const HIGHEST_CHANNEL: u8 = 15;
-
-// How many entries there can be: each is another of the sixteen channels.
-const MOST_ENTRIES: usize = 16;
+// How many entries there can be: each is another channel.
+const MOST_ENTRIES: usize = CHANNELS as usize;
 
 // Entries, the first `count` places. Every content is some list: a count over sixteen is read as sixteen, a channel by its remainder by 16. It lies in the
 // memory of programs in C, among numbers of two bytes, so its count has two.
@@ -40,14 +38,12 @@ impl ChannelList {
         ensures { outcome_by entries result ≡ list_rule channels.now }
     {
         let mut list = ChannelList::none();
-        for &channel in channels {
-            if HIGHEST_CHANNEL < channel {
-                return Err(Refusal::ChannelOver15);
-            }
+        for &number in channels {
+            let channel = Channel::try_from(number)?;
             if list.has(channel) {
                 return Err(Refusal::ChannelTwice);
             }
-            list.channels[list.count as usize] = channel;
+            list.channels[list.count as usize] = channel.number();
             list.count += 1;
         }
         Ok(list)
@@ -68,20 +64,21 @@ impl ChannelList {
     }
 
     // The MIDI channel of channel i.
-    pub fn entry(self, i: u8) -> Option<u8>
-        ensures { optional result ≡ get_elem? (entries self) i }
+    pub fn entry(self, i: u8) -> Option<Channel>
+        ensures { entry_number result ≡ get_elem? (entries self) i }
     {
         if i < self.len() {
-            return Some(self.channels[i as usize] % 16);
+            return Some(Channel::by_remainder(self.channels[i as usize]));
         }
         None
     }
 
-    // Whether a number is an entry.
-    fn has(self, channel: u8) -> bool
-        ensures { result ≡ member channel (entries self) }
+    // Whether a channel is an entry.
+    fn has(self, channel: Channel) -> bool
+        ensures { result ≡ member channel.number (entries self) }
     {
         let entries = &self.channels[..self.len() as usize];
-        entries.iter().any(|entry| entry % 16 == channel)
+        let number = channel.number();
+        entries.iter().any(|entry| entry % CHANNELS == number)
     }
 }

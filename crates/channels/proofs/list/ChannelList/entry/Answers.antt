@@ -7,7 +7,7 @@ pub bounds-self-i : goal.bounds-self-i
 bounds-self-i c = omega (arith, entries_few c.args.self (omega arith))
 
 pub returns-then-i-len : goal.returns-then-i-len
-returns-then-i-len c = entry_at c.args.self c.args.i (omega arith)
+returns-then-i-len c = rw c.by_remainder.ensures (entry_at c.args.self c.args.i (omega arith))
 
 pub returns : goal.returns
 returns c = entry_past c.args.self c.args.i (omega arith)

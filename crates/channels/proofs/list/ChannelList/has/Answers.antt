@@ -10,7 +10,8 @@ shared_ref_as_front-entries c = omega (arith, entries_few c.args.self (omega ari
 
 pub returns : goal.returns
 returns c =
-    any_from_yields_List (λ (n : ℕ). eqb (n % 16) c.args.channel) _ _ _ c.any.ensures.ran
+    rw (← c.number-number.ensures)
+    (any_from_yields_List (λ (n : ℕ). eqb (n % 16) c.number-number.result) _ _ _ c.any.ensures.ran
     (YieldsList-from_slice (take c.len.result c.args.self.channels) cc)
     (λ x b q k. search (rules, tests))
-    ∙ member_entries c.args.self c.len.result c.args.channel c.len.ensures
+    ∙ member_entries c.args.self c.len.result c.number-number.result c.len.ensures)

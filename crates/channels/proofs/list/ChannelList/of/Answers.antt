@@ -1,13 +1,15 @@
 -- `list::ChannelList::of` meets its contract, entry by entry. Assumes nothing.
 use Rattle.std.proofs.Common.{◌≡◌, ◌<◌, ◌∷◌, [], get_or, length, length-set, length-append, sym, ap, ◌∙◌, arith}
 use Rattle.channels.specs.ChannelList.{entries, list_rule}
+use Rattle.arithmetic.proofs.Outcomes.{hands_on_by}
+use Rattle.channels.proofs.Channels.{channel_of_number, refused_over}
 use Rattle.channels.proofs.ChannelLists.{length_entries, entries_more, channels_more, channels_room, over_at, twice_at, fine_at, ended}
 use Rattle.channels.proofs.list.ChannelList.of.Goals as goal
 use Rattle.channels.proofs.list.ChannelList.of.Goals.{Else-has}
 
-pub loop-channel-init : goal.loop-channel-init
+pub loop-number-init : goal.loop-number-init
 unfolding list_rule
-loop-channel-init c =
+loop-number-init c =
     let l = c.none-list.result in
     let places : length l.channels ≡ 16 = omega arith in
     record {
@@ -17,16 +19,22 @@ loop-channel-init c =
       rule = rw c.none-list.ensures;
     }
 
-pub returns-then-channel-gt-HIGHEST_CHANNEL : goal.returns-then-channel-gt-HIGHEST_CHANNEL
-returns-then-channel-gt-HIGHEST_CHANNEL c = over_at _ _ _ c.loop-channel.invariant.rule c.loop-channel-test.true c.if-channel-gt-HIGHEST_CHANNEL.true
+pub returns-in_err-channel : goal.returns-in_err-channel
+returns-in_err-channel c =
+    hands_on_by entries c.from_residual.result _ c.from_residual.ensures.1
+    (let e = refused_over _ _ c.in_err-channel.ensures in
+    rw e.1 (over_at _ _ _ c.loop-number.invariant.rule c.loop-number-test.true e.0))
 
 pub returns-then-has : goal.returns-then-has
-returns-then-has c = twice_at _ _ _ c.loop-channel.invariant.rule c.loop-channel-test.true c.if-channel-gt-HIGHEST_CHANNEL.false (sym c.has.ensures ∙ c.if-has.true)
+returns-then-has c =
+    let l = channel_of_number _ _ c.in_ok-channel.ensures in
+    twice_at _ _ _ c.loop-number.invariant.rule c.loop-number-test.true l.1 (rw l.0 at (sym c.if-has.ensures))
 
 -- one more entry has a place
-room : (c : Else-has) → c.loop-channel.list.count < 16
+room : (c : Else-has) → c.loop-number.list.count < 16
 room c =
-    omega (arith, channels_room _ _ c.loop-channel.invariant.fine c.if-channel-gt-HIGHEST_CHANNEL.false (sym c.has.ensures ∙ c.if-has.false))
+    let l = channel_of_number _ _ c.in_ok-channel.ensures in
+    omega (arith, channels_room _ _ c.loop-number.invariant.fine l.1 (rw l.0 at (sym c.if-has.ensures)), c.loop-number.invariant.counted)
 
 pub overflow_cast-list : goal.overflow_cast-list
 overflow_cast-list c = omega (arith, room (goal.at.overflow_cast-list c).Else-has)
@@ -37,20 +45,23 @@ bounds-list-list c = room (goal.at.bounds-list-list c).Else-has
 pub overflow_add-list : goal.overflow_add-list
 overflow_add-list c = omega (arith, room (goal.at.overflow_add-list c).Else-has)
 
-pub loop-channel-preserved : goal.loop-channel-preserved
-loop-channel-preserved c =
-    let l = c.loop-channel.list in
-    let x = get_or c.args.channels.now c.loop-channel.channel-index 0 in
-    let inv = c.loop-channel.invariant in
-    let low = c.if-channel-gt-HIGHEST_CHANNEL.false in
-    let new = sym c.has.ensures ∙ c.if-has.false in
-    let more = entries_more l x low (omega (arith, inv.places, room (goal.at.loop-channel-preserved c).Else-has)) in
+pub loop-number-preserved : goal.loop-number-preserved
+loop-number-preserved c =
+    let l = c.loop-number.list in
+    let at = goal.at.loop-number-preserved c in
+    let x = get_or c.args.channels.now c.loop-number.number-index 0 in
+    let inv = c.loop-number.invariant in
+    let is = channel_of_number _ _ c.in_ok-channel.ensures in
+    let new = rw is.0 at (sym c.if-has.ensures) in
+    let more = entries_more l x is.1 (omega (arith, inv.places, room at.Else-has)) in
+    let same = c.number.ensures ∙ is.0 in
+    rw same
     record {
       places = length-set l.channels l.count x ∙ inv.places;
       counted = omega (arith, inv.counted, ap length more, length-append (entries l) (x ∷ []));
-      fine = rw more (channels_more [] (entries l) x inv.fine low new);
-      rule = rw more (fine_at (entries l) c.args.channels.now c.loop-channel.channel-index inv.rule c.loop-channel-test.true low new);
+      fine = rw more (channels_more [] (entries l) x inv.fine is.1 new);
+      rule = rw more (fine_at (entries l) c.args.channels.now c.loop-number.number-index inv.rule c.loop-number-test.true is.1 new);
     }
 
 pub returns : goal.returns
-returns c = ended _ _ _ c.loop-channel.invariant.rule c.loop-channel-test.false
+returns c = ended _ _ _ c.loop-number.invariant.rule c.loop-number-test.false

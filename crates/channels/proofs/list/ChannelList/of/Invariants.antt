@@ -5,10 +5,10 @@ use Rattle.channels.specs.ChannelList.{entries, list_from, list_rule}
 use Rattle.channels.proofs.ChannelLists.{Channels}
 use Rattle.channels.proofs.list.ChannelList.of.Given as goal
 
-abbrev pub invariant-loop-channel : goal.invariant-loop-channel
-invariant-loop-channel l = record {
+abbrev pub invariant-loop-number : goal.invariant-loop-number
+invariant-loop-number l = record {
   places : length l.list.channels ≡ 16;
   counted : l.list.count ≡ length (entries l.list);
   fine : Channels [] (entries l.list);
-  rule : list_rule l.channels ≡ list_from (entries l.list) (drop l.channel-index l.channels);
+  rule : list_rule l.channels ≡ list_from (entries l.list) (drop l.number-index l.channels);
 }
