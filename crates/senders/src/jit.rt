@@ -225,9 +225,9 @@ impl JitTuner {
         send(tuning.as_slice(), out)
     }
 
-    // The releases of all found keys. By value: behind a reference the proof does not see that the model has no more than KEYS records.
-    fn send_releases(self, out: &mut [u8]) -> Result<usize, Refusal>
-        ensures { Answers (sent (bytes_of (release_messages (view self)))) out.old (outcome result) out.new }
+    // The releases of all found keys.
+    fn send_releases(&self, out: &mut [u8]) -> Result<usize, Refusal>
+        ensures { Answers (sent (bytes_of (release_messages (view self.now)))) out.old (outcome result) out.new }
     {
         let channels = self.model.channels();
         let mut bytes = ArrayVec::<u8, LONGEST_STOP>::new();

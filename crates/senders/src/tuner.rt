@@ -89,6 +89,7 @@ pub fn send_checked_key(
 
 // Writes a message to every channel of a list to the buffer's start, unless the tuner keeps such messages to itself. Refuses 8 from left, 9, also where nothing
 // is sent, and 10.
+#[tactic(auto, using(channels::proofs::ChannelLists::entries_few))]
 pub fn send_checked_to_all(
     kind: TuningKind,
     channels: ChannelList,

@@ -7,6 +7,6 @@ use Rattle.senders.proofs.tuner.send_checked_to_all.Given as goal
 
 abbrev pub invariant-loop-i : goal.invariant-loop-i
 invariant-loop-i l = record {
-  put : l.bytes.items ≡ bytes_of (each (λ ch. meant ch l.message ∷ []) (take l.i (entries l.channels)));
+  put : l.bytes.items ≡ bytes_of (each (λ ch. meant ch l.fn.message ∷ []) (take l.i (entries l.channels)));
   size : length l.bytes.items ≤ 3 * l.i;
 }
