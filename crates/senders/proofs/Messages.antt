@@ -11,9 +11,10 @@ use Rattle.channels.specs.Channel.{channel_rule}
 use Rattle.channels.specs.Outcome.{Outcome, value, refused, refuse◌unless◌then◌}
 use Rattle.channels.proofs.Channels.{channel_of_number, refused_over}
 use Rattle.senders.specs.Lent.{sent}
-use Rattle.channels.specs.Refusal.{channel_over15}
+use Rattle.arithmetic.proofs.Outcomes.{passed}
+use Rattle.channels.specs.Refusal.{channel_over15, data_byte_over127}
 use Rattle.senders.specs.Message.{Message, note_off, note_on, key_pressure, control, program, channel_pressure, bend, Valid, is_channel, is_bend}
-use Rattle.senders.specs.Midi.{bytes, bytes_of, meant, checked, message_rule}
+use Rattle.senders.specs.Midi.{bytes, bytes_of, meant, data_rule, checked, message_rule}
 use Rattle.senders.specs.declared.midi.ChannelMessageType.{ChannelMessageType}
 use Rattle.senders.specs.declared.midi.ChannelMessageType.TheVariants.{NoteOff, NoteOn, PolyphonicKeyPressure, ControlChange, ProgramChange, ChannelPressure, PitchBendChange}
 
@@ -46,6 +47,10 @@ two_held a b o e =
     let p = test_held 8 (ltb a 128) (cond (ltb b 128) o (refused 8)) e in
     let q = test_held 8 (ltb b 128) o p.1 in
     (ltb-true a 128 p.0, ltb-true b 128 q.0, q.1)
+
+-- the data byte of a number is the number
+pub data_passes : (n : ℕ) {b : ℕ} → value b ≡ data_rule n → (b ≡ n) × (n < 128)
+data_passes n e = let p = passed data_byte_over127 (ltb n 128) n e in (p.1, ltb-true n 128 p.0)
 
 -- A message that passes its tests is valid on each of the 16 channels.
 pub checked_valid :
