@@ -1,5 +1,5 @@
 -- `channel_tuning` meets its contract: what is left are the tests of the channel and of the detuning. Assumes nothing.
-use Rattle.std.proofs.Common.{sym, ◌∙◌}
+use Rattle.std.proofs.Common.{◌∙◌}
 use Rattle.channels.proofs.Channels.{channel_of_number}
 use Rattle.channels.specs.TuningValue.{tuning_rule}
 use Rattle.senders.specs.Mts.{tuning_sent}

@@ -1,15 +1,13 @@
 -- `tuning_bytes` meets its contract: the steps of a tuning are in their range, so that a bend is not refused and the high bits of a fine value are seven.
 -- Assumes nothing.
-use Rattle.std.proofs.Common.{◌≡◌, ℕ, List, ◌/◌, ◌%◌, ◌<◌, sym, ap, ◌∙◌, subst, arith, refl, rules, to_z, of_z, w16}
+use Rattle.std.proofs.Common.{◌≡◌, ℕ, ◌/◌, ◌%◌, ◌<◌, sym, subst, arith, refl, rules, to_z, of_z, w16}
 use Rattle.std.proofs.lemmas.Grind.{common_steps}
-use Rattle.std.specs.Prelude.{ℤ, Float, true}
-use Rattle.channels.specs.Outcome.{Outcome, value, refused}
+use Rattle.std.specs.Prelude.{Float}
+use Rattle.channels.specs.Outcome.{value}
 use Rattle.channels.specs.TuningValue.{InSteps, tuning_rule}
 use Rattle.channels.specs.declared.tuning_value.TuningKind.{TuningKind}
 use Rattle.channels.specs.declared.tuning_value.Tuning.{Tuning}
-use Rattle.channels.specs.declared.tuning_value.Tuning.TheVariants.{Fine, Bend}
 use Rattle.channels.proofs.Values.{value_in_steps}
-use Rattle.senders.specs.Message.{is_bend}
 use Rattle.senders.specs.Mts.{tuning_bytes}
 use Rattle.senders.specs.declared.midi.ChannelMessageType.TheVariants.{PitchBendChange}
 use Rattle.senders.proofs.Messages.{checked_bytes}

@@ -1,5 +1,5 @@
 -- `ChannelMessageType::to_raw_message` meets its contract: what is left are the tests of the channel and of the message. Assumes nothing.
-use Rattle.std.proofs.Common.{sym, ap, ◌∙◌}
+use Rattle.std.proofs.Common.{sym, ◌∙◌}
 use Rattle.channels.proofs.Channels.{channel_of_number}
 use Rattle.senders.specs.Lent.{sent}
 use Rattle.senders.specs.Midi.{bytes, meant, checked}
