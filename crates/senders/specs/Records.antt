@@ -4,11 +4,23 @@ use Rattle.std.specs.Prelude.{Option as Optional}
 use Rattle.std.proofs.Math.Option.{Option, some, none}
 use Rattle.senders.specs.Midi.{status}
 use Rattle.senders.specs.declared.record.Record.{Record}
-use Rattle.senders.specs.declared.record.DataByte.{DataByte}
+use Rattle.senders.specs.declared.data_byte.DataByte.{DataByte}
+use Rattle.senders.specs.declared.record.Kind.{Kind}
+use Rattle.senders.specs.declared.record.Kind.TheVariants.{NoteOff, NoteOn, PolyphonicKeyPressure, ControlChange, ProgramChange, ChannelPressure, PitchBendChange}
+
+-- the high four bits of a status byte
+abbrev pub kind_number : Kind → ℕ
+kind_number NoteOff = 0x8
+kind_number NoteOn = 0x9
+kind_number PolyphonicKeyPressure = 0xa
+kind_number ControlChange = 0xb
+kind_number ProgramChange = 0xc
+kind_number ChannelPressure = 0xd
+kind_number PitchBendChange = 0xe
 
 -- the bytes of a record on a channel
 abbrev pub bytes_on : Record → ℕ → List ℕ
-bytes_on r ch = status r.kind ch ∷ r.first.number ∷ r.second.number ∷ []
+bytes_on r ch = status (kind_number r.kind) ch ∷ r.first.number ∷ r.second.number ∷ []
 
 -- the number of a data byte, if there is one
 abbrev pub number_in : Optional DataByte → Option ℕ

@@ -17,10 +17,11 @@ ghost use Rattle.senders.specs.Tuner.{stop_messages, key_rule};
 ghost use Rattle.senders.specs.Answers.{press_answer};
 ghost use Rattle.senders.specs.Jit.{view, start_rule, Starts, note_on_rule, note_off_rule, note_pitch_rule, note_attr_rule, global_attr_rule, stop_rule, sound_messages, repitch_messages, release_messages};
 
+use crate::data_byte::DataByte;
 use crate::midi::ChannelMessageType;
 use crate::mts::{LONGEST_TUNING, tuning_bytes};
 use crate::outgoing::send;
-use crate::record::{DataByte, RECORD_LEN};
+use crate::record::RECORD_LEN;
 use crate::tuner::{NoteMessage, send_checked_key, send_checked_to_all};
 use arrayvec::ArrayVec;
 use channels::channel::Channel;

@@ -7,8 +7,9 @@ ghost use Rattle.senders.specs.Lent.{Answers};
 ghost use Rattle.senders.specs.Midi.{bend_low, bend_high, bytes, meant, checked, message_rule};
 ghost use Rattle.senders.specs.Records.{bytes_on};
 
+use crate::data_byte::DataByte;
 use crate::outgoing::send;
-use crate::record::{DataByte, Record};
+use crate::record::{Kind, Record};
 use channels::Refusal;
 use channels::channel::Channel;
 
@@ -49,15 +50,31 @@ impl ChannelMessageType {
         ensures { outcome_by bytes_on result ≡ checked self (value (λ ch. bytes (meant ch self))) }
     {
         let (kind, first, second) = match self {
-            ChannelMessageType::NoteOff { key, velocity } => (0x8, key, velocity),
-            ChannelMessageType::NoteOn { key, velocity } => (0x9, key, velocity),
-            ChannelMessageType::PolyphonicKeyPressure { key, pressure } => (0xa, key, pressure),
-            ChannelMessageType::ControlChange { controller, value } => (0xb, controller, value),
-            ChannelMessageType::ProgramChange { program } => (0xc, program, PADDING),
-            ChannelMessageType::ChannelPressure { pressure } => (0xd, pressure, PADDING),
+            ChannelMessageType::NoteOff { key, velocity } => (Kind::NoteOff, key, velocity),
+            ChannelMessageType::NoteOn { key, velocity } => (Kind::NoteOn, key, velocity),
+            ChannelMessageType::PolyphonicKeyPressure { key, pressure } => (
+                Kind::PolyphonicKeyPressure,
+                key,
+                pressure,
+            ),
+            ChannelMessageType::ControlChange { controller, value } => (
+                Kind::ControlChange,
+                controller,
+                value,
+            ),
+            ChannelMessageType::ProgramChange { program } => (
+                Kind::ProgramChange,
+                program,
+                PADDING,
+            ),
+            ChannelMessageType::ChannelPressure { pressure } => (
+                Kind::ChannelPressure,
+                pressure,
+                PADDING,
+            ),
             ChannelMessageType::PitchBendChange { value } => {
                 let (low, high) = bend_bytes(value)?;
-                (0xe, low, high)
+                (Kind::PitchBendChange, low, high)
             }
         };
         Ok(Record {

@@ -9,9 +9,10 @@ ghost use Rattle.senders.specs.Message.{control};
 ghost use Rattle.senders.specs.Midi.{bytes};
 ghost use Rattle.senders.specs.Mts.{tuning_size, tuning_bytes, channel_tuning_rule};
 
+use crate::data_byte::DataByte;
 use crate::midi::ChannelMessageType;
 use crate::outgoing::send;
-use crate::record::{DataByte, RECORD_LEN, Record};
+use crate::record::{Kind, RECORD_LEN, Record};
 use arrayvec::ArrayVec;
 use channels::channel::Channel;
 use channels::tuning_value::{Tuning, TuningKind, tuning_of};
@@ -111,7 +112,7 @@ fn control(channel: Channel, controller: DataByte, value: DataByte) -> [u8; RECO
     ensures { result ≡ bytes (control channel.number controller.number value.number) }
 {
     let record = Record {
-        kind: 0xb,
+        kind: Kind::ControlChange,
         first: controller,
         second: value,
     };

@@ -9,9 +9,10 @@ ghost use Rattle.senders.specs.Midi.{bytes_of};
 ghost use Rattle.senders.specs.Records.{bytes_in, number_in};
 ghost use Rattle.senders.specs.Tuner.{number_of, note_messages, on_channel, is_kept, key_rule, to_all_rule};
 
+use crate::data_byte::DataByte;
 use crate::midi::ChannelMessageType;
 use crate::outgoing::send;
-use crate::record::{DataByte, RECORD_LEN, Record};
+use crate::record::{Kind, RECORD_LEN, Record};
 use arithmetic::note::midi_number;
 use arrayvec::ArrayVec;
 use channels::channel::Channel;
@@ -43,9 +44,9 @@ impl NoteMessage {
     {
         let key = number_of(note)?;
         let kind = match self {
-            NoteMessage::Off => 0x8,
-            NoteMessage::On => 0x9,
-            NoteMessage::Pressure => 0xa,
+            NoteMessage::Off => Kind::NoteOff,
+            NoteMessage::On => Kind::NoteOn,
+            NoteMessage::Pressure => Kind::PolyphonicKeyPressure,
         };
         let record = Record {
             kind,

@@ -21,15 +21,15 @@ returns c =
     let tuning = sent_as (view a.self.now).kind a.press.detuning in
     let note = a.press.started_note.number in
     let first : c.match-stop_message.bytes.items ≡ bytes_of (stop_messages ch stopped v) =
-        elim c.match-stop_message.branch [
-          | in-Some-stop_message w ↦ grind (arith, common_steps)
-          | in_default-stop_message w ↦ grind (arith, common_steps)
-        ] in
+    elim c.match-stop_message.branch [
+      | in-Some-stop_message w ↦ grind (arith, common_steps)
+      | in_default-stop_message w ↦ grind (arith, common_steps)
+    ] in
     let last : c.match-on.bytes.items ≡ c.try_extend_from_slice-2.new.self.items ++ bytes_of (note_messages On ch note v) =
-        elim c.match-on.branch [
-          | in-Some-on w ↦ grind (arith, common_steps)
-          | in_default-on w ↦ grind (arith, common_steps)
-        ] in
+    elim c.match-on.branch [
+      | in-Some-on w ↦ grind (arith, common_steps)
+      | in_default-on w ↦ grind (arith, common_steps)
+    ] in
     let middle : c.try_extend_from_slice-2.new.self.items ≡ c.match-stop_message.bytes.items ++ bytes_of (tuning_messages ch tuning) = grind (arith, common_steps) in
     let known = rw c.channels.ensures at (sym c.in-Some.ensures) in
     rw (known, press_bytes ch stopped tuning note v, ← first, ← middle, ← last, ← c.as_slice-2.ensures.value) c.send.ensures
