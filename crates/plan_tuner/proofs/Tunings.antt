@@ -1,13 +1,14 @@
 -- The tunings of a plan, channel after channel: their bytes as a loop writes them. Assumes nothing.
 use mathlib.Core.Path.{◌≡◌, refl, sym, ap, ◌∙◌, subst}
-use mathlib.Core.Bool.{true}
+use mathlib.Core.Bool.{Bool, true, false}
 use mathlib.Core.Option.{Option, some, none}
 use mathlib.Core.List.{List, [], ◌∷◌, ◌++◌, append-nil}
-use Prim.Native.Nat.{ℕ, zero, suc, ◌+◌, ◌≤◌, ◌<◌}
+use Prim.Native.Nat.{ℕ, zero, suc, min, ◌+◌, ◌*◌, ◌≤◌}
 use native.Mathlib.Nat.{add-zero, zero-add}
 use native.Mathlib.Numerals.{add-one}
 use native.Mathlib.Omega.{arith}
-use borrow.Author.Tests.{lt-ltb}
+use borrow.Author.Tests.{leb-true, leb-false}
+use lib.Dec.{leb}
 use lib.IntN.{pos}
 use lib.Ieee.{Float}
 use lib.Ieee.Positive.{positive}
@@ -29,8 +30,8 @@ use Rattle.senders.specs.Lent.{Answers, Put, sent}
 use Rattle.senders.specs.Midi.{bytes_of}
 use Rattle.senders.specs.Mts.{tuning_messages, channel_tuning_rule}
 use Rattle.senders.specs.Tuner.{each, on_entry}
-use Rattle.plan_tuner.specs.Aot.{channel_messages, Sendable}
-use Rattle.channels.proofs.ChannelLists.{entries_few}
+use Rattle.plan_tuner.specs.Aot.{channel_messages}
+use Rattle.channels.proofs.ChannelLists.{entries_few, entry_past}
 use Rattle.channels.proofs.Values.{sent_value}
 use Rattle.senders.proofs.Each.{each_append}
 use Rattle.senders.proofs.Lent.{ends_counted}
@@ -72,6 +73,11 @@ module _ (kind : TuningKind) (channels : List ℕ) (i : ℕ) where
       {ch : ℕ} (d : Float) → get_elem? channels i ≡ some ch → channel_messages kind channels i (some d) ≡ tuning_messages ch (sent_as kind d)
   channel_sent d e = rw e
 
+  -- one that is not on the list
+  pub channel_past : (o : Option Float) → none ≡ get_elem? channels i → channel_messages kind channels i o ≡ []
+  channel_past none e = refl
+  channel_past (some d) e = rw (← e) refl
+
   pub channel_small : (o : Option Float) → length (bytes_of (channel_messages kind channels i o)) ≤ 12
   channel_small none = omega arith
   channel_small (some d) = go (get_elem? channels i)
@@ -80,38 +86,15 @@ module _ (kind : TuningKind) (channels : List ℕ) (i : ℕ) where
       go (some ch) = tuning_short ch (sent_as kind d)
       go none = omega arith
 
--- the tuning of channel i of a plan
-abbrev pub tunings : TuningKind → Model → ℕ → List Message
-tunings kind m i = channel_messages kind m.channels i (m.detunings i (pos 0))
+-- ---- sixteen channels at most
 
--- ---- a plan that can be sent
-
--- has sixteen channels at most
-pub sendable_few : (l : ChannelList) (m : Model) → length l.channels ≡ 16 → entries l ≡ m.channels → Sendable m → m.num_channels ≤ 16
-sendable_few l m long e s = omega (arith, entries_few l long, ap length e, s.1)
-
--- and each of its detunings can be measured
-pub sendable_detuning :
-    (m : Model) (i : ℕ) (r : Optional Float) → optional r ≡ m.detunings i (pos 0) → Sendable m → IfSome r (λ d. positive d ≡ true)
-sendable_detuning m i (Some d) e s = s.0 i (pos 0) d (sym e)
-sendable_detuning m i None e s = search rules
-
--- ---- bytes in a buffer
-
--- bytes put behind others
-pub put_front : {at r : ℕ} {bs old new : List ℕ} → Put at bs r old new → at ≤ length old → take r new ≡ take at old ++ bs
-put_front {at} {r} {bs} {old} {new} p h =
-    let long = length-append (take at old) bs ∙ ap (λ (n : ℕ). n + length bs) (length-take-le at old h) in
-    rw (p.next_is, p.new_is) (take_at (take at old ++ bs) (drop (at + length bs) old) (at + length bs) long)
-
--- bytes copied to a buffer's start
-pub ends_copied : {bs old : List ℕ} {r : ℕ} → length bs ≡ r → r ≤ length old → Answers (sent bs) old (value r) (bs ++ drop r old)
-ends_copied {bs} {old} {r} e h =
-    subst (λ (n : ℕ). Answers (sent bs) old (value n) (bs ++ drop n old)) e
-    (ends_counted {view = λ (u : Unit {0}). u} {s = tt} {back = tt} refl (record { next_is = sym (zero-add (length bs)); new_is = rw zero-add refl }) (omega arith) refl)
-
--- the tuning of one of MIDI's channels by a detuning that can be measured is not refused
-pub tuning_accepted :
-    (kind : TuningKind) (ch : ℕ) (d : Float) → ch < 16 → positive d ≡ true
-    → channel_tuning_rule kind ch d ≡ sent (bytes_of (tuning_messages ch (sent_as kind d)))
-tuning_accepted kind ch d h p = rw (lt-ltb ch 16 h, sent_value kind d p) refl
+module _ (kind : TuningKind) (l : ChannelList) (long : length l.channels ≡ 16) (i : ℕ) (o : Option Float) where
+  -- so the tuning of the next channel has room
+  pub channel_room : length (bytes_of (channel_messages kind (entries l) i o)) + 12 * min i 16 ≤ 12 * min (i + 1) 16
+  channel_room = go (leb 16 i) refl
+    where
+      go : (b : Bool) → leb 16 i ≡ b → length (bytes_of (channel_messages kind (entries l) i o)) + 12 * min i 16 ≤ 12 * min (i + 1) 16
+      go true e =
+          let past = entry_past l i (omega (arith, leb-true 16 i e, entries_few l long)) in
+          rw (channel_past kind (entries l) i o past) (omega (arith, leb-true 16 i e))
+      go false e = omega (arith, leb-false 16 i e, channel_small kind (entries l) i o)

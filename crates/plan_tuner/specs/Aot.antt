@@ -1,6 +1,8 @@
 -- The plan tuner: the rule of each call, over what the tuner holds. `fitted` adds 10 to each.
 -- Assumes nothing.
-use Rattle.std.specs.Prelude.{◌≡◌, true, false, List, [], ℕ, ◌≤◌, ℤ, pos, Float, length, Result}
+use Rattle.std.specs.Prelude.{◌≡◌, true, false, List, [], ℕ, ◌≤◌, ℤ, pos, Float, length, Result, Some, None}
+use Rattle.std.specs.Prelude.{Option as Optional}
+use Rattle.arrayvec.specs.ArrayVec.{ArrayVec}
 use Rattle.std.proofs.Math.Option.{Option, some, none}
 use Rattle.channels.specs.Outcome.{Outcome, value, refused}
 use Rattle.channels.specs.Refusal.{buffer_too_short}
@@ -8,7 +10,7 @@ use Rattle.channels.specs.Lists.{upward}
 use Rattle.plans.specs.Line.{Line}
 use Rattle.channels.specs.Places.{Place}
 use Rattle.plans.specs.Placing.{Placing, InOrder, Fits, Demand3}
-use Rattle.plans.specs.Plan.{Model, Measurable, plan_of, open_rule, planned, set_tuning, set_tuning_of_pitches}
+use Rattle.plans.specs.Plan.{Model, plan_of, open_rule, planned, set_tuning, set_tuning_of_pitches}
 use Rattle.plans.specs.Plan as M
 use Rattle.channels.specs.TuningValue.{sent_as, kind_of}
 use Rattle.channels.specs.declared.tuning_value.TuningKind.{TuningKind}
@@ -69,9 +71,18 @@ abbrev pub channel_messages : TuningKind → List ℕ → ℕ → Option Float �
 channel_messages kind channels i (some d) = on_channel channels i (λ ch. tuning_messages ch (sent_as kind d))
 channel_messages kind channels i none = []
 
--- the tuning of each channel used, in order; in channel groups all notes are of group 0
+-- the tuning of channel i of a plan; in channel groups all notes are of group 0
+abbrev pub tunings : TuningKind → Model → ℕ → List Message
+tunings kind m i = channel_messages kind m.channels i (m.detunings i (pos 0))
+
+-- the tuning of each channel used, in order
 abbrev pub plan_messages : TuningKind → Model → List Message
-plan_messages kind m = each (λ i. channel_messages kind m.channels i (m.detunings i (pos 0))) (upward 0 m.num_channels)
+plan_messages kind m = each (tunings kind m) (upward 0 m.num_channels)
+
+-- the bytes of a tuning, if there is one
+abbrev pub bytes_in : Optional (ArrayVec ℕ) → List ℕ
+bytes_in (Some bs) = bs.items
+bytes_in None = []
 
 -- the tunings of a plan are sent; nothing is when there are too few channels
 abbrev pub plan_effect : Tuner → Model × M.Answer → Outcome (Effect Planned Tuner)
@@ -129,9 +140,3 @@ global_attr_rule t m = to_all_rule t.kind t.plan.channels m
 
 abbrev pub stop_rule : Tuner → Answer
 stop_rule t = sent []
-
--- ---- what the private functions need of a plan
-
--- the detuning of each channel can be measured, and the channels are all on the list
-abbrev pub Sendable : Model → Type 0
-Sendable m = Measurable m × (m.num_channels ≤ length m.channels)

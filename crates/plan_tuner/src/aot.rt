@@ -1,17 +1,17 @@
 // The plan tuner: a plan model whose tunings are sent when it is tuned, so that its keys then send notes alone. A tuning is planned in a copy, its bytes are put
 // together and written where there is room for them, and only then does the tuner change.
 
-ghost use Rattle.std.specs.Prelude.{◌≡◌, ◌<◌, true, IfSome};
+ghost use Rattle.std.specs.Prelude.{◌≡◌, true, IfSome};
 ghost use Rattle.std.specs.Float.Ieee.Positive.{positive};
 ghost use Rattle.arithmetic.specs.Answers.{optional, outcome, outcome_by};
 ghost use Rattle.channels.specs.ChannelList.{entries};
 ghost use Rattle.channels.specs.TuningValue.{kind_of};
-ghost use Rattle.plans.specs.Plan.{access_answer, plan_of};
+ghost use Rattle.plans.specs.Plan.{access_answer, plan_of, Measurable};
 ghost use Rattle.senders.specs.Lent.{Answers, Steps, sent};
 ghost use Rattle.senders.specs.Midi.{bytes_of};
 ghost use Rattle.senders.specs.Tuner.{key_rule};
 ghost use Rattle.plan_tuner.specs.Aot.{view, start_rule, Starts, tuning_rule, plan_sent, Smallest};
-ghost use Rattle.plan_tuner.specs.Aot.{Sendable, channel_messages, plan_messages, found};
+ghost use Rattle.plan_tuner.specs.Aot.{bytes_in, channel_messages, plan_messages, found};
 ghost use Rattle.plan_tuner.specs.Aot.{note_on_rule, note_off_rule, note_attr_rule, global_attr_rule, stop_rule};
 
 use arrayvec::ArrayVec;
@@ -35,7 +35,7 @@ pub struct AotTuner {
     kind: u64,
 }
 
-// What a tuning that is not refused comes to.
+// What a tuning that is not refused comes to. No Result: a plan that needs more channels than there are is no error but an answer.
 #[derive(Clone, Copy, Debug, PartialEq, Eq)]
 pub enum PlanSent {
     // How many channels the plan uses, and how many bytes were written at the buffer's start.
@@ -187,18 +187,35 @@ const LONGEST_PLAN: usize = 16 * LONGEST_TUNING;
 
 // Writes the tunings of a plan's channels, in order, to the buffer's start. Refuses 10.
 fn send_tunings(model: &AotTuningModel, kind: TuningKind, out: &mut [u8]) -> Result<usize, Refusal>
-    requires { Sendable (plan_of model.now) }
+    requires { Measurable (plan_of model.now) }
     ensures { Answers (sent (bytes_of (plan_messages kind (plan_of model.now)))) out.old (outcome result) out.new }
 {
     let channels = model.channels();
     let mut bytes = ArrayVec::<u8, LONGEST_PLAN>::new();
     for i in 0..model.num_channels() {
-        if let Some(channel) = channels.entry(i as u8) {
-            if let Some(detuning) = model.detuning(i, 0) {
-                let tuning = tuning_bytes(kind, channel, Ratio::from_float(detuning))?;
-                bytes.try_extend_from_slice(tuning.as_slice()).unwrap();
-            }
+        let detuning = model.detuning(i, 0);
+        if let Some(tuning) = tuning(kind, channels, i, detuning) {
+            bytes.try_extend_from_slice(tuning.as_slice()).unwrap();
         }
     }
     send(bytes.as_slice(), out)
+}
+
+// The bytes of the tuning of channel i of a list, if there is such a channel and it has a detuning.
+fn tuning(
+    kind: TuningKind,
+    channels: ChannelList,
+    i: u16,
+    detuning: Option<f64>,
+) -> Option<ArrayVec<u8, LONGEST_TUNING>>
+    requires { IfSome detuning (λ d. positive d ≡ true) }
+    ensures { bytes_in result ≡ bytes_of (channel_messages kind (entries channels) i (optional detuning)) }
+{
+    let detuning = detuning?;
+    let Ok(i) = u8::try_from(i) else {
+        return None;
+    };
+    let channel = channels.entry(i)?;
+    let bytes = tuning_bytes(kind, channel, Ratio::from_float(detuning));
+    Some(bytes.unwrap())
 }
