@@ -1,9 +1,9 @@
 -- What a plan tuner's calls come to: a tuning by the model's answer, with demand 3, and where a key is. Assumes nothing.
-use mathlib.Core.Path.{◌≡◌, refl, sym, ap, subst}
+use mathlib.Core.Path.{◌≡◌, refl, ap}
 use mathlib.Core.Bool.{Bool, true, false, cond}
 use mathlib.Core.Option.{Option}
 use mathlib.Core.List.{List}
-use Prim.Native.Nat.{ℕ, ◌≤◌}
+use Prim.Native.Nat.{ℕ}
 use native.Mathlib.Omega.{arith}
 use borrow.Author.Tests.{leb-true, leb-false}
 use lib.Dec.{leb}
@@ -19,7 +19,6 @@ use Rattle.plans.specs.Line.{Line}
 use Rattle.plans.specs.Placing.{Demand3}
 use Rattle.plans.specs.Plan as M
 use Rattle.plans.specs.Plan.{Model, planned, access_answer}
-use Rattle.plans.specs.Walk.{count}
 use Rattle.plans.specs.declared.aot.GroupBy.{GroupBy}
 use Rattle.senders.specs.Lent.{Answers, sent, told}
 use Rattle.plan_tuner.specs.Aot.{Tuner}
@@ -30,24 +29,6 @@ pub key_found : (r : Optional Place) {o : Option (ℕ × ℤ)} → access_answer
 unfolding place
 key_found (Some p) e = ap placed e
 key_found None e = ap placed e
-
--- a plan uses no more channels than there are
-planned_few : (m : Model) (lines : List Line) → let next = (planned m (value lines)).0 in next.num_channels ≤ length next.channels
-unfolding planned
-planned_few m lines = go (leb (count m.group_by lines) (length m.channels)) refl
-  where
-    go : (b : Bool) → leb (count m.group_by lines) (length m.channels) ≡ b
-        → let next = (cond {A = Model × M.Answer} b (M.holding m lines, M.tuned (count m.group_by lines))
-        (M.empty m.channels m.group_by, M.untuned (count m.group_by lines))).0 in
-        next.num_channels ≤ length next.channels
-    go true e = leb-true (count m.group_by lines) (length m.channels) e
-    go false e = omega arith
-
-pub tuned_few : (m next : Model) (o : Outcome (List Line)) (n : ℕ) → (next, M.tuned n) ≡ planned m o → next.num_channels ≤ length next.channels
-tuned_few m next (value lines) n e =
-    subst (λ (x : Model × M.Answer). x.0.num_channels ≤ length x.0.channels) (sym e) (planned_few m lines)
-tuned_few m next (refused j) n e =
-    unfold planned in (let q = ap (λ (x : Model × M.Answer). x.1) e in let z : ◌≡◌ {A = ℕ} 0 1 = cc in absurd (omega arith))
 
 -- ---- demand 3
 

@@ -1,5 +1,5 @@
 -- The tunings of a plan, channel after channel: their bytes as a loop writes them. Assumes nothing.
-use mathlib.Core.Path.{◌≡◌, refl, sym, ap, ◌∙◌, subst}
+use mathlib.Core.Path.{◌≡◌, refl, sym, ap, ◌∙◌}
 use mathlib.Core.Bool.{Bool, true, false}
 use mathlib.Core.Option.{Option, some, none}
 use mathlib.Core.List.{List, [], ◌∷◌, ◌++◌, append-nil}
@@ -9,32 +9,20 @@ use native.Mathlib.Numerals.{add-one}
 use native.Mathlib.Omega.{arith}
 use borrow.Author.Tests.{leb-true, leb-false}
 use lib.Dec.{leb}
-use lib.IntN.{pos}
 use lib.Ieee.{Float}
-use lib.Ieee.Positive.{positive}
-use lib.ListN.{length, take, drop, get_elem?, length-append}
-use lib.Seq.{length-take-le, take_at}
-use Rattle.std.specs.Prelude.{Some, None, IfSome}
-use Rattle.std.specs.Prelude.{Option as Optional}
-use Rattle.std.proofs.Common.{rules}
-use Rattle.arithmetic.specs.Answers.{optional}
+use lib.ListN.{length, get_elem?, length-append}
 use Rattle.channels.specs.ChannelList.{entries}
 use Rattle.channels.specs.declared.list.ChannelList.{ChannelList}
 use Rattle.channels.specs.Lists.{upward}
-use Rattle.channels.specs.Outcome.{value}
 use Rattle.channels.specs.TuningValue.{sent_as}
 use Rattle.channels.specs.declared.tuning_value.TuningKind.{TuningKind}
-use Rattle.plans.specs.Plan.{Model}
 use Rattle.senders.specs.Message.{Message}
-use Rattle.senders.specs.Lent.{Answers, Put, sent}
 use Rattle.senders.specs.Midi.{bytes_of}
-use Rattle.senders.specs.Mts.{tuning_messages, channel_tuning_rule}
+use Rattle.senders.specs.Mts.{tuning_messages}
 use Rattle.senders.specs.Tuner.{each, on_entry}
 use Rattle.plan_tuner.specs.Aot.{channel_messages}
 use Rattle.channels.proofs.ChannelLists.{entries_few, entry_past}
-use Rattle.channels.proofs.Values.{sent_value}
 use Rattle.senders.proofs.Each.{each_append}
-use Rattle.senders.proofs.Lent.{ends_counted}
 use Rattle.senders.proofs.Messages.{bytes_append}
 use Rattle.senders.proofs.Sizes.{tuning_short}
 

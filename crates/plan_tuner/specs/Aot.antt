@@ -1,6 +1,6 @@
 -- The plan tuner: the rule of each call, over what the tuner holds. `fitted` adds 10 to each.
 -- Assumes nothing.
-use Rattle.std.specs.Prelude.{◌≡◌, true, false, List, [], ℕ, ◌≤◌, ℤ, pos, Float, length, Result, Some, None}
+use Rattle.std.specs.Prelude.{◌≡◌, true, false, List, [], ℕ, ℤ, pos, Float, length, Result, Some, None}
 use Rattle.std.specs.Prelude.{Option as Optional}
 use Rattle.arrayvec.specs.ArrayVec.{ArrayVec}
 use Rattle.std.proofs.Math.Option.{Option, some, none}

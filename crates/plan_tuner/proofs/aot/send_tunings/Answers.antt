@@ -1,5 +1,5 @@
 -- `aot::send_tunings` meets its contract: the tuning of a channel is put behind those before, and has room. Assumes nothing.
-use Rattle.std.proofs.Common.{◌≡◌, ℕ, ◌+◌, ◌*◌, ◌≤◌, min, List, ◌++◌, length, length-append, refl, sym, ap, ◌∙◌, arith}
+use Rattle.std.proofs.Common.{◌≡◌, ℕ, ◌+◌, ◌*◌, ◌≤◌, min, List, ◌++◌, length, length-append, sym, ap, ◌∙◌, arith}
 use Rattle.std.proofs.lemmas.Grind.{common_steps}
 use Rattle.arithmetic.specs.Answers.{optional}
 use Rattle.channels.specs.ChannelList.{entries}

@@ -4,13 +4,8 @@ use Rattle.arithmetic.proofs.Outcomes.{hands_on_by}
 use Rattle.channels.specs.Outcome.{Outcome}
 use Rattle.plans.specs.Plan.{plan_of}
 use Rattle.plan_tuner.specs.Aot.{Planned, view, planned_sent, Smallest}
-use Rattle.plan_tuner.proofs.PlanCalls.{tuned_few, unsent_smallest}
+use Rattle.plan_tuner.proofs.PlanCalls.{unsent_smallest}
 use Rattle.plan_tuner.proofs.aot.AotTuner.set_tuning.Goals as goal
-
-pub send_tunings-requires : goal.send_tunings-requires
-send_tunings-requires g c =
-    let planned = rw c.in-Tuned.is at c.in_ok-channels.ensures.tunes.0 in
-    (c.in_ok-channels.ensures.measurable, tuned_few (plan_of c.args.self.now.model) _ (g.L.TuningLists.lines c.args.lists.now) c.in-Tuned.channels planned)
 
 pub returns-in_err-written-in-Tuned-clause-smallest : goal.returns-in_err-written-in-Tuned-clause-smallest
 returns-in_err-written-in-Tuned-clause-smallest g c =
