@@ -52,16 +52,8 @@ module _ (messages : ℕ → List Message) where
       ∙ bytes_append (each messages (upward 0 i)) (messages i ++ [])
       ∙ ap (λ (l : List Message). up_to i ++ bytes_of l) (append-nil (messages i))
 
-  pub more_size : (i : ℕ) → length (up_to (i + 1)) ≡ length (up_to i) + length (bytes_of (messages i))
-  more_size i = ap length (first_more i) ∙ length-append (up_to i) (bytes_of (messages i))
-
 module _ (kind : TuningKind) (channels : List ℕ) (i : ℕ) where
-  -- a channel with a detuning, on the list
-  pub channel_sent :
-      {ch : ℕ} (d : Float) → get_elem? channels i ≡ some ch → channel_messages kind channels i (some d) ≡ tuning_messages ch (sent_as kind d)
-  channel_sent d e = rw e
-
-  -- one that is not on the list
+  -- a channel that is not on the list
   pub channel_past : (o : Option Float) → none ≡ get_elem? channels i → channel_messages kind channels i o ≡ []
   channel_past none e = refl
   channel_past (some d) e = rw (← e) refl

@@ -1,5 +1,5 @@
 -- What the calls of a pool tuner come to: a press by the model's answer, and a release. Assumes nothing.
-use mathlib.Core.Path.{◌≡◌, refl, sym, ap}
+use mathlib.Core.Path.{◌≡◌, sym, ap}
 use mathlib.Core.Option.{Option}
 use mathlib.Core.List.{List, []}
 use Prim.Native.Nat.{ℕ, ◌<◌}
@@ -8,10 +8,6 @@ use lib.IntN.{ℤ}
 use lib.Ieee.{Float}
 use lib.ListN.{length}
 use borrow.Author.Tests.{lt-ltb}
-use Rattle.std.specs.Prelude.{Result, Ok, Err}
-use Rattle.std.specs.Result.{IsOk}
-use Rattle.arithmetic.specs.declared.refusal.Refusal.{Refusal}
-use Rattle.arithmetic.specs.Answers.{outcome}
 use Rattle.channels.specs.Outcome.{Outcome, value, refused}
 use Rattle.pools.specs.Pool.{State, found, released, accepted, rejected, register_rule, replied}
 use Rattle.pools.specs.Block.{state_of}
@@ -36,11 +32,6 @@ pub reply_refused : {A : Type 0} (s : State) (o : Outcome (A × State)) {n : ℕ
 unfolding replied
 reply_refused s (value r) {n} e = let z : ◌≡◌ {A = ℕ} 0 1 = cc in absurd (omega arith)
 reply_refused s (refused m) {n} e = let same : m ≡ n = cc in ap refused same
-
--- a call's answer is a value, so it is no refusal
-pub is_value : {A : Type 0} (r : Result A Refusal) {x : A} → outcome r ≡ value x → IsOk r
-is_value (Ok x) e = refl
-is_value (Err n) e = let z : ◌≡◌ {A = ℕ} 0 1 = cc in absurd (omega arith)
 
 -- the tuner whose pool has changed
 pub view_moved : (t : JitTuner) (m : JitTuningModel) {u : State} → state_of m ≡ u → view (record t { model = m }) ≡ with_pool (view t) u

@@ -1,4 +1,4 @@
--- Messages on the channels of a tuner's list: which MIDI channel, how many bytes. Assumes nothing.
+-- Messages on the channels of a tuner's list: which MIDI channel, and a message to each. Assumes nothing.
 use mathlib.Core.Path.{◌≡◌, ap, ◌∙◌}
 use mathlib.Core.Option.{Option, some, none}
 use mathlib.Core.List.{List, [], ◌∷◌, ◌++◌, append-nil}
@@ -40,17 +40,6 @@ pub entry_is : (l : List ℕ) (i : ℕ) {c : ℕ} → get_elem? l i ≡ some c �
 entry_is [] i {c} e = let z : ◌≡◌ {A = ℕ} 0 1 = cc in absurd (omega arith)
 entry_is (x ∷ l) zero {c} e = (omega arith, (cc))
 entry_is (x ∷ l) (suc i) e = let r = entry_is l i e in (omega arith, r.1)
-
--- ---- bytes
-
-pub key_small :
-    (kind : NoteMessage) (channels : List ℕ) (i : ℕ) (note : ℤ) (v : ℕ)
-    → length (bytes_of (on_channel channels i (λ ch. note_messages kind ch note v))) ≤ 3
-key_small kind channels i note v = go (get_elem? channels i)
-  where
-    go : (o : Option ℕ) → length (bytes_of (on_entry (λ ch. note_messages kind ch note v) o)) ≤ 3
-    go (some c) = note_small kind c note v
-    go none = omega arith
 
 -- ---- a message to each of a list
 

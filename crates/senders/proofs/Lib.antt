@@ -8,5 +8,4 @@ pub mod Room
 pub mod Notes
 pub mod Each
 pub mod Channels
-pub mod Stops
 pub mod Calls

@@ -1,11 +1,10 @@
--- The tests of a message, and the lengths and bytes of messages. Assumes nothing.
+-- The tests of a message, and the bytes of messages. Assumes nothing.
 use mathlib.Core.Path.{◌≡◌, refl, sym, ap, ◌∙◌}
 use mathlib.Core.Bool.{Bool, true, false, cond}
 use mathlib.Core.List.{List, [], ◌∷◌, ◌++◌, append_assoc}
 use Prim.Native.Nat.{ℕ, ◌<◌}
 use native.Mathlib.Omega.{arith}
 use lib.Dec.{ltb}
-use lib.ListN.{length}
 use borrow.Author.Tests.{lt-ltb, le-ltb, ltb-true}
 use Rattle.channels.specs.Channel.{channel_rule}
 use Rattle.channels.specs.Outcome.{Outcome, value, refused, refuse◌unless◌then◌}
@@ -13,7 +12,7 @@ use Rattle.channels.proofs.Channels.{channel_of_number, refused_over}
 use Rattle.senders.specs.Lent.{sent}
 use Rattle.arithmetic.proofs.Outcomes.{passed}
 use Rattle.channels.specs.Refusal.{channel_over15, data_byte_over127}
-use Rattle.senders.specs.Message.{Message, note_off, note_on, key_pressure, control, program, channel_pressure, bend, Valid, is_channel, is_bend}
+use Rattle.senders.specs.Message.{Message, Valid, is_channel, is_bend}
 use Rattle.senders.specs.Midi.{bytes, bytes_of, meant, data_rule, checked, message_rule}
 use Rattle.senders.specs.declared.midi.ChannelMessageType.{ChannelMessageType}
 use Rattle.senders.specs.declared.midi.ChannelMessageType.TheVariants.{NoteOff, NoteOn, PolyphonicKeyPressure, ControlChange, ProgramChange, ChannelPressure, PitchBendChange}
@@ -120,17 +119,7 @@ module _ (n : ℕ) {A : Type 0} (o : Outcome A) where
   pub channel_refuses : (k : ℕ) → refused k ≡ channel_rule n → (refuse channel_over15 unless is_channel n then o) ≡ refused k
   channel_refuses k e = let p = refused_over n k e in rw (le-ltb n 16 (omega (arith, p.0)), p.1) refl
 
--- ---- lengths and bytes
-
--- every message is a record of three bytes
-pub record_length : (m : Message) → length (bytes m) ≡ 3
-record_length (note_off ch k v) = refl
-record_length (note_on ch k v) = refl
-record_length (key_pressure ch k p) = refl
-record_length (control ch n v) = refl
-record_length (program ch p) = refl
-record_length (channel_pressure ch p) = refl
-record_length (bend ch b) = refl
+-- ---- bytes
 
 pub bytes_append : (ms ns : List Message) → bytes_of (ms ++ ns) ≡ bytes_of ms ++ bytes_of ns
 bytes_append [] ns = refl

@@ -1,15 +1,14 @@
--- Notes with a number and notes without: which message a note sends, and that it is valid. Assumes nothing.
+-- Notes with a number and notes without, and that the message of a note is valid. Assumes nothing.
 use mathlib.Core.Path.{◌≡◌, refl}
-use mathlib.Core.Option.{some, none}
-use mathlib.Core.List.{List, ◌++◌, append-nil}
+use mathlib.Core.Option.{some}
 use Prim.Native.Nat.{ℕ, ◌<◌}
 use native.Mathlib.Omega.{arith}
 use lib.IntN.{ℤ, pos, negsuc}
 use Rattle.std.proofs.lemmas.Bool.Decides.{nat_tests}
 use Rattle.arithmetic.specs.Note.{midi_number}
 use Rattle.senders.specs.Message.{Valid}
-use Rattle.senders.specs.Midi.{bytes, bytes_of, meant}
-use Rattle.senders.specs.Tuner.{number_of, note_type, note_messages}
+use Rattle.senders.specs.Midi.{meant}
+use Rattle.senders.specs.Tuner.{number_of, note_type}
 use Rattle.senders.specs.declared.tuner.NoteMessage.{NoteMessage}
 use Rattle.senders.specs.declared.tuner.NoteMessage.TheVariants.{Off, On, Pressure}
 
@@ -31,12 +30,3 @@ pub note_valid : (kind : NoteMessage) {ch k v : ℕ} → ch < 16 → k < 128 →
 note_valid Off c k v = (c, k, v)
 note_valid On c k v = (c, k, v)
 note_valid Pressure c k v = (c, k, v)
-
-pub note_bytes :
-    (kind : NoteMessage) (ch : ℕ) (note : ℤ) (v : ℕ) {k : ℕ} → number_of note ≡ some k
-    → bytes_of (note_messages kind ch note v) ≡ bytes (meant ch (note_type kind k v))
-note_bytes kind ch note v {k} e = rw e (append-nil (bytes (meant ch (note_type kind k v))))
-
--- nothing is put for a note without a number
-pub note_silent : (l : List ℕ) (kind : NoteMessage) (ch : ℕ) (note : ℤ) (v : ℕ) → number_of note ≡ none → l ++ bytes_of (note_messages kind ch note v) ≡ l
-note_silent l kind ch note v e = rw (e, append-nil)

@@ -42,9 +42,6 @@ pub tuning_short : (ch : ℕ) (t : Tuning) → length (bytes_of (tuning_messages
 tuning_short ch (Fine v) = omega arith
 tuning_short ch (Bend b) = omega arith
 
-pub tuning_small : (ch : ℕ) (t : Tuning) → length (bytes_of (tuning_messages ch t)) ≤ 64
-tuning_small ch t = omega (arith, tuning_short ch t)
-
 -- ---- a tuning, on every channel and by any detuning the same
 
 pub sent_size : (kind : TuningKind) (ch : ℕ) (v : Float) → length (bytes_of (tuning_messages ch (sent_as kind v))) ≡ tuning_size kind

@@ -1,6 +1,6 @@
 -- What a call does to the buffer lent to it, to its state, and what it answers: "A refusal returns its
 -- number alone; state and buffers are untouched. Accepted bytes fill the buffer's start, the rest keeps its content." Assumes nothing.
-use Rattle.std.specs.Prelude.{◌≡◌, List, ◌++◌, ℕ, ◌+◌, leb, length, take, drop}
+use Rattle.std.specs.Prelude.{◌≡◌, List, ◌++◌, ℕ, leb, length, drop}
 use Rattle.channels.specs.Outcome.{Outcome, value, refused, refuse◌unless◌then◌}
 use Rattle.channels.specs.Refusal.{buffer_too_short}
 
@@ -61,11 +61,6 @@ pub record Steps
 -- the same of a call without a state
 abbrev pub Answers : Answer → List ℕ → Outcome ℕ → List ℕ → Type 0
 Answers rule old result new = Steps (λ u. u) rule tt old result tt new
-
--- An internal writer: `bs` were put into a buffer from `at` on, which turned `old` into `new`, and `next` is the place behind them.
-pub record Put (at : ℕ) (bs : List ℕ) (next : ℕ) (old new : List ℕ) : Type 0 where
-  pub next_is : next ≡ at + length bs
-  pub new_is : new ≡ take at old ++ bs ++ drop (at + length bs) old
 
 -- what a call goes on to: a refusal leaves what was
 abbrev pub settled : {R S : Type 0} → S → Outcome (Effect R S) → S

@@ -13,9 +13,10 @@ use std::io::Write;
 
 // ---- the calls
 
+// Data, as those of pool.rt are.
 #[derive(Clone, Copy)]
 pub enum Call {
-    // A list by its number.
+    // A list by its number, which the output names: a list in its place would be no plainer.
     Set(u8),
     On { key: u8, velocity: u8 },
     Off { key: u8, velocity: u8 },

@@ -14,6 +14,7 @@ use std::io::Write;
 
 // ---- the calls
 
+// Data, since each is made twice, and on a copy of the tuner: closures would hide which call is made, and be no plainer.
 #[derive(Clone, Copy)]
 pub enum Call {
     On { key: u8, hz: f64, velocity: u8 },

@@ -213,7 +213,7 @@ module _ (ch : ℕ) (m : ChannelMessageType) (room : ℕ) where
 
   -- then the data decide, whatever room there is
   pub data_next : {n : ℕ} → ch < 16 → checked m (value (tt {0})) ≡ refused n → fitted room (message_rule ch m) ≡ refused n
-  data_next h e = rw (lt-ltb ch 16 h) (rw (checked_refused m (sent (bytes (meant ch m))) e))
+  data_next h e = rw (lt-ltb ch 16 h) (rw (checked_refused m tt (sent (bytes (meant ch m))) e))
 
   -- a valid message is refused for want of room alone
   pub room_last : Valid (meant ch m) → room < length (bytes (meant ch m)) → fitted room (message_rule ch m) ≡ refused buffer_too_short

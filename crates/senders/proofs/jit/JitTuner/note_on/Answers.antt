@@ -9,7 +9,7 @@ use Rattle.pools.specs.PoolAnswers.{stopped_note, told}
 use Rattle.pools.specs.declared.jit.JitTuningModel.{JitTuningModel}
 use Rattle.pools.proofs.PoolPresses.{press_measurable, register_again, rejected_stays}
 use Rattle.senders.specs.Jit.{view}
-use Rattle.senders.proofs.Lent.{ends_refused, ends_sent, ends_unwritten, put_none}
+use Rattle.senders.proofs.Lent.{ends_refused, ends_sent, ends_unwritten}
 use Rattle.senders.proofs.Messages.{data_passes}
 use Rattle.senders.proofs.Calls.{reply_value, reply_refused, view_moved, press_bytes, press_sent_lem, press_rejected, press_refused, ends_sounding}
 use Rattle.senders.proofs.jit.JitTuner.note_on.Goals as goal
@@ -49,7 +49,7 @@ returns-in_default c =
     let s = state_of a.self.now.model in
     let low = (data_passes a.velocity c.in_ok-velocity.ensures).1 in
     let e = reply_value s (register_rule s a.key a.pitch.hz) (ap (λ o. value (told o)) (sym c.in_default.is) ∙ c.in_ok-press.ensures) in
-    ends_sent (press_rejected (view a.self.now) a.key a.pitch.hz a.velocity low e) (put_none 0 _) (omega arith)
+    ends_sent (press_rejected (view a.self.now) a.key a.pitch.hz a.velocity low e) (omega arith)
     (view_moved a.self.now a.self.now.model (rejected_stays s a.key a.pitch.hz e))
 
 pub send_press-requires : goal.send_press-requires
