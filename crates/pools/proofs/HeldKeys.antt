@@ -14,6 +14,17 @@ use Rattle.channels.specs.Lists.{first}
 use Rattle.channels.specs.Places.{Place}
 use Rattle.pools.specs.Pool.{State, Held, found, held_from, held_keys}
 
+few : (key : ℕ) (l : List (Option Place)) → length (held_from key l) ≤ length l
+unfolding held_from
+few key [] = omega arith
+few key (some p ∷ l) = omega (arith, few (suc key) l)
+few key (none ∷ l) = omega (arith, few (suc key) l)
+
+-- no more keys are found than there are
+pub held_few : (s : State) → length (held_keys s 0) ≤ length s.keys
+unfolding held_keys
+held_few s = few 0 s.keys
+
 module _ (l : List (Option Place)) (key : ℕ) where
   pub held_here : (p : Place) → key < length l → get_or l key none ≡ some p
       → held_from key (drop key l) ≡ record { key = key; place = p } ∷ held_from (key + 1) (drop (key + 1) l)

@@ -50,22 +50,27 @@ unfolding pool_of pool_count
 pool_small NoteLetter z = letter_below z
 pool_small Channel z = omega arith
 
+-- a key that is found, with its place
+pub held_at_is : (k : ℕ) (p : Option Place) (o : Held) → held_at k p ≡ some o → (o.key ≡ k) × (p ≡ some o.place)
+unfolding held_at
+held_at_is k (some p) o e =
+    let same : ◌≡◌ {A = Held} (record { key = k; place = p }) o = cc in
+    (ap (λ (x : Held). x.key) (sym same), ap (λ (x : Held). some x.place) same)
+held_at_is k none o e = absurd (cc)
+
+pub held_at_none : (k : ℕ) (p : Option Place) → held_at k p ≡ none → p ≡ none
+unfolding held_at
+held_at_none k (some p) e = absurd (cc)
+held_at_none k none e = refl
+
 -- the longest-held key is the first of the press order, and is found
 pub oldest_is : (s : State) (note : ℤ) (o : Held) → oldest s note ≡ some o → (first (pool s note).order ≡ some o.key) × (found s o.key ≡ some o.place)
-unfolding oldest oldest_of held_at
-oldest_is s note o = by_first (first (pool s note).order) refl
+unfolding oldest oldest_of
+oldest_is s note o = go (first (pool s note).order)
   where
-    by_found : (k : ℕ) (p : Option Place) → found s k ≡ p → first (pool s note).order ≡ some k → held_at k p ≡ some o
-        → (first (pool s note).order ≡ some o.key) × (found s o.key ≡ some o.place)
-    by_found k (some p) f h e =
-        let same : ◌≡◌ {A = Held} (record { key = k; place = p }) o = cc in
-        (h ∙ ap (λ (x : Held). some x.key) same, ap (λ (x : Held). found s x.key) (sym same) ∙ f ∙ ap (λ (x : Held). some x.place) same)
-    by_found k none f h e = absurd (cc)
-
-    by_first : (k : Option ℕ) → first (pool s note).order ≡ k → oldest_of s k ≡ some o
-        → (first (pool s note).order ≡ some o.key) × (found s o.key ≡ some o.place)
-    by_first (some k) h e = by_found k (found s k) refl h e
-    by_first none h e = absurd (cc)
+    go : (k : Option ℕ) → oldest_of s k ≡ some o → (k ≡ some o.key) × (found s o.key ≡ some o.place)
+    go (some k) e = let h = held_at_is k (found s k) o e in (ap some (sym h.0), ap (found s) h.0 ∙ h.1)
+    go none e = absurd (cc)
 
 -- without a held key there is no room to make
 pub made_none : (m : PoolingMode) (s : State) → made_room m s none ≡ room s none

@@ -4,6 +4,7 @@ use Rattle.std.proofs.Math.Nat.{mod-eq_of_lt, zero-min, min-zero, suc-min-suc}
 use Rattle.std.proofs.Math.Seq.{paste, take-suc, take-suc-set, take-set-le, drop-set-lt, drop-drop, get_or-drop}
 use Rattle.std.proofs.lemmas.List.{append-nil, map-append, take-map, take_all, take_min, length-take, length-take-le, length-drop, length-append, take-append-le, drop-take}
 use borrow.Author.Tests.{eq-eqb, ne_eqb, lt-ltb, le-ltb}
+use Rattle.std.proofs.Math.Option.{some, none}
 use Rattle.std.specs.Bool.{then_some}
 use Rattle.arithmetic.specs.Answers.{optional}
 use Rattle.channels.specs.Lists.{upward, first, member, without}
@@ -28,6 +29,16 @@ channels_same a zero h = refl
 channels_same a (suc n) h = rw (mod-eq_of_lt {n = a} {m = 16} (omega arith)) (ap (λ (r : List ℕ). a ∷ r) (channels_same (suc a) n (omega arith)))
 
 -- ---- the front
+
+pub first_map : (f : ℕ → ℕ) (l : List ℕ) (x : ℕ) → first l ≡ some x → first (map f l) ≡ some (f x)
+unfolding first
+first_map f [] x e = absurd (cc)
+first_map f (y ∷ l) x e = let same : y ≡ x = cc in ap (λ (n : ℕ). some (f n)) same
+
+pub first_map_none : (f : ℕ → ℕ) (l : List ℕ) → first l ≡ none → first (map f l) ≡ none
+unfolding first
+first_map_none f [] e = refl
+first_map_none f (y ∷ l) e = absurd (cc)
 
 pub front_is : (n : ℕ) (l : List ℕ) → 0 < length l → optional (then_some (ltb 0 n) (get_or l 0 0)) ≡ first (take n l)
 unfolding first

@@ -1,22 +1,23 @@
 // Pools of channels, handed out while somebody plays ("just in time").
 
-ghost use Rattle.std.specs.Prelude.{◌≡◌, ◌<◌, ℕ, Float, IfOk, IfSome, length};
+ghost use Rattle.std.specs.Prelude.{◌≡◌, ◌≤◌, ◌<◌, ℕ, Float, length};
 ghost use Rattle.arithmetic.specs.Answers.{outcome_by};
 ghost use Rattle.channels.specs.Lists.{first};
 ghost use Rattle.channels.specs.ChannelList.{entries};
 ghost use Rattle.channels.specs.Places.{place, place_in};
-ghost use Rattle.pools.specs.Pool.{fresh, pool_of, found, oldest_of, freed, forgotten, taken, released, held_keys, stopped, replied, pressed, unless_held, register_rule, repitch_rule, open_rule};
+ghost use Rattle.pools.specs.Pool.{key_count, fresh, pool_of, found, held_at, oldest_of, freed, forgotten, taken, released, held_keys, stopped, replied, pressed, unless_held, register_rule, repitch_rule, open_rule};
 ghost use Rattle.std.specs.Iterator.{YieldsFirstBy, item_count};
 ghost use Rattle.pools.specs.PoolAnswers.{held, left, next_held, press, repitched, told};
-ghost use Rattle.pools.specs.PoolInternal.{Sound, Sounds, answered, given, handed_out, with_room};
-ghost use Rattle.pools.specs.Block.{queue_of, state_of, group_of, mode_of, Moves, register_note_rule};
+ghost use Rattle.pools.specs.PoolInternal.{held_place, held_by, answered, given, handed_out, with_room};
+ghost use Rattle.pools.specs.Block.{pool_in, state_of, group_of, mode_of, Moves, register_note_rule};
 
 use crate::pool::Pool;
 use arithmetic::note::Note;
 use arithmetic::pitch::Pitch;
 use arithmetic::refusal::Refusal;
 use arithmetic::tuning::{detuning_from, find_by_pitch};
-use channels::keys::{HeldKey, KEYS, Place, is_found, place_of, record_of};
+use channels::channel::Channel;
+use channels::keys::{HeldKey, KEYS, Place, is_found, place_of};
 use channels::list::ChannelList;
 
 // Which notes share a pool: those of a letter, or all.
@@ -59,14 +60,23 @@ impl From<u16> for PoolingMode {
     }
 }
 
-impl PoolGroupBy {
-    // The number that is read as it.
-    fn number(self) -> u16
-        ensures { group_of result ≡ self }
-    {
-        self as u16
-    }
+impl From<PoolGroupBy> for u16 {
+    ghost from_gives = { λ group number. group_of number ≡ group };
 
+    fn from(group: PoolGroupBy) -> u16 {
+        group as u16
+    }
+}
+
+impl From<PoolingMode> for u16 {
+    ghost from_gives = { λ mode number. mode_of number ≡ mode };
+
+    fn from(mode: PoolingMode) -> u16 {
+        mode as u16
+    }
+}
+
+impl PoolGroupBy {
     // The number of a note's pool.
     fn pool_of(self, note: Note) -> usize
         ensures pool { result ≡ pool_of self note.number }
@@ -76,15 +86,6 @@ impl PoolGroupBy {
             PoolGroupBy::NoteLetter => note.letter() as usize,
             PoolGroupBy::Channel => 0,
         }
-    }
-}
-
-impl PoolingMode {
-    // The number that is read as it.
-    fn number(self) -> u16
-        ensures { mode_of result ≡ self }
-    {
-        self as u16
     }
 }
 
@@ -104,25 +105,44 @@ pub struct Repitched {
     pub detuning: f64,
 }
 
+// A key on a channel of its note's pool. The channel is a place in the channel list, which has at most sixteen too.
+#[derive(Clone, Copy)]
+struct Holder {
+    key: u8,
+    channel: Channel,
+    note: Note,
+}
+
+impl Holder {
+    fn place(self) -> Place
+        ensures { place_in result ≡ held_place self }
+    {
+        Place {
+            channel: self.channel.number(),
+            note: self.note,
+        }
+    }
+}
+
 // The channel for a press of a key that is not held.
 #[derive(Clone, Copy)]
 enum Allocation {
     // The front of the free ones.
-    Free(u8),
+    Free(Channel),
     // That of the longest-held key, which is released.
-    Stopped(HeldKey),
+    Stopped(Holder),
     // That of the longest-held key, which stays found.
-    Ignored(HeldKey),
+    Ignored(Holder),
 }
 
 impl Allocation {
-    fn channel(self) -> u8
+    fn channel(self) -> Channel
         ensures { result ≡ handed_out self }
     {
         match self {
             Allocation::Free(channel) => channel,
-            Allocation::Stopped(old) => old.place.channel,
-            Allocation::Ignored(old) => old.place.channel,
+            Allocation::Stopped(old) => old.channel,
+            Allocation::Ignored(old) => old.channel,
         }
     }
 
@@ -131,11 +151,11 @@ impl Allocation {
         ensures { told (Some result) ≡ answered (Some self) note.number detuning }
     {
         let stopped_note = match self {
-            Allocation::Stopped(old) => Some(old.place.note),
+            Allocation::Stopped(old) => Some(old.note),
             _ => None,
         };
         Registered {
-            channel: self.channel(),
+            channel: self.channel().number(),
             stopped_note,
             started_note: note,
             detuning,
@@ -165,14 +185,12 @@ impl JitTuningModel {
         ensures { state_of result ≡ fresh (entries channels) group_by pooling_mode }
     {
         let pool = Pool::new(channels.len());
-        let group_by = group_by.number();
-        let pooling_mode = pooling_mode.number();
         JitTuningModel {
             records: [0; KEYS],
             pools: [pool; 12],
             channels,
-            group_by,
-            pooling_mode,
+            group_by: u16::from(group_by),
+            pooling_mode: u16::from(pooling_mode),
         }
     }
 
@@ -234,12 +252,9 @@ impl JitTuningModel {
         ensures told { place result ≡ found (state_of self.old) key }
         ensures moved { state_of self.new ≡ released (state_of self.old) key }
     {
-        let place = self.access_key(key)?;
-        self.release(HeldKey {
-            key: key as u16,
-            place,
-        });
-        Some(place)
+        let held = self.holder(key)?;
+        self.release(&held);
+        Some(held.place())
     }
 
     // A lookup: where the key is found.
@@ -247,7 +262,7 @@ impl JitTuningModel {
     pub fn access_key(&self, key: u8) -> Option<Place>
         ensures { place result ≡ found (state_of self.now) key }
     {
-        self.found(key as u16)
+        place_of(self.records[key as usize])
     }
 
     // The detuning of a pitch for the note of a found key. Refuses 1, for unknown keys too.
@@ -283,7 +298,8 @@ impl JitTuningModel {
 
     // All found keys, by rising key.
     pub fn held_keys(&self) -> HeldKeys<'_>
-        ensures { left result ≡ held_keys (state_of self.now) 0 }
+        ensures all { left result ≡ held_keys (state_of self.now) 0 }
+        ensures few { length (left result) ≤ key_count }
     {
         HeldKeys {
             model: self,
@@ -318,18 +334,21 @@ impl JitTuningModel {
 
 // The steps of a press and of a release.
 impl JitTuningModel {
-    // Where the key is found; a number that is no key's is not.
-    fn found(&self, key: u16) -> Option<Place>
-        ensures { place result ≡ found (state_of self.now) key }
+    // The key on its channel, if it is found.
+    fn holder(&self, key: u8) -> Option<Holder>
+        ensures { held_by result ≡ held_at key (found (state_of self.now) key) }
     {
-        let record = self.records.get(key as usize)?;
-        place_of(*record)
+        let place = self.access_key(key)?;
+        Some(Holder {
+            key,
+            channel: Channel::by_remainder(place.channel),
+            note: place.note,
+        })
     }
 
     // The channel for a press of a key; none where none is free. Refuses 11 a key that is held.
     fn allocation(&self, key: u8, note: Note) -> Result<Option<Allocation>, Refusal>
-        ensures sound { IfOk result (λ a. IfSome a Sound) }
-        ensures tells { (d : Float) → unless_held (state_of self.now) key note.number d ≡ outcome_by (given (state_of self.now) key note.number d) result }
+        ensures { (d : Float) → unless_held (state_of self.now) key note.number d ≡ outcome_by (given (state_of self.now) key note.number d) result }
     {
         if is_found(self.records[key as usize]) {
             return Err(Refusal::KeyHeld);
@@ -339,17 +358,16 @@ impl JitTuningModel {
 
     // The channel for a press of a key that is not held.
     fn channel_for(&self, note: Note) -> Option<Allocation>
-        ensures sound { IfSome result Sound }
-        ensures tells { (key : ℕ) (d : Float) → pressed (state_of self.now) key note.number d ≡ given (state_of self.now) key note.number d result }
+        ensures { (key : ℕ) (d : Float) → pressed (state_of self.now) key note.number d ≡ given (state_of self.now) key note.number d result }
     {
         let group = PoolGroupBy::from(self.group_by);
         let at = group.pool_of(note);
         let pool = &self.pools[at];
-        if let Some(channel) = pool.free.front() {
-            return Some(Allocation::Free((channel % 16) as u8));
+        if let Some(channel) = pool.next_free() {
+            return Some(Allocation::Free(channel));
         }
         let old = self.longest_held(pool)?;
-        let old_at = group.pool_of(old.place.note);
+        let old_at = group.pool_of(old.note);
         if old_at != at {
             return None;
         }
@@ -360,14 +378,12 @@ impl JitTuningModel {
         }
     }
 
-    // The longest-held key of a pool, if it is found.
-    fn longest_held(&self, pool: &Pool) -> Option<HeldKey>
-        ensures sound { IfSome result Sounds }
-        ensures oldest { next_held result ≡ oldest_of (state_of self.now) (first (queue_of pool.now.order)) }
+    // The longest-held key of a pool, if it is found; a number that is no key's is not.
+    fn longest_held(&self, pool: &Pool) -> Option<Holder>
+        ensures { held_by result ≡ oldest_of (state_of self.now) (first (pool_in pool.now).order) }
     {
         let key = pool.order.front()?;
-        let place = self.found(key)?;
-        Some(HeldKey { key, place })
+        self.holder(u8::try_from(key).ok()?)
     }
 
     // A press for a note; nothing where no channel is free. Refuses 11 a key that is held.
@@ -379,48 +395,48 @@ impl JitTuningModel {
             return Ok(None);
         };
         self.make_room(allocation);
-        self.take(key, note, allocation.channel());
+        self.take(&Holder {
+            key,
+            channel: allocation.channel(),
+            note,
+        });
         Ok(Some(allocation.registered(note, detuning)))
     }
 
     // The channel is free, if it was the longest-held key's.
     fn make_room(&mut self, allocation: Allocation)
-        requires { Sound allocation }
         ensures { state_of self.new ≡ with_room (state_of self.old) allocation }
     {
         match allocation {
             Allocation::Free(_) => {}
-            Allocation::Stopped(old) => self.release(old),
-            Allocation::Ignored(old) => self.free(old),
+            Allocation::Stopped(old) => self.release(&old),
+            Allocation::Ignored(old) => self.free(&old),
         }
     }
 
-    // The front of a note's pool goes to the key, which sounds from now on.
-    fn take(&mut self, key: u8, note: Note, channel: u8)
-        requires { channel < 16 }
-        ensures { state_of self.new ≡ taken (state_of self.old) key note.number channel }
+    // The front of its note's pool goes to the key, which sounds from now on.
+    fn take(&mut self, holder: &Holder)
+        ensures { state_of self.new ≡ taken (state_of self.old) holder.now.key holder.now.note.number holder.now.channel.number }
     {
-        let at = PoolGroupBy::from(self.group_by).pool_of(note);
-        self.pools[at].taken_by(key as u16);
-        self.records[key as usize] = record_of(note.number(), channel);
+        let at = PoolGroupBy::from(self.group_by).pool_of(holder.note);
+        self.pools[at].taken_by(holder.key);
+        self.records[holder.key as usize] = holder.place().record();
     }
 
     // The channel of a key goes back to the pool of its note, unless the key has lost it.
-    fn free(&mut self, held: HeldKey)
-        requires { held.place.channel < 16 }
-        ensures { state_of self.new ≡ freed (state_of self.old) held.key (place_in held.place) }
+    fn free(&mut self, holder: &Holder)
+        ensures { state_of self.new ≡ freed (state_of self.old) holder.now.key (held_place holder.now) }
     {
-        let at = PoolGroupBy::from(self.group_by).pool_of(held.place.note);
-        self.pools[at].freed_by(held.key, held.place.channel);
+        let at = PoolGroupBy::from(self.group_by).pool_of(holder.note);
+        self.pools[at].freed_by(holder.key, holder.channel);
     }
 
     // The same, and the key is not found any more.
-    fn release(&mut self, held: HeldKey)
-        requires { Sounds held }
-        ensures { state_of self.new ≡ forgotten (freed (state_of self.old) held.key (place_in held.place)) held.key }
+    fn release(&mut self, holder: &Holder)
+        ensures { state_of self.new ≡ forgotten (freed (state_of self.old) holder.now.key (held_place holder.now)) holder.now.key }
     {
-        self.free(held);
-        self.records[held.key as usize] = 0;
+        self.free(holder);
+        self.records[holder.key as usize] = 0;
     }
 }
 
@@ -445,7 +461,7 @@ impl<'a> Iterator for HeldKeys<'a> {
     }
 }
 
-// By value: the model goes in and is handed back.
+// By value, the model handed back: a rule of the project asks for press, release, lookup and stop by value beside those in place.
 impl JitTuningModel {
     // A press.
     pub fn pressed(

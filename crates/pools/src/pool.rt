@@ -1,11 +1,13 @@
 // A pool: the queue of its free channels, then that of its keys in press order.
 
-ghost use Rattle.std.specs.Prelude.{◌≡◌, ◌≤◌, ◌<◌, []};
-ghost use Rattle.channels.specs.Lists.{upward};
+ghost use Rattle.std.specs.Prelude.{◌≡◌, ◌≤◌, []};
+ghost use Rattle.channels.specs.ChannelList.{entry_number};
+ghost use Rattle.channels.specs.Lists.{first, upward};
 ghost use Rattle.pools.specs.Block.{pool_in};
 ghost use Rattle.pools.specs.Pool.{taken_in, freed_in};
 
 use crate::queue::Queue;
+use channels::channel::Channel;
 
 #[repr(C)]
 #[derive(Clone, Copy)]
@@ -26,21 +28,28 @@ impl Pool {
         }
     }
 
+    // The next free channel, if there is one.
+    pub fn next_free(&self) -> Option<Channel>
+        ensures { entry_number result ≡ first (pool_in self.now).free }
+    {
+        let number = self.free.front()?;
+        Some(Channel::by_remainder((number % 256) as u8))
+    }
+
     // The front goes to the key.
-    pub fn taken_by(&mut self, key: u16)
+    pub fn taken_by(&mut self, key: u8)
         ensures { pool_in self.new ≡ taken_in (pool_in self.old) key }
     {
         self.free.pop_front();
-        self.order.push_back(key);
+        self.order.push_back(key as u16);
     }
 
     // The channel goes to the back, unless the key has lost it.
-    pub fn freed_by(&mut self, key: u16, channel: u8)
-        requires { channel < 16 }
-        ensures { pool_in self.new ≡ freed_in (pool_in self.old) key channel }
+    pub fn freed_by(&mut self, key: u8, channel: Channel)
+        ensures { pool_in self.new ≡ freed_in (pool_in self.old) key channel.number }
     {
-        if self.order.remove(key) {
-            self.free.push_back(channel as u16);
+        if self.order.remove(key as u16) {
+            self.free.push_back(channel.number() as u16);
         }
     }
 }

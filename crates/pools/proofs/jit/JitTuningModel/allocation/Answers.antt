@@ -5,14 +5,14 @@ use Rattle.pools.specs.Pool.{unless_held}
 use Rattle.pools.proofs.Blocks.{key_here}
 use Rattle.pools.proofs.jit.JitTuningModel.allocation.Goals as goal
 
-pub returns-then-is_found-clause-tells : goal.returns-then-is_found-clause-tells
+pub returns-then-is_found : goal.returns-then-is_found
 unfolding unless_held
-returns-then-is_found-clause-tells c d =
+returns-then-is_found c d =
     let held = sym (ap is_held (key_here c.args.self.now c.args.key)) ∙ sym c.is_found.ensures ∙ c.if-is_found.true in
     rw held
 
-pub returns-clause-tells : goal.returns-clause-tells
+pub returns : goal.returns
 unfolding unless_held
-returns-clause-tells c d =
+returns c d =
     let new = sym (ap is_held (key_here c.args.self.now c.args.key)) ∙ sym c.is_found.ensures ∙ c.if-is_found.false in
-    rw (new, c.channel_for.ensures.tells c.args.key d)
+    rw (new, c.channel_for.ensures c.args.key d)

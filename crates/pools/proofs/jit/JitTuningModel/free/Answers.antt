@@ -6,8 +6,7 @@ use Rattle.pools.proofs.jit.JitTuningModel.free.Goals as goal
 
 pub returns : goal.returns
 returns c =
-    let m = c.args.self.now in
-    let held = c.args.held in
-    let note = held.place.note.number in
+    let held = c.args.holder.now in
+    let note = held.note.number in
     let at = c.pool_of-at.ensures.pool ∙ ap (λ g. pool_of g note) c.from.ensures in
-    view_freed m note c.pool_of-at.result at c.freed_by.new.self _ (omega arith) held.key held.place.channel c.freed_by.ensures
+    view_freed c.args.self.now note c.pool_of-at.result at c.freed_by.new.self _ (omega arith) held.key held.channel.number c.freed_by.ensures

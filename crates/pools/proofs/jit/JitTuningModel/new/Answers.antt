@@ -15,4 +15,4 @@ new-pool-requires c =
 pub returns : goal.returns
 returns c =
     let begun = c.new-pool.ensures ∙ ap begun_with c.len.ensures in
-    state_fresh _ c.args.group_by c.args.pooling_mode c.new-pool.result c.number-group_by.ensures c.number-pooling_mode.ensures refl refl begun
+    state_fresh _ c.args.group_by c.args.pooling_mode c.new-pool.result c.from.ensures c.from-2.ensures refl refl begun

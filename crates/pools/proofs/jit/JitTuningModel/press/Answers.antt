@@ -7,12 +7,12 @@ pub returns-in_err-allocation-clause-told : goal.returns-in_err-allocation-claus
 unfolding replied
 returns-in_err-allocation-clause-told c =
     let p = err_from_is_err_and c.from_residual.result c.from_residual.ensures.1 in
-    rw (p.1, p.2, c.in_err-allocation.ensures.tells c.args.detuning)
+    rw (p.1, p.2, c.in_err-allocation.ensures c.args.detuning)
 
 pub returns-in_default-clause-told : goal.returns-in_default-clause-told
 unfolding replied
-returns-in_default-clause-told c = rw (c.in_ok-allocation.ensures.tells c.args.detuning, c.in_default.is)
+returns-in_default-clause-told c = rw (c.in_ok-allocation.ensures c.args.detuning, c.in_default.is)
 
 pub returns-clause-told : goal.returns-clause-told
 unfolding replied
-returns-clause-told c = rw (c.in_ok-allocation.ensures.tells c.args.detuning, c.in-Some.is, c.registered.ensures)
+returns-clause-told c = rw (c.in_ok-allocation.ensures c.args.detuning, c.in-Some.is, c.registered.ensures)

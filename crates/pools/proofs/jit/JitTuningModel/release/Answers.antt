@@ -5,4 +5,4 @@ use Rattle.pools.proofs.Blocks.{key_forgotten}
 use Rattle.pools.proofs.jit.JitTuningModel.release.Goals as goal
 
 pub returns : goal.returns
-returns c = key_forgotten c.free.new.self c.args.held.key ∙ ap (λ s. forgotten s c.args.held.key) c.free.ensures
+returns c = let key = c.args.holder.now.key in key_forgotten c.free.new.self key ∙ ap (λ s. forgotten s key) c.free.ensures

@@ -1,5 +1,5 @@
 -- `Pool::freed_by` meets its contract, by whether the key had its channel. Assumes nothing.
-use Rattle.std.proofs.Common.{sym, ◌∙◌}
+use Rattle.std.proofs.Common.{sym, ◌∙◌, arith}
 use Rattle.pools.specs.Block.{queue_of, pool_in}
 use Rattle.pools.specs.Pool.{freed_in}
 use Rattle.pools.proofs.Queues.{map_behind, without_none}
@@ -10,7 +10,7 @@ unfolding pool_in freed_in
 returns-then-remove c =
     let remove = c.remove.ensures in
     let held = sym remove.found ∙ c.if-remove.true in
-    rw (held, c.push_back.ensures, remove.left, map_behind (queue_of c.args.self.now.free) c.args.channel c.requires)
+    rw (held, c.push_back.ensures, remove.left, sym c.number.ensures, map_behind (queue_of c.args.self.now.free) c.number.result (omega (arith, c.number.ensures, c.args.channel.is_channel)))
 
 pub returns-else-remove : goal.returns-else-remove
 unfolding pool_in freed_in

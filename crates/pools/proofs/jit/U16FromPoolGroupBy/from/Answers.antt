@@ -1,7 +1,7 @@
--- `PoolGroupBy::number` meets its contract. Assumes nothing.
+-- `u16::from` of a `PoolGroupBy` meets its contract. Assumes nothing.
 use Rattle.std.proofs.Common.{rules}
 use Rattle.pools.specs.Block.{group_of}
-use Rattle.pools.proofs.jit.PoolGroupBy.number.Goals as goal
+use Rattle.pools.proofs.jit.U16FromPoolGroupBy.from.Goals as goal
 
 pub returns : goal.returns
 unfolding group_of
