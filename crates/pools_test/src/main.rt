@@ -110,7 +110,7 @@ fn open(
         Ok(list) => {
             write!(out, "{name}: channels {}", list.len())?;
             match list.entry(1) {
-                Some(channel) => writeln!(out, ", channel 1 is MIDI channel {channel}")?,
+                Some(channel) => writeln!(out, ", channel 1 is MIDI channel {}", channel.number())?,
                 None => writeln!(out, ", no channel 1")?,
             }
         }
