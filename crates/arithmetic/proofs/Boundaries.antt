@@ -86,18 +86,31 @@ module _ (ts : List ℕ) (ok : T (all (boundary ts) 12)) (y : ℕ) (u : y < 2 ^ 
       omega (arith, small, leb→le (within (t - 1)) i (and_l (leb (within (t - 1)) i) (leb t (2 ^ 32)) rest), within_mono y (t - 1) (omega arith) (omega (arith, small)))
 
   -- those before entry i and the entry itself
-  counted : min i (within y) + come_to y t ≡ min (suc i) (within y)
-  counted = go (dec_le t y)
+  one_more : min i (within y) + come_to y t ≡ min (suc i) (within y)
+  one_more = go (dec_le t y)
     where
       go : Dec (t ≤ y) → min i (within y) + come_to y t ≡ min (suc i) (within y)
       go (yes l) = rw (le-leb t y l) (omega (arith, passed l))
       go (no n) = let l : y < t = omega arith in rw (lt-leb t y l) (omega (arith, not_passed l))
 
+  -- the same by the quotient that says, without a test, whether entry i is passed: it and what it is made of fit their types
+  pub counted : (t ≤ 2 ^ 33) × ((y + (2 ^ 33 - t)) / 2 ^ 33 ≤ 1) × (min i (within y) + (y + (2 ^ 33 - t)) / 2 ^ 33 ≡ min (i + 1) (within y))
+  counted = go (dec_le t y)
+    where
+      go : Dec (t ≤ y) → (t ≤ 2 ^ 33) × ((y + (2 ^ 33 - t)) / 2 ^ 33 ≤ 1) × (min i (within y) + (y + (2 ^ 33 - t)) / 2 ^ 33 ≡ min (i + 1) (within y))
+      go (yes l) =
+          let q : (y + (2 ^ 33 - t)) / 2 ^ 33 ≡ 1 = omega (arith, small) in
+          (omega (arith, small), omega arith, rw q (omega (arith, passed l)))
+      go (no n) =
+          let l : y < t = omega arith in
+          let q : (y + (2 ^ 33 - t)) / 2 ^ 33 ≡ 0 = omega (arith, small) in
+          (omega (arith, small), omega arith, rw q (omega (arith, not_passed l)))
+
 -- so as many are passed as semitones lie within the octave
 module _ (ts : List ℕ) (twelve : length ts ≡ 12) (ok : T (all (boundary ts) 12)) (y : ℕ) (u : y < 2 ^ 32) where
   up_to : (i : ℕ) → i ≤ 12 → sum_by (come_to y) (take i ts) ≡ min i (within y)
   up_to zero h = omega arith
-  up_to (suc i) h = (rw add-one at (sum_by_more (come_to y) ts i 0 (omega arith))) ∙ ap (λ (n : ℕ). n + come_to y (get_or ts i 0)) (up_to i (omega arith)) ∙ counted ts ok y u i (omega arith)
+  up_to (suc i) h = (rw add-one at (sum_by_more (come_to y) ts i 0 (omega arith))) ∙ ap (λ (n : ℕ). n + come_to y (get_or ts i 0)) (up_to i (omega arith)) ∙ one_more ts ok y u i (omega arith)
 
   pub all_counted : sum_by (come_to y) ts ≡ within y
   all_counted = let l : length ts ≤ 12 = omega arith in (rw take_all at (up_to 12 (omega arith))) ∙ omega (arith, within_small y)

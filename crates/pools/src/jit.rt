@@ -465,25 +465,23 @@ impl<'a> Iterator for HeldKeys<'a> {
 impl JitTuningModel {
     // A press.
     pub fn pressed(
-        self,
+        mut self,
         key: u8,
         pitch: Pitch,
     ) -> (JitTuningModel, Result<Option<Registered>, Refusal>)
         ensures { (press result.1, state_of result.0) ≡ replied (state_of self) (register_rule (state_of self) key pitch.hz) }
     {
-        let mut model = self;
-        let answer = model.register_key(key, pitch);
-        (model, answer)
+        let answer = self.register_key(key, pitch);
+        (self, answer)
     }
 
     // A release.
-    pub fn released(self, key: u8) -> (JitTuningModel, Option<Place>)
+    pub fn released(mut self, key: u8) -> (JitTuningModel, Option<Place>)
         ensures told { place result.1 ≡ found (state_of self) key }
         ensures moved { state_of result.0 ≡ released (state_of self) key }
     {
-        let mut model = self;
-        let place = model.deregister_key(key);
-        (model, place)
+        let place = self.deregister_key(key);
+        (self, place)
     }
 
     // A lookup.
@@ -494,12 +492,11 @@ impl JitTuningModel {
     }
 
     // The release of every found key.
-    pub fn stopped(self) -> JitTuningModel
+    pub fn stopped(mut self) -> JitTuningModel
         ensures { state_of result ≡ stopped (state_of self) }
     {
-        let mut model = self;
-        model.stop();
-        model
+        self.stop();
+        self
     }
 }
 

@@ -1,8 +1,7 @@
 -- `JitTuningModel::channel_for` meets its contract: each way to a channel is that of the rule. Assumes nothing.
-use Rattle.std.proofs.Common.{◌≡◌, sym, ap, ◌∙◌, arith}
-use Rattle.pools.specs.Pool.{pool, pool_of}
+use Rattle.std.proofs.Common.{sym, ap, ◌∙◌, arith}
+use Rattle.pools.specs.Pool.{pool_of}
 use Rattle.pools.specs.PoolInternal.{held_by}
-use Rattle.pools.specs.Block.{pool_in, state_of}
 use Rattle.pools.proofs.Blocks.{pool_here}
 use Rattle.pools.proofs.Allocations.{given_free, given_nobody, given_blocked, given_elsewhere, given_stopped, given_ignored}
 use Rattle.pools.proofs.jit.JitTuningModel.channel_for.Goals as goal

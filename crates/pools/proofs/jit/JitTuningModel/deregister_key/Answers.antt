@@ -3,7 +3,7 @@ use Rattle.std.proofs.Common.{sym, ap, ◌∙◌}
 use Rattle.std.proofs.Math.Option.{some}
 use Rattle.channels.specs.Places.{place}
 use Rattle.pools.specs.Block.{state_of}
-use Rattle.pools.specs.Pool.{found, forgotten, freed}
+use Rattle.pools.specs.Pool.{forgotten, freed}
 use Rattle.pools.specs.PoolInternal.{held_by, held_place}
 use Rattle.pools.proofs.Pools.{held_at_is, held_at_none, released_found, released_none}
 use Rattle.pools.proofs.jit.JitTuningModel.deregister_key.Goals as goal

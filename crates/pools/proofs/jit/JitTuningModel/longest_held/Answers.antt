@@ -1,7 +1,7 @@
 -- `JitTuningModel::longest_held` meets its contract. Assumes nothing.
-use Rattle.std.proofs.Common.{◌≡◌, ◌≤◌, length, sym, ap, ◌∙◌, arith, rules}
-use Rattle.pools.specs.Block.{pool_in, state_of}
-use Rattle.pools.specs.Pool.{found, oldest_of, held_at}
+use Rattle.std.proofs.Common.{◌≡◌, ◌≤◌, sym, ◌∙◌, arith, rules}
+use Rattle.pools.specs.Block.{pool_in}
+use Rattle.pools.specs.Pool.{oldest_of, held_at}
 use Rattle.pools.specs.PoolInternal.{held_by}
 use Rattle.pools.proofs.Blocks.{key_past}
 use Rattle.pools.proofs.jit.JitTuningModel.longest_held.Goals as goal
