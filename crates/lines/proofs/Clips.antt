@@ -13,9 +13,6 @@ use Rattle.lines.specs.Console.{answer, next}
 use Rattle.lines.specs.Session.{clip}
 use Rattle.lines.proofs.Lines.{meaning_clip}
 
-pub clip_clip : (s : List ℕ) → clip (clip s) ≡ clip s
-clip_clip s = take-take 65 65 s (omega arith)
-
 pub clip_append : (a b : List ℕ) → clip (clip a ++ b) ≡ clip (a ++ b)
 clip_append a b = go (leb (length a) 65) refl
   where

@@ -32,14 +32,6 @@ where_none None p = p
 where_none (Some x) p = tt
 
 -- a number needs 1 to `places` bytes, all digits
-pub number_none : (places : ℕ) (s : List ℕ) → length s ≡ 0 → number places s ≡ none
-unfolding number
-number_none places s h = rw h
-
-pub number_long : (places : ℕ) (s : List ℕ) → places < length s → number places s ≡ none
-unfolding number
-number_long places s h = simp (lt-leb _ _ h, and-false)
-
 pub number_other : (places : ℕ) (s : List ℕ) → digits s ≡ false → number places s ≡ none
 unfolding number
 number_other places s h = rw (h, and-false)

@@ -4,10 +4,12 @@ use native.Mathlib.Nat.{zero-add, add-zero, sub-zero}
 use native.Mathlib.Omega.{arith}
 use mathlib.Core.Path.{◌≡◌, refl, sym, ◌∙◌, ap, subst}
 use mathlib.Core.List.{List, [], ◌++◌, append_assoc, append-nil}
-use lib.ListN.{length, take, drop, get_or, length-append, length-drop, drop_of_length-le, take-append-drop}
+use lib.ListN.{length, take, drop, length-append, length-drop, drop_of_length-le, take-append-drop}
 use lib.Seq.{drop-drop, take_at, drop_at}
 use borrow.Rule.Slice.PartMut.{put_mid}
 use Rattle.std.proofs.lemmas.List.{take_rest}
+use Rattle.std.specs.Prelude.{Some, None}
+use Rattle.memchr.specs.Find.{IsFirstByte, is_byte}
 use Rattle.senders.specs.Lent.{written}
 use Rattle.lines.specs.Split.{feed}
 use Rattle.lines.specs.Console.{answer}
@@ -59,20 +61,20 @@ module _ {s₀ s : Session} {piece old out : List ℕ} {used w : ℕ} (p : Progr
       }
 
   -- no line ends in the rest
-  pub stopped : {t : Session} → Small s → ((k : ℕ) → k < length (drop used piece) → get_or (drop used piece) k 0 ≡ feed → ⊥) → t ≡ longer_by s (drop used piece)
+  pub stopped : {t : Session} → Small s → IsFirstByte (is_byte feed) (drop used piece) None → t ≡ longer_by s (drop used piece)
       → Stepped s₀ piece old out t (record { used = length piece; written = w })
   stopped small f h =
       closing (length (drop used piece)) (no_feed (length old - w) s (drop used piece) small f) h (omega (arith, length-drop used piece, p.within))
 
   -- one ends at place n of it, of which s' is what is kept
-  module _ {s' : Session} {n : ℕ} (small : Small s) (h : n < length (drop used piece)) (e : get_or (drop used piece) n 0 ≡ feed)
-      (f : (k : ℕ) → k < n → get_or (drop used piece) k 0 ≡ feed → ⊥) (is : s' ≡ longer_by s (take n (drop used piece))) where
+  module _ {s' : Session} {n : ℕ} (small : Small s) (first : IsFirstByte (is_byte feed) (drop used piece) (Some n))
+      (is : s' ≡ longer_by s (take n (drop used piece))) where
     -- there is no room for its answer
     pub held_up : {t : Session} {lent ys : List ℕ} {j : ℕ} → lent ≡ drop w out → j ≡ length out - w → length lent < length (answer s'.tuner s'.begun) → ys ≡ lent → t ≡ s'
         → Stepped s₀ piece old (put_mid w j out ys) t (record { used = used + n; written = w })
     held_up {t} {lent} {ys} {j} l i q y is' =
         subst (λ (m : List ℕ). Stepped s₀ piece old m t (record { used = used + n; written = w })) (sym same)
-        (closing n (no_room (length old - w) s s' (drop used piece) n small h e f is (omega (arith, ap length l, length-drop w out, size))) is' refl)
+        (closing n (no_room (length old - w) s s' (drop used piece) n small first is (omega (arith, ap length l, length-drop w out, size))) is' refl)
       where
         size : length out ≡ length old
         size = ap length p.out_is ∙ length-append p.output (drop w old) ∙ omega (arith, p.count_is, length-drop w old, p.room)
@@ -100,7 +102,7 @@ module _ {s₀ s : Session} {piece old out : List ℕ} {used w : ℕ} (p : Progr
         let left : length old - w - length text ≡ length old - (w + k) = omega (arith, a.count_is) in
         record {
           output = o ++ text;
-          within = omega (arith, h, length-drop used piece, p.within);
+          within = omega (arith, first.0.high, length-drop used piece, p.within);
           count_is = sym (length-append o text ∙ omega (arith, p.count_is, a.count_is));
           room = omega (arith, fits, a.count_is, p.room);
           out_is =
@@ -110,7 +112,7 @@ module _ {s₀ s : Session} {piece old out : List ℕ} {used w : ℕ} (p : Progr
               ∙ sym (append_assoc o text (drop (w + k) old));
           result =
               p.result
-              ∙ ap (behind used o) (line_ends (length old - w) s s' (drop used piece) n small h e f is fits)
+              ∙ ap (behind used o) (line_ends (length old - w) s s' (drop used piece) n small first is fits)
               ∙ behind_behind used (n + 1) o text (step_rule (length old - w - length text) (line_ended s') (drop (n + 1) (drop used piece)))
               ∙ ap (λ (m : List ℕ). behind (used + (n + 1)) (o ++ text) (step_rule (length old - w - length text) (line_ended s') m)) (drop-drop (n + 1) used piece)
               ∙ ap (λ (m : ℕ). behind (used + (n + 1)) (o ++ text) (step_rule m (line_ended s') (drop (used + (n + 1)) piece))) left

@@ -1,15 +1,16 @@
 -- What turns take from a reader and give to a writer. Assumes nothing.
 use Prim.Native.Nat.{ℕ, ◌<◌}
 use native.Mathlib.Omega.{arith}
-use mathlib.Core.Path.{◌≡◌, refl, sym, ◌∙◌, ap, subst}
+use mathlib.Core.Path.{◌≡◌, sym, ◌∙◌, ap, subst}
 use mathlib.Core.Bool.{Bool, true, false}
-use mathlib.Core.List.{List, [], ◌∷◌, ◌++◌, append_assoc, append-nil}
+use mathlib.Core.List.{List, [], ◌∷◌, ◌++◌}
 use lib.ListN.{length, take, drop}
 use Rattle.std.specs.Prelude.{Some, None, Result, Ok, Err}
 use Rattle.std.specs.Result.{IfErr, IsErrAnd, result_ok}
 use Rattle.std.proofs.lemmas.Bool.{false≢true}
 use Rattle.std.specs.Io.{ReadsAtMost}
-use Rattle.std.specs.Io.KnownBytes.{Keeps, Consumes, Appends, ReadConsumes, WriteAppends}
+use Rattle.std.specs.Io.KnownBytes.{Consumes, Appends, ReadConsumes, WriteAppends}
+use Rattle.std.proofs.KnownBytes.{Consumes-nil, Consumes-kept, Consumes-trans, Appends-nil, Appends-kept, Appends-trans}
 use Rattle.std.specs.declared.option.Option.{Option}
 use Rattle.std.specs.declared.io.Error.{Error}
 use Rattle.terminal.specs.Stream.{State, view, part, start, brought, receive, read_rule, count, write_rule, answer_rule}
@@ -21,51 +22,19 @@ use Rattle.terminal.specs.declared.stream.Stream.{Stream}
 use Rattle.terminal.specs.Bytes.{EndsBehind, TurnedOver, RanOver, Finished}
 use Rattle.terminal.proofs.Turns.{turn_writes, turn_answers, turn_reads}
 
--- ---- known bytes
-
-takes_none : (a : Option (List ℕ)) → Consumes a a []
-takes_none None = tt
-takes_none (Some x) = refl
-
-takes_kept : (a b : Option (List ℕ)) → Keeps a b → Consumes a b []
-takes_kept None b k = tt
-takes_kept (Some x) None k = absurd k
-takes_kept (Some x) (Some y) k = sym k
-
-takes_more : (a b c : Option (List ℕ)) (x y : List ℕ) → Consumes a b x → Consumes b c y → Consumes a c (x ++ y)
-takes_more None b c x y p q = tt
-takes_more (Some l) None c x y p q = absurd p
-takes_more (Some l) (Some m) None x y p q = absurd q
-takes_more (Some l) (Some m) (Some n) x y p q = p ∙ ap (λ (r : List ℕ). x ++ r) q ∙ sym (append_assoc x y n)
-
-gives_none : (a : Option (List ℕ)) → Appends a a []
-gives_none None = tt
-gives_none (Some x) = sym (append-nil x)
-
-gives_kept : (a b : Option (List ℕ)) → Keeps a b → Appends a b []
-gives_kept None b k = tt
-gives_kept (Some x) None k = absurd k
-gives_kept (Some x) (Some y) k = k ∙ sym (append-nil x)
-
-gives_more : (a b c : Option (List ℕ)) (x y : List ℕ) → Appends a b x → Appends b c y → Appends a c (x ++ y)
-gives_more None b c x y p q = tt
-gives_more (Some l) None c x y p q = absurd p
-gives_more (Some l) (Some m) None x y p q = absurd q
-gives_more (Some l) (Some m) (Some n) x y p q = q ∙ ap (λ (r : List ℕ). r ++ y) p ∙ append_assoc l x y
-
 -- ---- what a call moved
 
 module _ {E : Type 0} (a b : Option (List ℕ)) where
   -- a write
   pub given_by : (res : Result ℕ E) (buf : List ℕ) → WriteAppends a b res buf → Appends a b (take (count (result_ok res)) buf)
   given_by (Ok n) buf h = h
-  given_by (Err e) buf h = gives_kept a b h
+  given_by (Err e) buf h = Appends-kept a a b [] (Appends-nil a) h
 
   -- a read
   pub taken_by : (res : Result ℕ E) (buf : List ℕ) → ReadConsumes a b res buf → Consumes a b (brought (result_ok res) buf)
   unfolding brought
   taken_by (Ok n) buf h = h.0
-  taken_by (Err e) buf h = takes_kept a b h
+  taken_by (Err e) buf h = Consumes-kept a a b [] (Consumes-nil a) h
 
   -- it takes the end of the input only behind all of it
   pub behind_by : (res : Result ℕ E) (buf : List ℕ) (room : ℕ) (s : State) → ReadsAtMost res buf → ReadConsumes a b res buf → s.ended ≡ false
@@ -82,7 +51,7 @@ module _ {E : Type 0} (a b : Option (List ℕ)) where
 
 pub over_rests : (size : ℕ) (a b : Option (List ℕ)) (s : State) → TurnedOver size a a b b s s
 over_rests size a b s =
-    record { read = []; put = []; turn = rests; taken = takes_none a; given = gives_none b; behind = λ e. e }
+    record { read = []; put = []; turn = rests; taken = Consumes-nil a; given = Appends-nil b; behind = λ e. e }
 
 -- a write that answered `res`
 pub over_writes : (size : ℕ) (a b b' : Option (List ℕ)) (s t : State) {E : Type 0} (res : Result ℕ E) → WriteAppends b b' res s.unwritten
@@ -92,7 +61,7 @@ over_writes size a b b' s t res h e =
       read = [];
       put = take (count (result_ok res)) s.unwritten;
       turn = turn_writes s t (result_ok res) e;
-      taken = takes_none a;
+      taken = Consumes-nil a;
       given = given_by b b' res s.unwritten h;
       behind = λ f x some. f (sym (ap (λ (u : State). u.ended) e) ∙ x) some;
     }
@@ -104,8 +73,8 @@ over_answers size a b s t room none e =
       read = [];
       put = [];
       turn = turn_answers s t room none e;
-      taken = takes_none a;
-      given = gives_none b;
+      taken = Consumes-nil a;
+      given = Appends-nil b;
       behind = λ f x some. f (sym (ap (λ (u : State). u.ended) e) ∙ x) some;
     }
 
@@ -119,7 +88,7 @@ over_reads s a a' b t room res before piece out same none written going most h e
       put = [];
       turn = turn_reads s t room (result_ok res) before piece out same none written going e;
       taken = taken_by a a' res piece h;
-      given = gives_none b;
+      given = Appends-nil b;
       behind = λ f x some.
           behind_by a a' res piece room (view s piece out) most h going (sym (ap (λ (u : State). u.ended) e) ∙ x) (omega (arith, some, same));
     }
@@ -135,8 +104,8 @@ over_none size a b s e =
       input = [];
       output = [];
       reached = subst (λ (u : State). Reached u [] []) (sym e) starts;
-      taken = takes_none a;
-      given = gives_none b;
+      taken = Consumes-nil a;
+      given = Appends-nil b;
       behind = λ x some. absurd (false≢true (sym (ap (λ (u : State). u.ended) e) ∙ x));
     }
 
@@ -147,8 +116,8 @@ over_more {a = a} {a' = a'} {a'' = a''} {b = b} {b' = b'} {b'' = b''} r n =
       input = r.input ++ n.read;
       output = r.output ++ n.put;
       reached = turns r.reached n.turn;
-      taken = takes_more a a' a'' r.input n.read r.taken n.taken;
-      given = gives_more b b' b'' r.output n.put r.given n.given;
+      taken = Consumes-trans a a' a'' r.input n.read r.taken n.taken;
+      given = Appends-trans b b' b'' r.output n.put r.given n.given;
       behind = n.behind r.behind;
     }
 
