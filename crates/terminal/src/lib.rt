@@ -84,8 +84,7 @@ fn turn<R: Read, W: Write, C: Clock>(
         stream.answer(piece, out);
         return Ok(true);
     }
-    let ended = stream.has_ended();
-    if ended {
+    if stream.has_ended() {
         return Ok(false);
     }
     let got = input.read(piece);
