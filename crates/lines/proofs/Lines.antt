@@ -76,40 +76,12 @@ pub meaning_fields : (s : List ℕ) (fs : List (List ℕ)) → length s ≤ 64 �
 unfolding meaning
 meaning_fields s fs h e = rw (le-leb (length s) 64 h, e)
 
--- a short line of four fields
-pub meaning_four : (line k a m v : List ℕ) → length line ≤ 64 → split 44 line ≡ k ∷ a ∷ m ∷ v ∷ []
-    → meaning line ≡ event_of (kind_of k) (number 3 a) (number 9 m) (number 3 v)
-unfolding of_fields
-meaning_four line k a m v h e = meaning_fields line (k ∷ a ∷ m ∷ v ∷ []) h e
-
--- a field that can't be read
-unread_kind : (a m v : Option ℕ) → event_of none a m v ≡ refused 13
-unfolding event_of
-unread_kind a m v = refl
-
-unread_key : (k : Option Kind) (m v : Option ℕ) → event_of k none m v ≡ refused 13
-unfolding event_of
-unread_key none m v = refl
-unread_key (some k) m v = refl
-
-unread_pitch : (k : Option Kind) (a v : Option ℕ) → event_of k a none v ≡ refused 13
-unfolding event_of
-unread_pitch none a v = refl
-unread_pitch (some k) none v = refl
-unread_pitch (some k) (some a) v = refl
-
-unread_velocity : (k : Option Kind) (a m : Option ℕ) → event_of k a m none ≡ refused 13
-unfolding event_of
-unread_velocity none a m = refl
-unread_velocity (some k) none m = refl
-unread_velocity (some k) (some a) none = refl
-unread_velocity (some k) (some a) (some m) = refl
-
-pub unread : (k : Option Kind) (a m v : Option ℕ) → ((k ≡ none) ⊎ ((a ≡ none) ⊎ ((m ≡ none) ⊎ (v ≡ none)))) → event_of k a m v ≡ refused 13
-unread k a m v (inl e) = ap (λ (x : Option Kind). event_of x a m v) e ∙ unread_kind a m v
-unread k a m v (inr (inl e)) = ap (λ (x : Option ℕ). event_of k x m v) e ∙ unread_key k m v
-unread k a m v (inr (inr (inl e))) = ap (λ (x : Option ℕ). event_of k a x v) e ∙ unread_pitch k a v
-unread k a m v (inr (inr (inr e))) = ap (λ (x : Option ℕ). event_of k a m x) e ∙ unread_velocity k a m
+-- the meaning of a short line whose four fields can be read
+pub meaning_read : (line : List ℕ) {kind : Option Kind} {key millihertz velocity : Option ℕ} {k : Kind} {a m v : ℕ} → length line ≤ 64
+    → of_fields (split 44 line) ≡ event_of kind key millihertz velocity → some k ≡ kind → some a ≡ key → some m ≡ millihertz → some v ≡ velocity
+    → meaning line ≡ event_of (some k) (some a) (some m) (some v)
+unfolding meaning
+meaning_read line h four k a m v = rw (le-leb (length line) 64 h, four, ← k, ← a, ← m, ← v)
 
 -- a number that is to be a byte
 pub no_byte : {E : Type 0} (r : Result ℕ E) {n : ℕ} → OkIff r (n < 256) n → None ≡ result_ok r → 255 < n

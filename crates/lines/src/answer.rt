@@ -21,6 +21,7 @@ const MOST_BYTES: usize = 18;
 const LEAST_ANSWER: usize = 2;
 
 // The tuner of the console: fine tuning, channels 0 and 1, Stop.
+#[tactic(auto, unfolding(crate::specs::Console::opened))]
 pub fn opened() -> JitTuner
     ensures { view result ≡ opened }
 {

@@ -8,13 +8,6 @@ use Rattle.lines.specs.Grammar.{digits, decimal}
 use Rattle.lines.proofs.Lines.{number_other, number_some, digits_stop, digits_more, decimal_more, more_digits, few_digits}
 use Rattle.lines.proofs.line.number.Goals as goal
 
-pub returns-then-is_empty : goal.returns-then-is_empty
-unfolding number
-returns-then-is_empty c = search rules
-
-pub loop-byte-init : goal.loop-byte-init
-loop-byte-init c = record { digits_left = refl; value = refl; small = omega arith }
-
 pub returns-then-not-is_ascii_digit : goal.returns-then-not-is_ascii_digit
 returns-then-not-is_ascii_digit c =
     let stop = digits_stop c.args.field.now c.loop-byte.byte-index (omega arith) (search (rules, nat_tests)) in

@@ -12,12 +12,6 @@ returns-then-is_empty c = rw (shown_none c.args.bytes.now (grind (arith, nat_tes
 pub returns-then-out-bytes : goal.returns-then-out-bytes
 returns-then-out-bytes c = ends_short refl (omega (arith, shown_length c.args.bytes.now (grind (arith, nat_tests))))
 
-pub loop-byte-init : goal.loop-byte-init
-loop-byte-init c = record { end_is = refl; out_is = refl }
-
-pub slice_bounds-copy_from_slice-end : goal.slice_bounds-copy_from_slice-end
-slice_bounds-copy_from_slice-end c = omega arith
-
 pub loop-byte-preserved : goal.loop-byte-preserved
 loop-byte-preserved c =
     rw (c.copy_from_slice.ensures.after, c.hex_digit.ensures, c.hex_digit-in-loop-byte.ensures) (spaced_more _ c.loop-byte.invariant c.loop-byte-test.true (omega arith))

@@ -7,9 +7,6 @@ use Rattle.lines.proofs.Puts.{sent_all, sent_none}
 use Rattle.lines.proofs.Progress.{starting, stopped, held_up, answered}
 use Rattle.lines.proofs.step.Console.step.Goals as goal
 
-pub loop-n-init : goal.loop-n-init
-loop-n-init c = starting (session c.args.self.now) c.args.piece.now c.args.out.now
-
 pub returns-in_default-end_line : goal.returns-in_default-end_line
 returns-in_default-end_line c =
     let rest = take_rest c.args.piece.now c.loop-n.used in
