@@ -19,6 +19,7 @@ use Rattle.std.specs.Result.{OkIff, result_ok}
 use Rattle.std.specs.Prelude.{Option as Optional}
 use Rattle.std.specs.Char.{is_ascii_digit}
 use Rattle.std.proofs.lemmas.List.{at_drop_more}
+use Rattle.std.proofs.lemmas.Bool.{cases_lt}
 use Rattle.lines.specs.Grammar.{digits, decimal, allowed, zeros}
 use Rattle.lines.specs.Line.{kind_of, number, event, event_of, of_fields, meaning}
 use Rattle.lines.specs.Split.{into, split}
@@ -32,28 +33,9 @@ where_none None p = p
 where_none (Some x) p = tt
 
 -- a number needs 1 to `places` bytes, all digits
-pub number_other : (places : ℕ) (s : List ℕ) → digits s ≡ false → number places s ≡ none
-unfolding number
-number_other places s h = rw (h, and-false)
-
 pub number_some : (places : ℕ) (s : List ℕ) → 0 < length s → length s ≤ places → digits s ≡ true → number places s ≡ some (decimal 0 s)
 unfolding number
 number_some places s h l d = rw (le-leb 1 (length s) h, le-leb (length s) places l, d)
-
-module _ (s : List ℕ) (i : ℕ) (h : i < length s) where
-  -- the byte at i is no digit
-  pub digits_stop : is_ascii_digit (get_or s i 0) ≡ false → digits (drop i s) ≡ false
-  unfolding digits
-  digits_stop e = at_drop_more digits s i 0 h ∙ rw e
-
-  -- it is one
-  pub digits_more : is_ascii_digit (get_or s i 0) ≡ true → digits (drop i s) ≡ digits (drop (i + 1) s)
-  unfolding digits
-  digits_more e = at_drop_more digits s i 0 h ∙ rw e
-
-  pub decimal_more : (n : ℕ) → decimal n (drop i s) ≡ decimal (n * 10 + (get_or s i 0 - 48)) (drop (i + 1) s)
-  unfolding decimal
-  decimal_more n = at_drop_more (decimal n) s i 0 h
 
 -- i digits spell a number below 10 ^ i
 pub more_digits : (n i d : ℕ) → n < 10 ^ i → d ≤ 9 → n * 10 + d < 10 ^ (i + 1)
@@ -110,12 +92,8 @@ module _ (k : Kind) (a m v : ℕ) where
 
 -- 65 bytes of a line decide what it means
 pub meaning_clip : (s : List ℕ) → meaning (take 65 s) ≡ meaning s
-meaning_clip s = go (leb (length s) 64) refl
-  where
-    go : (t : Bool) → leb (length s) 64 ≡ t → meaning (take 65 s) ≡ meaning s
-    go true e =
-        let h : length s ≤ 64 = leb-true (length s) 64 e in
-        ap meaning (take_all 65 s (omega arith))
-    go false e =
-        let h : 64 < length s = leb-false (length s) 64 e in
-        meaning_long (take 65 s) (omega (arith, length-take 65 s)) ∙ sym (meaning_long s h)
+meaning_clip s =
+    elim (cases_lt 64 (length s)) [
+      | inl h ↦ meaning_long (take 65 s) (omega (arith, length-take 65 s)) ∙ sym (meaning_long s h)
+      | inr h ↦ ap meaning (take_all 65 s (omega arith))
+    ]

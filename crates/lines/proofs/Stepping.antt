@@ -53,9 +53,7 @@ other_byte room s b bs n = rw (false_from_ne_true (eqb b feed) n, le-leb 0 room 
 -- bytes before the first feed
 pub before_feed : (room : ℕ) (s : Session) (n : ℕ) (l : List ℕ) → Small s → n ≤ length l → Nowhere (Passes (is_byte feed) l) 0 n
     → step_rule room s l ≡ behind n [] (step_rule room (longer_by s (take n l)) (drop n l))
-before_feed room s zero l m h f =
-    ap (λ (x : Session). step_rule room x l) (sym (longer_none s m))
-    ∙ ap (λ (k : ℕ). record { session = (step_rule room (longer_by s []) l).session; used = k; output = (step_rule room (longer_by s []) l).output }) (sym (zero-add (step_rule room (longer_by s []) l).used))
+before_feed room s zero l m h f = rw (longer_none s m, zero-add)
 before_feed room s (suc n) [] m h f = absurd (omega arith)
 before_feed room s (suc n) (b ∷ l) m h f =
     let s' = longer_by s (b ∷ []) in
