@@ -98,25 +98,17 @@ module _ {T : Type 0} {view : T → Tuner} (u : Tuner) {t : T} {old new : List �
   pub on_heard : {back : T} {hz : Float} {a : Outcome Pressed} {r : Outcome ℕ} → e.kind ≡ On → hz ≡ pitch_of e.millihertz
       → Steps view (note_on_rule u e.key hz e.velocity) t old a back new → r ≡ counted a → Steps view (event_rule u o) t old r back new
   unfolding event_rule
-  on_heard {back = back} {a = a} k h s q =
-      let p : Steps view (note_on_rule u e.key (pitch_of e.millihertz) e.velocity) t old a back new =
-      subst (λ (x : Float). Steps view (note_on_rule u e.key x e.velocity) t old a back new) h s in
-      subst (λ (x : Outcome ℕ). Steps view (event_rule u o) t old x back new) (sym q)
-      (subst (λ (x : Outcome Event). Steps view (event_rule u x) t old (counted a) back new) (sym (event_is w k))
-      (press_heard (note_on_rule u e.key (pitch_of e.millihertz) e.velocity) (pressed_counts u e.key (pitch_of e.millihertz) e.velocity) p))
+  on_heard {hz = hz} k h s q = rw (q, event_is w k, ← h) (press_heard (note_on_rule u e.key hz e.velocity) (pressed_counts u e.key hz e.velocity) s)
 
   pub off_heard : {back : T} {a : Outcome ℕ} → e.kind ≡ Off → Steps view (note_off_rule u e.key e.velocity) t old a back new
       → Steps view (event_rule u o) t old a back new
   unfolding event_rule
-  off_heard {back = back} {a = a} k s = subst (λ (x : Outcome Event). Steps view (event_rule u x) t old a back new) (sym (event_is w k)) s
+  off_heard k s = rw (event_is w k) s
 
   pub bend_heard : {hz : Float} {a : Outcome ℕ} → view t ≡ u → e.kind ≡ Bend → hz ≡ pitch_of e.millihertz
       → Answers (note_pitch_rule u e.key hz) old a new → Steps view (event_rule u o) t old a t new
   unfolding event_rule
-  bend_heard {a = a} v k h s =
-      let p : Answers (note_pitch_rule u e.key (pitch_of e.millihertz)) old a new = subst (λ (x : Float). Answers (note_pitch_rule u e.key x) old a new) h s in
-      subst (λ (x : Outcome Event). Steps view (event_rule u x) t old a t new) (sym (event_is w k))
-      (repitch_heard {view = view} {t = t} u (note_pitch_rule u e.key (pitch_of e.millihertz)) v (repitch_counts u e.key (pitch_of e.millihertz)) p)
+  bend_heard {hz = hz} v k h s = rw (event_is w k, ← h) (repitch_heard {view = view} {t = t} u (note_pitch_rule u e.key hz) v (repitch_counts u e.key hz) s)
 
 -- no event
 pub malformed_heard : {T : Type 0} {view : T → Tuner} (u : Tuner) {t : T} {old : List ℕ} {o : Outcome Event} {n : ℕ} {a : Outcome ℕ} → refused n ≡ o → a ≡ refused n

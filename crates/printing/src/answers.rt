@@ -10,6 +10,8 @@ use plans::aot::Planned;
 use pools::jit::{Registered, Repitched};
 use std::fmt;
 
+pub use show::Or;
+
 // What a call answers, or its refusal.
 #[derive(Clone, Copy)]
 pub struct Answer<T>(pub Result<T, Refusal>);
@@ -19,19 +21,6 @@ impl<T: fmt::Display> fmt::Display for Answer<T> {
         match &self.0 {
             Ok(answer) => write!(f, "{answer}"),
             Err(refusal) => write!(f, "refused ({})", refusal.number()),
-        }
-    }
-}
-
-// What there is, or words for nothing.
-#[derive(Clone, Copy)]
-pub struct Or<T>(pub Option<T>, pub &'static str);
-
-impl<T: fmt::Display> fmt::Display for Or<T> {
-    fn fmt<W: fmt::Write>(&self, f: &mut fmt::Formatter<W>) -> fmt::Result {
-        match &self.0 {
-            Some(x) => write!(f, "{x}"),
-            None => write!(f, "{}", self.1),
         }
     }
 }

@@ -26,10 +26,7 @@ use Rattle.terminal.proofs.Parts.{part_drop}
 pub wrote_law : (s : Stream) (put : Option ℕ) (n : ℕ) (piece out : List ℕ) → n ≡ min (count put) (length (part s.unwritten out))
     → view (record { console = s.console; unanswered = s.unanswered; unwritten = record { start = s.unwritten.start + n; end = s.unwritten.end }; ended = s.ended }) piece out
     ≡ write_rule put (view s piece out)
-wrote_law s put n piece out e =
-    let v = view s piece out in
-    ap (λ (l : List ℕ). record { session = v.session; unanswered = v.unanswered; unwritten = l; ended = v.ended })
-    (part_drop n s.unwritten out ∙ ap (λ (k : ℕ). drop k v.unwritten) e ∙ drop_min (count put) v.unwritten)
+wrote_law s put n piece out e = rw (part_drop n s.unwritten out, e, drop_min (count put) (part s.unwritten out))
 
 -- ---- answers
 
@@ -78,11 +75,6 @@ end_refused s t m piece old new a =
     record { state_is = rw (short, none.left_is, none.back_is) refl; buffer_is = rw short none.left_is }
 
 -- ---- a read
-
-pub read_failed : (s : Stream) (got : Option ℕ) (piece out : List ℕ) → got ≡ None
-    → Leaves (read_rule (length out) got piece (view s piece out)) (read_buffer got piece (view s piece out) out) (view s piece out) out
-unfolding read_rule read_buffer
-read_failed s got piece out e = rw e (record { state_is = refl; buffer_is = refl })
 
 module _ (s : Stream) (got : Option ℕ) (n : ℕ) (u : Part) (piece : List ℕ) (is : got ≡ Some n) (first : (l : List ℕ) → part u l ≡ take n l) where
   pub read_some : (out : List ℕ) → (length (part u piece) ≡ 0 → ⊥)
