@@ -1,7 +1,7 @@
 -- A line answered, from what the tuner's call did and what was shown. Assumes nothing.
 use Prim.Native.Nat.{ℕ, ◌/◌, ◌≤◌, ◌<◌, min}
 use native.Mathlib.Omega.{arith}
-use mathlib.Core.Path.{◌≡◌, refl, sym, ◌∙◌, ap, subst}
+use mathlib.Core.Path.{◌≡◌, refl, sym, ◌∙◌, ap}
 use mathlib.Core.Bool.{Bool, true, false, not}
 use mathlib.Core.Option.{Option, some, none}
 use mathlib.Core.List.{List, [], ◌∷◌, ◌++◌}
@@ -24,7 +24,6 @@ use Rattle.arithmetic.specs.Nearest.{nearest_note}
 use Rattle.channels.specs.Places.{Place, is_held}
 use Rattle.pools.specs.Pool.{State, Press, found, released, pressed, unless_held, register_rule, tuning, repitch_rule}
 use Rattle.senders.specs.Lent.{Effect, sends, sent, Answer, Steps, Answers}
-use Rattle.senders.specs.Answers.{press_answer}
 use Rattle.senders.specs.Answers.{pressed as told}
 use Rattle.senders.specs.Jit.{Tuner, with_pool, Pressed, sounds, rejects, press_effect, repitch_effect, note_on_rule, note_off_rule, note_pitch_rule}
 use Rattle.senders.specs.Message.{is_data}

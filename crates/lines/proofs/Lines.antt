@@ -1,36 +1,27 @@
 -- Laws of the line's definitions. Assumes nothing.
-use Prim.Native.Nat.{ℕ, suc, ◌+◌, ◌*◌, ◌^◌, ◌-◌, ◌≤◌, ◌<◌}
-use native.Mathlib.Nat.{pow-suc, pow-le-pow_right, lt_of_lt_of_le, le_of_eq}
+use Prim.Native.Nat.{ℕ, ◌+◌, ◌*◌, ◌^◌, ◌≤◌, ◌<◌}
+use native.Mathlib.Nat.{pow-suc, pow-le-pow_right, lt_of_lt_of_le}
 use native.Mathlib.Numerals.{add-one}
 use native.Mathlib.Omega.{arith}
 use mathlib.Core.Path.{◌≡◌, refl, sym, ◌∙◌, ap}
 use mathlib.Core.Bool.{Bool, true, false, cond, and-false}
-use mathlib.Core.List.{List, [], ◌∷◌}
-use mathlib.Core.Option.{Option, some, none}
+use mathlib.Core.List.{List}
+use mathlib.Core.Option.{Option, some}
 use mathlib.Core.Logic.{◌⊎◌, inl, inr}
-use lib.ListN.{length, take, drop, get_or, drop_of_length-le, length-take}
+use lib.ListN.{length, take, length-take}
 use lib.Seq.{take_all}
-use lib.Dec.{eqb, leb, lit<}
-use borrow.Author.Tests.{eq-eqb, ne_eqb, eqb-true, eqb-false, le-leb, lt-leb, leb-true, leb-false}
+use lib.Dec.{lit<}
+use borrow.Author.Tests.{le-leb, lt-leb}
 use Rattle.channels.specs.Outcome.{value, refused}
-use Rattle.std.specs.Prelude.{Some, None, Result, Ok, Err, IfNone}
+use Rattle.std.specs.Prelude.{Some, None, Result, Ok, Err}
 use Rattle.std.specs.Bool.{then_some}
 use Rattle.std.specs.Result.{OkIff, result_ok}
-use Rattle.std.specs.Prelude.{Option as Optional}
-use Rattle.std.specs.Char.{is_ascii_digit}
-use Rattle.std.proofs.lemmas.List.{at_drop_more}
 use Rattle.std.proofs.lemmas.Bool.{cases_lt}
 use Rattle.lines.specs.Grammar.{digits, decimal, allowed, zeros}
-use Rattle.lines.specs.Line.{kind_of, number, event, event_of, of_fields, meaning}
-use Rattle.lines.specs.Split.{into, split}
+use Rattle.lines.specs.Line.{number, event, event_of, of_fields, meaning}
+use Rattle.lines.specs.Split.{split}
 use Rattle.lines.specs.Inner.{meant_by}
 use Rattle.lines.specs.declared.line.Kind.{Kind}
-use Rattle.lines.proofs.Splits.{into_none, split_sep, split_other}
-
--- what holds in any case holds of an answer that is none
-pub where_none : {A P : Type 0} (r : Optional A) → P → IfNone r P
-where_none None p = p
-where_none (Some x) p = tt
 
 -- a number needs 1 to `places` bytes, all digits
 pub number_some : (places : ℕ) (s : List ℕ) → 0 < length s → length s ≤ places → digits s ≡ true → number places s ≡ some (decimal 0 s)

@@ -41,12 +41,8 @@ pub fn answer(tuner: &mut JitTuner, line: &[u8], out: &mut [u8]) -> Result<usize
     let mut bytes = [0; MOST_BYTES];
     match hear(tuner, line, &mut bytes[..room]) {
         Ok(sent) => show_bytes(&bytes[..sent], out),
-        Err(refusal) => {
-            if refusal == Refusal::BufferTooShort {
-                return Err(refusal);
-            }
-            show_refusal(refusal, out)
-        }
+        Err(Refusal::BufferTooShort) => Err(Refusal::BufferTooShort),
+        Err(refusal) => show_refusal(refusal, out),
     }
 }
 

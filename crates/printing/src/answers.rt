@@ -8,9 +8,8 @@ use channels::tuning_value::Tuning;
 use plan_tuner::aot::PlanSent;
 use plans::aot::Planned;
 use pools::jit::{Registered, Repitched};
-use std::fmt;
-
 pub use show::Or;
+use std::fmt;
 
 // What a call answers, or its refusal.
 #[derive(Clone, Copy)]

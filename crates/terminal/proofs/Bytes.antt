@@ -2,10 +2,10 @@
 use Prim.Native.Nat.{ℕ, ◌<◌}
 use native.Mathlib.Omega.{arith}
 use mathlib.Core.Path.{◌≡◌, refl, sym, ◌∙◌, ap}
-use mathlib.Core.Bool.{Bool, true, false}
+use mathlib.Core.Bool.{Bool, false}
 use mathlib.Core.List.{List, [], ◌∷◌, ◌++◌}
 use lib.ListN.{length, take}
-use Rattle.std.specs.Prelude.{Some, None, Result, Ok, Err}
+use Rattle.std.specs.Prelude.{Result, Ok, Err}
 use Rattle.std.specs.Result.{IfErr, IsErrAnd, result_ok}
 use Rattle.std.proofs.lemmas.Bool.{false≢true}
 use Rattle.std.proofs.lemmas.Result.{IfErr-at_err}
@@ -14,13 +14,13 @@ use Rattle.std.specs.Io.KnownBytes.{Consumes, Appends, ReadConsumes, WriteAppend
 use Rattle.std.proofs.KnownBytes.{Consumes-nil, Consumes-kept, Consumes-trans, Appends-nil, Appends-kept, Appends-trans}
 use Rattle.std.specs.declared.option.Option.{Option}
 use Rattle.std.specs.declared.io.Error.{Error}
-use Rattle.terminal.specs.Stream.{State, view, part, start, brought, receive, read_rule, count, write_rule, answer_rule}
-use Rattle.terminal.specs.Stream.{Idle, rests, reads, answers, writes, Reached, starts, turns, Ran}
+use Rattle.terminal.specs.Stream.{State, view, start, brought, receive, read_rule, count, write_rule, answer_rule}
+use Rattle.terminal.specs.Stream.{Idle, rests, reads, answers, writes, starts, turns, Ran}
 use Rattle.terminal.specs.Failure.{Passes, FailedAt}
 use Rattle.terminal.specs.declared.failure.Failure.{Failure}
 use Rattle.terminal.specs.declared.failure.Failure.TheVariants.{Input, Output}
 use Rattle.terminal.specs.declared.stream.Stream.{Stream}
-use Rattle.terminal.specs.Bytes.{EndsBehind, TurnedOver, RanOver, Finished}
+use Rattle.terminal.specs.Bytes.{EndsBehind, TurnedOver, RanOver}
 use Rattle.terminal.proofs.Turns.{unread_kept}
 
 -- ---- what a call moved

@@ -1,18 +1,16 @@
 -- What each function of a stream does to its state. Assumes nothing.
 use Prim.Native.Nat.{ℕ, ◌+◌, min}
-use native.Mathlib.Omega.{arith}
-use mathlib.Core.Path.{◌≡◌, refl, sym, ◌∙◌, ap, subst}
+use mathlib.Core.Path.{◌≡◌, refl, sym, ◌∙◌, ap}
 use mathlib.Core.Bool.{true}
 use mathlib.Core.List.{List, [], ◌∷◌}
 use lib.ListN.{length, take, drop}
 use lib.Seq.{take_at}
-use lib.Dec.{leb}
 use borrow.Author.Tests.{le-leb, lt-leb}
-use Rattle.std.specs.Prelude.{Option, Some, None}
+use Rattle.std.specs.Prelude.{Option, Some}
 use Rattle.std.proofs.lemmas.List.{drop_min, nil_from_length}
 use Rattle.channels.specs.Outcome.{value, refused}
 use Rattle.senders.specs.Lent.{Steps, written}
-use Rattle.lines.specs.Session.{Session, session, Stepped, step_rule, finish, finish_rule, line_ended}
+use Rattle.lines.specs.Session.{session, Stepped, step_rule, finish, finish_rule}
 use Rattle.lines.specs.declared.step.Step.{Step}
 use Rattle.lines.specs.declared.step.Console.{Console}
 use Rattle.lines.proofs.Puts.{sent_all, sent_none}

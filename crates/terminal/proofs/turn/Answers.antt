@@ -1,5 +1,5 @@
 -- `terminal::turn`: it writes, answers, rests or reads. Assumes nothing.
-use Rattle.std.proofs.Common.{◌≡◌, ◌<◌, [], length, rules, of_calls, arith, sym, ap, ◌∙◌}
+use Rattle.std.proofs.Common.{length, rules, of_calls, arith, sym, ap, ◌∙◌}
 use Rattle.std.proofs.lemmas.Bool.Decides.{nat_tests}
 use Rattle.std.proofs.lemmas.List.{nil_from_length}
 use Rattle.terminal.specs.Stream.{view}

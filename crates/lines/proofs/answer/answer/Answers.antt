@@ -24,12 +24,6 @@ slice_bounds-show_bytes-end c =
     let here = sent_here {view = view} (effected (view c.args.tuner.now) (meaning c.args.line.now)) c.in-Ok.ensures in
     sym (length-take-le _ _ (sent_longer here _).within)
 
-pub returns-then-eq : goal.returns-then-eq
-returns-then-eq c =
-    let short : c.in-Err.refusal ≡ BufferTooShort = search rules in
-    let refusal = unsent {view = view} (effected (view c.args.tuner.now) (meaning c.args.line.now)) c.in-Err.ensures in
-    unsent_short {view = view} (view c.args.tuner.now) c.args.line.now refusal (ap number short) (length-take-le _ _ (omega arith) ∙ c.min-room.ensures)
-
 pub returns-in-Ok : goal.returns-in-Ok
 returns-in-Ok c =
     let here = sent_here {view = view} (effected (view c.args.tuner.now) (meaning c.args.line.now)) c.in-Ok.ensures in
@@ -39,8 +33,14 @@ returns-in-Ok c =
     (bytes_fit _ _ c.if-out-lt-LEAST_ANSWER.false (omega (arith, length-take {A = ℕ})))
     c.show_bytes.ensures
 
-pub returns-else-eq : goal.returns-else-eq
-returns-else-eq c =
+pub returns-in-Err-BufferTooShort : goal.returns-in-Err-BufferTooShort
+returns-in-Err-BufferTooShort c =
+    let refusal = unsent {view = view} (effected (view c.args.tuner.now) (meaning c.args.line.now)) c.in-Err-BufferTooShort.ensures in
+    rw (← ap number c.in-Err-BufferTooShort.field-0-is)
+    (unsent_short {view = view} (view c.args.tuner.now) c.args.line.now refusal (ap number c.in-Err-BufferTooShort.field-0-is) (length-take-le _ _ (omega arith) ∙ c.min-room.ensures))
+
+pub returns-in-Err : goal.returns-in-Err
+returns-in-Err c =
     let refusal = unsent {view = view} (effected (view c.args.tuner.now) (meaning c.args.line.now)) c.in-Err.ensures in
     unsent_shown {view = view} (view c.args.tuner.now) c.args.line.now refl refusal
     (λ ten. let short : c.in-Err.refusal ≡ BufferTooShort = the_short _ ten in search rules) c.show_refusal.ensures

@@ -2,7 +2,6 @@
 use Rattle.std.proofs.Common.{ap, rules, tests}
 use Rattle.lines.specs.Line.{of_fields}
 use Rattle.lines.proofs.Splits.{gave_none, gave_some, gave_all}
-use Rattle.lines.proofs.Lines.{where_none}
 use Rattle.lines.proofs.line.fields.Goals as goal
 
 pub returns-in_err-next-2-clause-others : goal.returns-in_err-next-2-clause-others
@@ -12,7 +11,7 @@ returns-in_err-next-2-clause-others c =
     gave_some (gave_none _ 44 c.args.line.now c.split-fields.ensures.rest c.split-fields.ensures.done c.split-fields.ensures.closure (λ x b q k. search (rules, tests)))
     c.next.ensures.steps c.in_ok-next.was
     in
-    where_none _ (ap of_fields (gave_all one c.next-2.ensures.steps c.in_err-next-2.was))
+    rw c.from_residual-in_err-next-2.ensures (ap of_fields (gave_all one c.next-2.ensures.steps c.in_err-next-2.was))
 
 pub returns-in_err-next-3-clause-others : goal.returns-in_err-next-3-clause-others
 unfolding of_fields
@@ -22,7 +21,7 @@ returns-in_err-next-3-clause-others c =
     c.next.ensures.steps c.in_ok-next.was
     in
     let two = gave_some one c.next-2.ensures.steps c.in_ok-next-2.was in
-    where_none _ (ap of_fields (gave_all two c.next-3.ensures.steps c.in_err-next-3.was))
+    rw c.from_residual-in_err-next-3.ensures (ap of_fields (gave_all two c.next-3.ensures.steps c.in_err-next-3.was))
 
 pub returns-in_err-next-4-clause-others : goal.returns-in_err-next-4-clause-others
 unfolding of_fields
@@ -33,7 +32,7 @@ returns-in_err-next-4-clause-others c =
     in
     let two = gave_some one c.next-2.ensures.steps c.in_ok-next-2.was in
     let three = gave_some two c.next-3.ensures.steps c.in_ok-next-3.was in
-    where_none _ (ap of_fields (gave_all three c.next-4.ensures.steps c.in_err-next-4.was))
+    rw c.from_residual-in_err-next-4.ensures (ap of_fields (gave_all three c.next-4.ensures.steps c.in_err-next-4.was))
 
 pub returns-in-Some-clause-others : goal.returns-in-Some-clause-others
 unfolding of_fields

@@ -1,9 +1,9 @@
 -- `show::show_bytes`: a byte takes three places, and the last space becomes the feed. Assumes nothing.
-use Rattle.std.proofs.Common.{◌≡◌, ◌∷◌, [], ◌*◌, ◌≤◌, ◌<◌, length, get_or, refl, sym, ap, ◌∙◌, arith, rules}
+use Rattle.std.proofs.Common.{refl, arith}
 use Rattle.std.proofs.lemmas.Bool.Decides.{nat_tests}
 use Rattle.senders.proofs.Lent.{ends_short}
 use Rattle.lines.proofs.Puts.{puts}
-use Rattle.lines.proofs.Shows.{Spaced, spaced, spaced_more, spaced_all, shown_none, shown_length}
+use Rattle.lines.proofs.Shows.{spaced_more, spaced_all, shown_none, shown_length}
 use Rattle.lines.proofs.show.show_bytes.Goals as goal
 
 pub returns-then-is_empty : goal.returns-then-is_empty

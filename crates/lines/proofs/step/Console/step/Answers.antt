@@ -1,10 +1,10 @@
 -- `step::Console::step`: each turn takes a line. Assumes nothing.
-use Rattle.std.proofs.Common.{◌≡◌, ◌+◌, ◌-◌, ℕ, take, drop, refl, ap, ◌∙◌, arith, rules}
+use Rattle.std.proofs.Common.{◌≡◌, ◌+◌, ◌-◌, take, drop, refl, ap, ◌∙◌, arith}
 use Rattle.std.proofs.lemmas.List.{take_rest}
 use Rattle.lines.specs.Session.{session}
 use Rattle.lines.specs.Inner.{longer_by}
 use Rattle.lines.proofs.Puts.{sent_all, sent_none}
-use Rattle.lines.proofs.Progress.{starting, stopped, held_up, answered}
+use Rattle.lines.proofs.Progress.{stopped, held_up, answered}
 use Rattle.lines.proofs.step.Console.step.Goals as goal
 
 pub returns-in_default-end_line : goal.returns-in_default-end_line

@@ -1,5 +1,5 @@
 -- `stream::Stream::read`: a read told the end or brought bytes. Assumes nothing.
-use Rattle.std.proofs.Common.{length, ap, ◌∙◌, sym, arith}
+use Rattle.std.proofs.Common.{length, ap, arith}
 use Rattle.std.proofs.lemmas.Bool.Decides.{nat_tests}
 use Rattle.terminal.proofs.Streams.{read_some, read_none}
 use Rattle.terminal.proofs.stream.Stream.read.Goals as goal
