@@ -84,7 +84,8 @@ fn turn<R: Read, W: Write, C: Clock>(
         stream.answer(piece, out);
         return Ok(true);
     }
-    if stream.has_ended() {
+    let ended = stream.has_ended();
+    if ended {
         return Ok(false);
     }
     let got = input.read(piece);

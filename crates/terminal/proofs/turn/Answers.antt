@@ -26,29 +26,29 @@ pub returns-then-not-is_empty-2-clause-bytes : goal.returns-then-not-is_empty-2-
 returns-then-not-is_empty-2-clause-bytes g c =
     over_answers (length c.args.out.now) (sym (c.unwritten-unwritten.ensures c.args.piece.now) ∙ nil_from_length _ (grind (arith, nat_tests))) c.answer.ensures.state_is
 
-pub returns-then-has_ended-clause-bytes : goal.returns-then-has_ended-clause-bytes
-returns-then-has_ended-clause-bytes g c = over_rests
+pub returns-then-ended-clause-bytes : goal.returns-then-ended-clause-bytes
+returns-then-ended-clause-bytes g c = over_rests
 
-pub returns-then-has_ended-clause-all : goal.returns-then-has_ended-clause-all
-returns-then-has_ended-clause-all g c =
+pub returns-then-ended-clause-all : goal.returns-then-ended-clause-all
+returns-then-ended-clause-all g c =
     λ e.
     record {
       answered = sym (c.unanswered.ensures c.args.out.now) ∙ nil_from_length _ (grind (arith, nat_tests));
       written = sym (c.unwritten-unwritten.ensures c.args.piece.now) ∙ nil_from_length _ (grind (arith, nat_tests));
-      ended = sym (c.has_ended.ensures c.args.piece.now c.args.out.now) ∙ c.if-has_ended.true;
+      ended = sym (c.has_ended-ended.ensures c.args.piece.now c.args.out.now) ∙ c.if-ended.true;
     }
 
 pub returns-in_err-map_err-2-clause-bytes : goal.returns-in_err-map_err-2-clause-bytes
 returns-in_err-map_err-2-clause-bytes g c =
     let still = idle (view c.args.stream.now c.args.piece.now c.args.out.now) (c.unwritten-unwritten.ensures c.args.piece.now) (c.unanswered.ensures c.args.out.now)
-    (c.has_ended.ensures c.args.piece.now c.args.out.now) (grind (arith, nat_tests)) (grind (arith, nat_tests)) c.if-has_ended.false in
+    (c.has_ended-ended.ensures c.args.piece.now c.args.out.now) (grind (arith, nat_tests)) (grind (arith, nat_tests)) c.if-ended.false in
     over_reads c.args.stream.now c.args.piece.now c.read-got.new.buf c.args.out.now (length c.args.out.now) c.read-got.result c.ok-2.ensures.value c.read-got.auto.buf still
     c.read-got.ensures.bound c.read-got.ensures.bytes c.read.ensures.state_is
 
 pub returns-in_err-map_err-2-clause-failed : goal.returns-in_err-map_err-2-clause-failed
 returns-in_err-map_err-2-clause-failed g c =
     let still = idle (view c.args.stream.now c.args.piece.now c.args.out.now) (c.unwritten-unwritten.ensures c.args.piece.now) (c.unanswered.ensures c.args.out.now)
-    (c.has_ended.ensures c.args.piece.now c.args.out.now) (grind (arith, nat_tests)) (grind (arith, nat_tests)) c.if-has_ended.false in
+    (c.has_ended-ended.ensures c.args.piece.now c.args.out.now) (grind (arith, nat_tests)) (grind (arith, nat_tests)) c.if-ended.false in
     let kept = unread_kept c.args.stream.now c.args.piece.now c.read-got.new.buf c.args.out.now c.read-got.auto.buf still.answered in
     input_failed c.from_residual-in_err-map_err-2.result c.from_residual-in_err-map_err-2.ensures.1 c.read-got.result c.goes_on-2.ensures.err c.ok-2.ensures.value
     (length c.args.out.now) c.read-got.new.buf (search (rules, of_calls)) c.read.ensures.state_is (rw kept still)
@@ -56,6 +56,6 @@ returns-in_err-map_err-2-clause-failed g c =
 pub returns-clause-bytes : goal.returns-clause-bytes
 returns-clause-bytes g c =
     let still = idle (view c.args.stream.now c.args.piece.now c.args.out.now) (c.unwritten-unwritten.ensures c.args.piece.now) (c.unanswered.ensures c.args.out.now)
-    (c.has_ended.ensures c.args.piece.now c.args.out.now) (grind (arith, nat_tests)) (grind (arith, nat_tests)) c.if-has_ended.false in
+    (c.has_ended-ended.ensures c.args.piece.now c.args.out.now) (grind (arith, nat_tests)) (grind (arith, nat_tests)) c.if-ended.false in
     over_reads c.args.stream.now c.args.piece.now c.read-got.new.buf c.args.out.now (length c.args.out.now) c.read-got.result c.ok-2.ensures.value c.read-got.auto.buf still
     c.read-got.ensures.bound c.read-got.ensures.bytes c.read.ensures.state_is
