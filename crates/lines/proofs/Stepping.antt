@@ -59,11 +59,8 @@ before_feed room s (suc n) (b ∷ l) m h f =
     let s' = longer_by s (b ∷ []) in
     let r = step_rule room (longer_by s (b ∷ take n l)) (drop n l) in
     let one : 1 + n ≡ suc n = omega arith in
-    other_byte room s b l (f 0 (omega arith) (omega arith))
-    ∙ ap (behind 1 []) (before_feed room s' n l (longer_small s (b ∷ [])) (omega arith) (λ k i j. f (suc k) (omega arith) (omega arith)))
-    ∙ ap (λ (x : Session). behind 1 [] (behind n [] (step_rule room x (drop n l)))) (longer_longer s b (take n l))
-    ∙ behind_behind 1 n [] [] r
-    ∙ ap (λ (k : ℕ). behind k [] r) one
+    rw (other_byte room s b l (f 0 (omega arith) (omega arith)), before_feed room s' n l (longer_small s (b ∷ [])) (omega arith) (λ k i j. f (suc k) (omega arith) (omega arith)), longer_longer s b (take n l))
+    (behind_behind 1 n [] [] r ∙ ap (λ (k : ℕ). behind k [] r) one)
 
 -- a feed, with room for the answer and without
 pub feed_byte : (room : ℕ) (s : Session) (b : ℕ) (bs : List ℕ) → eqb b feed ≡ true → length (answer s.tuner s.begun) ≤ room
@@ -84,19 +81,13 @@ no_room_byte room s b bs e h = rw (e, lt-leb (length (answer s.tuner s.begun)) r
 pub no_feed : (room : ℕ) (s : Session) (l : List ℕ) → Small s → IsFirstByte (is_byte feed) l None
     → step_rule room s l ≡ behind (length l) [] (nothing (longer_by s l))
 unfolding step_rule
-no_feed room s l m f =
-    before_feed room s (length l) l m (omega arith) f
-    ∙ ap (λ (x : List ℕ). behind (length l) [] (step_rule room (longer_by s x) (drop (length l) l))) (take-length l)
-    ∙ ap (λ (x : List ℕ). behind (length l) [] (step_rule room (longer_by s l) x)) (drop-length l)
+no_feed room s l m f = rw (before_feed room s (length l) l m (omega arith) f, take-length l, drop-length l)
 
 -- one ends at the feed, of which s' is what is kept
 module _ (room : ℕ) (s s' : Session) (l : List ℕ) (n : ℕ) (m : Small s) (first : IsFirstByte (is_byte feed) l (Some n))
     (is : s' ≡ longer_by s (take n l)) where
   up_to_feed : step_rule room s l ≡ behind n [] (step_rule room s' (get_or l n 0 ∷ drop (n + 1) l))
-  up_to_feed =
-      before_feed room s n l m (omega (arith, first.0.high)) first.0.before
-      ∙ ap (λ (x : Session). behind n [] (step_rule room x (drop n l))) (sym is)
-      ∙ ap (λ (x : List ℕ). behind n [] (step_rule room s' x)) (drop_more l n 0 first.0.high)
+  up_to_feed = rw (before_feed room s n l m (omega (arith, first.0.high)) first.0.before, is, drop_more l n 0 first.0.high)
 
   -- there is no room for its answer
   pub no_room : room < length (answer s'.tuner s'.begun) → step_rule room s l ≡ behind n [] (nothing s')
@@ -107,6 +98,5 @@ module _ (room : ℕ) (s s' : Session) (l : List ℕ) (n : ℕ) (m : Small s) (f
       → step_rule room s l ≡ behind (n + 1) (answer s'.tuner s'.begun) (step_rule (room - length (answer s'.tuner s'.begun)) (line_ended s') (drop (n + 1) l))
   line_ends q =
       let a = answer s'.tuner s'.begun in
-      up_to_feed
-      ∙ ap (behind n []) (feed_byte room s' (get_or l n 0) (drop (n + 1) l) first.1 q)
-      ∙ behind_behind n 1 [] a (step_rule (room - length a) (line_ended s') (drop (n + 1) l))
+      rw (up_to_feed, feed_byte room s' (get_or l n 0) (drop (n + 1) l) first.1 q)
+      (behind_behind n 1 [] a (step_rule (room - length a) (line_ended s') (drop (n + 1) l)))

@@ -36,13 +36,9 @@ pub answer_law : (s : Stream) (t : Console) (u : Part) (r : Step) (piece old new
 answer_law s t u r piece old new first p =
     let v = view s piece old in
     let q = step_rule (length old) v.session v.unanswered in
-    let out : part u new ≡ q.output =
-    first new
-    ∙ ap (λ (k : ℕ). take k new) p.written_is
-    ∙ ap (take (length q.output)) p.left_is
-    ∙ take_at q.output (drop (length q.output) old) (length q.output) refl in
+    let out : part u new ≡ q.output = rw (first new, p.written_is, p.left_is) (take_at q.output (drop (length q.output) old) (length q.output) refl) in
     let rest : part (record { start = s.unanswered.start + r.used; end = s.unanswered.end }) piece ≡ drop q.used v.unanswered =
-    part_drop r.used s.unanswered piece ∙ ap (λ (k : ℕ). drop k v.unanswered) p.used_is in
+    rw (part_drop r.used s.unanswered piece, p.used_is) in
     record { state_is = cc (p.session_is, out, rest); buffer_is = p.left_is }
 
 -- ---- the end of the input
@@ -56,11 +52,7 @@ end_written s t u v n piece old new none first a =
     let text = finish (session s.console) in
     let sent = sent_all {view = session} a in
     let fits = le-leb (length text) (length old) sent.fits in
-    let out : part v new ≡ text =
-    first new
-    ∙ ap (λ (k : ℕ). take k new) sent.count_is
-    ∙ ap (take (length text)) sent.left_is
-    ∙ take_at text (drop (length text) old) (length text) refl in
+    let out : part v new ≡ text = rw (first new, sent.count_is, sent.left_is) (take_at text (drop (length text) old) (length text) refl) in
     record { state_is = rw fits (cc (sent.next_is, out, none piece)); buffer_is = rw fits sent.left_is }
 
 pub end_refused : (s : Stream) (t : Console) (m : ℕ) (piece old new : List ℕ) → Steps session (finish_rule (session s.console)) s.console old (refused m) t new
