@@ -82,4 +82,9 @@ module _ {S A B : Type 0} {steps : S → Option A → S → Type 0} {v : A → B
 pub gave_none : {F : Type 0} {s : _} (g : Mut F (Bor ℕ × Unit {0}) Bool) (sep : ℕ) {f : F} (xs : List ℕ) → slice.split_rest s ≡ xs → slice.split_done s ≡ false
     → slice.split_callee s ≡ f → ((x : ℕ) (b : Bool) (q : F) → CalledAt g f x b q → (q ≡ f) × (b ≡ eqb x sep))
     → Gave (slice.split_steps g) (λ x. x.now) (split sep xs) [] s
-gave_none g sep xs rest more is closure = record { rest = split sep xs; all_is = refl; yields = rw (← parts_are sep xs) (YieldsList-from_slice_split g (λ x. eqb x sep) xs rest more is closure) }
+gave_none g sep xs rest more is closure =
+    record {
+      rest = split sep xs;
+      all_is = refl;
+      yields = rw (← parts_are sep xs) (YieldsList-from_slice_split g (λ x. eqb x sep) xs rest more is closure);
+    }

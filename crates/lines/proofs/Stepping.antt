@@ -59,7 +59,8 @@ before_feed room s (suc n) (b ∷ l) m h f =
     let s' = longer_by s (b ∷ []) in
     let r = step_rule room (longer_by s (b ∷ take n l)) (drop n l) in
     let one : 1 + n ≡ suc n = omega arith in
-    rw (other_byte room s b l (f 0 (omega arith) (omega arith)), before_feed room s' n l (longer_small s (b ∷ [])) (omega arith) (λ k i j. f (suc k) (omega arith) (omega arith)), longer_longer s b (take n l))
+    let later = before_feed room s' n l (longer_small s (b ∷ [])) (omega arith) (λ k i j. f (suc k) (omega arith) (omega arith)) in
+    rw (other_byte room s b l (f 0 (omega arith) (omega arith)), later, longer_longer s b (take n l))
     (behind_behind 1 n [] [] r ∙ ap (λ (k : ℕ). behind k [] r) one)
 
 -- a feed, with room for the answer and without

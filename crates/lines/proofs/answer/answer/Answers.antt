@@ -37,7 +37,8 @@ pub returns-in-Err-BufferTooShort : goal.returns-in-Err-BufferTooShort
 returns-in-Err-BufferTooShort c =
     let refusal = unsent {view = view} (effected (view c.args.tuner.now) (meaning c.args.line.now)) c.in-Err-BufferTooShort.ensures in
     rw (← ap number c.in-Err-BufferTooShort.field-0-is)
-    (unsent_short {view = view} (view c.args.tuner.now) c.args.line.now refusal (ap number c.in-Err-BufferTooShort.field-0-is) (length-take-le _ _ (omega arith) ∙ c.min-room.ensures))
+    (unsent_short {view = view} (view c.args.tuner.now) c.args.line.now refusal (ap number c.in-Err-BufferTooShort.field-0-is)
+    (length-take-le _ _ (omega arith) ∙ c.min-room.ensures))
 
 pub returns-in-Err : goal.returns-in-Err
 returns-in-Err c =
