@@ -1,4 +1,4 @@
--- A key put in at its place: where the place is among keys in order, and the shift that makes room there. Assumes nothing.
+-- A key put in at its place: where the place is among keys in order. Assumes nothing.
 use Rattle.std.proofs.Common.{◌≡◌, ℕ, zero, suc, ◌+◌, ◌-◌, ◌<◌, ◌≤◌, Bool, true, false, List, [], ◌∷◌, ◌++◌, length, get_or, take, drop, set, refl, sym, ap, ◌∙◌, arith, append_assoc, length-take, length-drop}
 use Rattle.std.proofs.Math.Seq.{paste, take-set-lt, set-append_seam}
 use Rattle.std.proofs.lemmas.List.{take_more, take-take, drop-take}
@@ -69,33 +69,3 @@ module _ (ds : List Float) (d : Float) where
       own [] i x h = absurd (let z : ⊥ = omega arith in z)
       own (y ∷ l) zero x h = refl
       own (y ∷ l) (suc i) x h = own l i x (omega arith)
-
--- ---- the shift: the keys from b on move up by one, and one is put in there
-
-shifted : (xs : List ℕ) (b m k : ℕ) → b + m < length xs
-    → take (b + 1 + m) (set (paste xs (b + 1) (drop b xs) m) b k) ≡ take b xs ++ (k ∷ take m (drop b xs))
-shifted xs b m k h =
-    let ys = paste xs (b + 1) (drop b xs) m in
-    let zs = take m (drop b xs) in
-    let x = get_or xs b 0 in
-    let few : m ≤ length (drop b xs) = omega (arith, length-drop b xs) in
-    let here : length (take b xs) ≡ b = omega (arith, length-take b xs) in
-    take-set-lt (b + 1 + m) ys b k (omega arith)
-    ∙ ap (λ (l : List ℕ). set l b k) (take-paste xs (b + 1) (drop b xs) m (omega arith) few ∙ ap (λ (l : List ℕ). l ++ zs) (take_more xs b 0 (omega arith))
-    ∙ append_assoc (take b xs) (x ∷ []) zs)
-    ∙ ap (λ (j : ℕ). set (take b xs ++ (x ∷ zs)) j k) (sym here)
-    ∙ set-append_seam (take b xs) x zs k
-
--- the keys in order with one more, at its place
-pub inserted : (ds : List Float) (d : Float) (n k : ℕ) (xs : List ℕ) → n < length xs → (b : ℕ) → b ≡ before ds d (take n xs)
-    → take (n + 1) (set (paste xs (b + 1) (drop b xs) (n - b)) b k) ≡ put_in ds d k (take n xs)
-unfolding put_in
-inserted ds d n k xs h b e =
-    let fits : b ≤ n = omega (arith, e, before_fits ds d (take n xs), length-take n xs) in
-    let up : n + 1 ≡ b + 1 + (n - b) = omega arith in
-    let whole : b + (n - b) ≡ n = omega arith in
-    ap (λ (j : ℕ). take j (set (paste xs (b + 1) (drop b xs) (n - b)) b k)) up
-    ∙ shifted xs b (n - b) k (omega arith)
-    ∙ ap (λ (l : List ℕ). take b xs ++ (k ∷ l)) (sym (drop-take b (n - b) xs) ∙ ap (λ (j : ℕ). drop b (take j xs)) whole)
-    ∙ ap (λ (l : List ℕ). l ++ (k ∷ drop b (take n xs))) (sym (take-take b n xs fits))
-    ∙ ap (λ (j : ℕ). take j (take n xs) ++ (k ∷ drop j (take n xs))) e

@@ -77,7 +77,6 @@ ready s lines ok h = record {
   no_other = λ k o.
       place_held (get_or s.records k 0) ∙ h.marked k
       ∙ absent_key k lines (rising_Each (λ (l : Line). eqb l.key k ≡ false) lines (subst (Each (λ (l : Line). eqb l.key k ≡ false)) h.ordered o));
-  few = omega (arith, h.counted, accepted_few lines ok);
   long = h.long;
 }
 

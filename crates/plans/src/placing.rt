@@ -30,13 +30,12 @@ pub(crate) fn place_keys(keys: &mut SortedKeys, by: GroupBy) -> u16
 {
     let SortedKeys {
         order,
-        len,
         records,
         detunings,
     } = keys;
     let mut runs = [NO_KEYS; GROUPS];
     let mut count: u16 = 0;
-    for &key in &order[..*len] {
+    for &key in order.as_slice() {
         let Place { note, .. } = place_of(records[key as usize]).unwrap();
         let at = slot(by, note);
         let run = runs[at];
