@@ -1,8 +1,9 @@
 -- What the private functions of a plan yield. No public contract cites it. Assumes nothing.
 use Rattle.std.specs.Prelude.{◌≡◌, true, false, cond, ◌&&◌, List, [], ◌∷◌, ◌++◌, map, ℕ, zero, suc, ◌+◌, ◌-◌, ◌<◌, ◌≤◌, T, eqb, leb, ℤ, pos, negsuc, length, get_or, take, drop, Float, Result, Ok, Err}
-use Rattle.std.specs.Prelude.{Option as Optional, Some, None, ◌/◌, insert}
+use Rattle.std.specs.Prelude.{Option as Optional, Some, None, ◌/◌, insert, filter, All, Contains, ◌≤ℤ◌}
+use Rattle.std.specs.List.{filter_map}
 use Rattle.std.proofs.Math.Option.{Option, none, some}
-use Rattle.std.specs.Int.Signed.{le_z, lt_z}
+use Rattle.std.specs.Int.Signed.{le_z}
 use Rattle.std.specs.Float.{nan, binary64}
 use Rattle.std.specs.Float.Ieee.{fits, le, lt}
 use Rattle.std.specs.Float.Ieee.Positive.{positive}
@@ -124,13 +125,11 @@ raised (some other) d = cond (lt d other) (some other) (some d)
 unfoldable pub group_up_to : GroupBy → ℕ → ℕ → Optional ℤ
 group_up_to by c cell = cond (leb (channel_of (cell / 1024)) c && is_note (note_of cell)) (Some (group by (note_of cell))) None
 
--- a group, if it is not below `from` and lower than the least so far; else that one
-abbrev pub lower : ℤ → Optional ℤ → Optional ℤ → Optional ℤ
-lower from None least = least
-lower from (Some g) None = cond (le_z from g) (Some g) None
-lower from (Some g) (Some least) = cond (le_z from g && lt_z g least) (Some g) (Some least)
+-- the groups of these cells up to channel c that are not below `from`
+abbrev pub groups_from : GroupBy → ℕ → ℤ → List ℕ → List ℤ
+groups_from by c from cells = filter (le_z from) (filter_map (group_up_to by c) cells)
 
--- the least group of these cells, not below `from`
-unfoldable pub least_from : GroupBy → ℕ → ℤ → Optional ℤ → List ℕ → Optional ℤ
-least_from by c from least [] = least
-least_from by c from least (cell ∷ cells) = least_from by c from (lower from (group_up_to by c cell) least) cells
+-- g is the least of these, if there is one
+abbrev pub IsLeast : List ℤ → Optional ℤ → Type 0
+IsLeast gs None = gs ≡ []
+IsLeast gs (Some g) = Contains gs g × All (λ h. g ≤ℤ h) gs

@@ -5,7 +5,7 @@ ghost use Rattle.arithmetic.specs.Answers.{optional, outcome_by};
 ghost use Rattle.channels.specs.ChannelList.{entries};
 ghost use Rattle.plans.specs.PlanBlock.{detuning_of, group_by_of};
 ghost use Rattle.plans.specs.Plan.{Measurable, Smallest, Tunes, access_answer, empty, next_rule, open_rule, plan_answer, plan_of, planned};
-ghost use Rattle.plans.specs.PlanInternal.{group_up_to, least_from, lower, raised};
+ghost use Rattle.plans.specs.PlanInternal.{IsLeast, group_up_to, groups_from, raised};
 
 use crate::lists::TuningLists;
 use crate::placing::{group_of, place_keys};
@@ -35,7 +35,7 @@ impl From<u16> for GroupBy {
     }
 }
 
-// What a tuning that is not refused comes to.
+// What a tuning that is not refused comes to. It is no Result, since a plan that needs more channels than there are is no error but an answer.
 #[derive(Clone, Copy, Debug, PartialEq, Eq)]
 pub enum Planned {
     // How many channels the plan uses.
@@ -48,7 +48,7 @@ pub enum Planned {
 #[repr(C)]
 #[derive(Clone, Copy)]
 pub struct AotTuningModel {
-    // By key, where it is in the plan, and its detuning.
+    // By key, where it is in the plan, and its detuning. They are two arrays, since they lie so in C's memory, without padding.
     records: [u16; KEYS],
     detunings: [f64; KEYS],
     channels: ChannelList,
@@ -185,24 +185,13 @@ impl AotTuningModel {
 
 // The least group, not below `from`, of the keys in the plan on a channel or one before it.
 fn least_group(records: &[u16], by: GroupBy, channel: u16, from: i32) -> Option<i32>
-    ensures { result ≡ least_from by channel from None records.now }
+    ensures { IsLeast (groups_from by channel from records.now) result }
 {
-    let mut least = None;
-    for &cell in records {
-        least = lower(group_up_to(cell, by, channel), from, least);
-    }
-    least
-}
-
-// A group, if it is not below `from` and lower than the least so far; else that one.
-fn lower(group: Option<i32>, from: i32, least: Option<i32>) -> Option<i32>
-    ensures { result ≡ lower from group least }
-{
-    match (group, least) {
-        (Some(g), Some(other)) if from <= g && g < other => group,
-        (Some(g), None) if from <= g => group,
-        _ => least,
-    }
+    records
+        .iter()
+        .filter_map(|&cell| group_up_to(cell, by, channel))
+        .filter(|&group| from <= group)
+        .min()
 }
 
 // The group of a record's key, if that is in the plan on a channel or one before it.

@@ -14,6 +14,7 @@ use channels::keys::{KEYS, Place, is_found};
 #[derive(Drop)]
 pub struct SortedKeys {
     pub order: ArrayVec<u8, KEYS>,
+    // Beside the detunings, as they lie in C's memory: a plan is copied there whole.
     pub records: [u16; KEYS],
     pub detunings: [f64; KEYS],
 }
