@@ -25,16 +25,6 @@ use Rattle.plans.proofs.Records.{records_at_lem, records_long}
 use Rattle.plans.proofs.Models.{same_model, AllOut, no_keys, no_detunings, planned_tuned}
 use Rattle.plans.proofs.Held.{found, detuning_entry}
 
--- zero is below what is above zero
-pub zero_below : (d : Float) → T (positive d) → lt (of_bits binary64 0) d ≡ true
-unfolding of_bits lt
-zero_below nan p = absurd p
-zero_below (inf s) p = absurd p
-zero_below (fin true m e) p = absurd p
-zero_below (fin false m e) p =
-    lt-ltb (0 * down e) (m * up e * 1)
-    (subst (λ (n : ℕ). n < m * up e * 1) (sym (zero-mul (down e))) (mul-pos (mul-pos (ltb→lt 0 m p) (up_pos e)) (omega arith)))
-
 -- ---- detunings as they are read
 
 pub detuning_kept : (d : Float) → T (positive d) → detuning_of d ≡ d

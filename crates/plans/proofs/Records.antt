@@ -94,26 +94,6 @@ module _ (cell : ℕ) (r : Optional C.Place) (e : place r ≡ place_of cell) whe
   unfolding place
   noted_at p h = sym (place_parts cell (place_in p) (sym e ∙ ap place h)).1
 
--- ---- the largest detuning, from an index on
-module _ (by : GroupBy) (c : ℕ) (g : ℤ) (rs : List KeyRecord) (i : ℕ) (d : KeyRecord) (h : 0 < i) (l : i ≤ length rs) where
-  before_here : drop (i - 1) rs ≡ get_or rs (i - 1) d ∷ drop i rs
-  before_here =
-      let e : suc (i - 1) ≡ i = omega arith in
-      drop-cons rs (i - 1) d (omega arith) ∙ ap (λ (j : ℕ). get_or rs (i - 1) d ∷ drop j rs) e
-
-  pub highest_yes : counts by c g (get_or rs (i - 1) d) ≡ true
-      → larger (get_or rs (i - 1) d).detuning (highest by c g (drop i rs)) ≡ highest by c g (drop (i - 1) rs)
-  unfolding highest
-  highest_yes e = rw (before_here, e)
-
-  pub highest_no : counts by c g (get_or rs (i - 1) d) ≡ false → highest by c g (drop i rs) ≡ highest by c g (drop (i - 1) rs)
-  unfolding highest
-  highest_no e = rw (before_here, e)
-
-pub highest_none : (by : GroupBy) (c : ℕ) (g : ℤ) (rs : List KeyRecord) → length rs ≤ key_count → none ≡ highest by c g (drop key_count rs)
-unfolding highest
-highest_none by c g rs h = rw (drop_of_length-le rs {i = key_count} h)
-
 and_no : (a : Bool) → (a && false) ≡ false
 and_no true = refl
 and_no false = refl

@@ -166,9 +166,6 @@ held_count : (s : SortedKeys) (lines : List Line) → Holds s lines → length s
 unfolding lines_of
 held_count s lines h = sym (length-map s.order.items (line_at s.records s.detunings)) ∙ ap length h.ordered ∙ length_rising lines
 
-pub few_in : (s : SortedKeys) (lines : List Line) → Holds s lines → Accepted lines → length s.order.items ≤ key_count
-few_in s lines h ok = omega (arith, held_count s lines h, accepted_few lines ok)
-
 -- there is room for one key more
 pub room_in : (s : SortedKeys) (lines : List Line) → Holds s lines → Accepted lines → (x : Line) → Accepted (lines ++ (x ∷ [])) → length s.order.items < key_count
 room_in s lines h ok x more = omega (arith, held_count s lines h, accepted_few (lines ++ (x ∷ [])) more, length-append lines (x ∷ []))

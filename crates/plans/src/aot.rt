@@ -26,6 +26,7 @@ pub enum GroupBy {
 impl From<u16> for GroupBy {
     ghost from_gives = { λ number group. group ≡ group_by_of number };
 
+    #[tactic(auto, unfolding(crate::specs::PlanBlock::group_by_of))]
     fn from(number: u16) -> GroupBy {
         match number {
             1 => GroupBy::NoteLetter,
@@ -74,6 +75,7 @@ impl AotTuningModel {
 
     // A model with no keys, for the channels of a list. Refuses, entry by entry, 6 a channel over 15 and 7 one that came before; the model has no channels then.
     // Example: AotTuningModel::open([0, 1], Channel) is channels listed 2
+    #[tactic(auto, unfolding(crate::specs::Plan::open_rule))]
     pub fn open(
         channels: &[u8],
         group_by: GroupBy,
@@ -125,6 +127,7 @@ impl AotTuningModel {
     }
 
     // How many channels the plan uses, and without a plan how many there are.
+    #[tactic(auto, unfolding(crate::specs::Plan::plan_of))]
     pub fn num_channels(&self) -> u16
         ensures { result ≡ (plan_of self.now).num_channels }
     {
@@ -132,6 +135,7 @@ impl AotTuningModel {
     }
 
     // Whether there is a plan.
+    #[tactic(auto, unfolding(crate::specs::Plan::plan_of))]
     pub fn tuned(&self) -> bool
         ensures { result ≡ (plan_of self.now).tuned }
     {
@@ -139,6 +143,7 @@ impl AotTuningModel {
     }
 
     // The channel list that the model was opened with.
+    #[tactic(auto, unfolding(crate::specs::Plan::plan_of))]
     pub fn channels(&self) -> ChannelList
         ensures { entries result ≡ (plan_of self.now).channels }
     {
@@ -146,6 +151,7 @@ impl AotTuningModel {
     }
 
     // What the plan retunes together.
+    #[tactic(auto, unfolding(crate::specs::Plan::plan_of))]
     pub fn group_by(&self) -> GroupBy
         ensures { result ≡ (plan_of self.now).group_by }
     {
@@ -206,6 +212,7 @@ fn group_up_to(cell: u16, by: GroupBy, channel: u16) -> Option<i32>
 }
 
 // A detuning as it is read: programs in C may have put a NaN there.
+#[tactic(auto, unfolding(crate::specs::PlanBlock::detuning_of))]
 fn number_or_zero(detuning: f64) -> f64
     ensures { result ≡ detuning_of detuning }
 {

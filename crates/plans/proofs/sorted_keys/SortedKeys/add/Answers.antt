@@ -36,9 +36,6 @@ module _ (c : Else-is_found) where
       let s = c.args.self.now in
       omega (arith, before_fits s.detunings c.args.line.detuning s.order.items)
 
-pub place-at-requires : goal.place-at-requires
-place-at-requires c = (c.requires, c.args.line.above_zero)
-
 pub insert-requires : goal.insert-requires
 insert-requires c =
     let t = (goal.at.insert-requires c).Else-is_found in
