@@ -1,16 +1,14 @@
 -- A key put in at its place: where the place is among keys in order. Assumes nothing.
-use Rattle.std.proofs.Common.{◌≡◌, ℕ, zero, suc, ◌+◌, ◌-◌, ◌<◌, ◌≤◌, Bool, true, false, List, [], ◌∷◌, ◌++◌, length, get_or, take, drop, set, refl, sym, ap, ◌∙◌, arith, append_assoc, length-take, length-drop}
-use Rattle.std.proofs.Math.Seq.{paste, take-set-lt, set-append_seam}
-use Rattle.std.proofs.lemmas.List.{take_more, take-take, drop-take}
-use Rattle.std.proofs.lemmas.List.Edits.{take-paste}
+use Rattle.std.proofs.Common.{◌≡◌, ℕ, zero, suc, ◌<◌, ◌≤◌, Bool, true, false, List, [], ◌∷◌, length, get_or, ap, arith}
+use Rattle.std.proofs.lemmas.List.{get_or_default}
 use Rattle.std.specs.List.Sorted.{IsPartitionedBy, IsPartitionPoint}
-use native.Mathlib.Nat.{le_of_eq}
 use lib.Dec.{T}
 use lib.Ieee.{Float, nan, le}
-use lib.Ieee.Positive.{positive, le_trans_positive, cross→le}
+use lib.Ieee.Positive.{positive, le_trans_positive}
 use Rattle.channels.specs.Lists.{Each}
-use Rattle.plans.specs.PlanInternal.{Rises, before, put_in}
+use Rattle.plans.specs.PlanInternal.{Rises, before}
 use Rattle.channels.proofs.ListLaws.{outcome, passed, failed, T→true, true→T}
+use Rattle.plans.proofs.Joins.{le_refl_positive}
 use Rattle.plans.proofs.Records.{at_each}
 
 -- ---- the place
@@ -49,7 +47,7 @@ module _ (ds : List Float) (d : Float) where
 
   rises_up : (l : List ℕ) → Rises ds l → (i j : ℕ) → i ≤ j → j < length l → T (le (get_or ds (get_or l i 0) nan) (get_or ds (get_or l j 0) nan))
   rises_up [] r i j h k = absurd (let z : ⊥ = omega arith in z)
-  rises_up (x ∷ l) r zero zero h k = cross→le (get_or ds x nan) (get_or ds x nan) r.0 r.0 (le_of_eq refl)
+  rises_up (x ∷ l) r zero zero h k = le_refl_positive (get_or ds x nan) r.0
   rises_up (x ∷ l) r zero (suc j) h k = at_each (λ (y : ℕ). T (le (get_or ds x nan) (get_or ds y nan))) l 0 r.1 j (omega arith)
   rises_up (x ∷ l) r (suc i) zero h k = absurd (let z : ⊥ = omega arith in z)
   rises_up (x ∷ l) r (suc i) (suc j) h k = rises_up l r.2 i j (omega arith) (omega arith)
@@ -62,10 +60,5 @@ module _ (ds : List Float) (d : Float) where
       let each = rises_positive l r in
       let py : T (positive y) = at_each (λ (i : ℕ). T (positive (get_or ds i nan))) l 0 each i (omega arith) in
       let pz : T (positive z) = at_each (λ (i : ℕ). T (positive (get_or ds i nan))) l 0 each j k in
-      rw (own l i x (omega arith))
-      (T→true (le y d) (le_trans_positive y z d py pz p (rises_up l r i j h k) (true→T (rw (own l j x k) at e))))
-    where
-      own : (l : List ℕ) (i x : ℕ) → i < length l → get_or l i x ≡ get_or l i 0
-      own [] i x h = absurd (let z : ⊥ = omega arith in z)
-      own (y ∷ l) zero x h = refl
-      own (y ∷ l) (suc i) x h = own l i x (omega arith)
+      rw (get_or_default l i x 0 (omega arith))
+      (T→true (le y d) (le_trans_positive y z d py pz p (rises_up l r i j h k) (true→T (rw (get_or_default l j x 0 k) at e))))

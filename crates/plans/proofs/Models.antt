@@ -1,6 +1,7 @@
 -- When two models are the same, and which one has no keys. Assumes nothing.
 use mathlib.Core.Path.{◌≡◌, refl}
-use mathlib.Core.Bool.{Bool, true, false, ◌&&◌}
+use mathlib.Core.Bool.{false}
+use Rattle.std.proofs.Math.Bool.{and-false}
 use mathlib.Core.List.{List, [], ◌∷◌}
 use mathlib.Core.Option.{none}
 use Prim.Native.Nat.{ℕ, zero, suc, ◌<◌, ◌≤◌}
@@ -11,7 +12,7 @@ use lib.Ieee.{Float}
 use lib.ListN.{length, replicate}
 use Rattle.arithmetic.specs.Outcome.{value}
 use Rattle.plans.specs.declared.aot.GroupBy.{GroupBy}
-use Rattle.plans.specs.Line.{Line, group, same}
+use Rattle.plans.specs.Line.{Line}
 use Rattle.plans.specs.Walk.{count}
 use Rattle.plans.specs.Plan.{KeyRecord, Model, tuned, untuned, empty, holding, planned, is_in, records_of, key_in, counts, highest}
 use Rattle.channels.specs.Lists.{Each}
@@ -41,11 +42,7 @@ no_keys (r ∷ rs) h (suc k) = no_keys rs h.1 k
 -- what is not in the plan counts for no group
 pub out_counts : (by : GroupBy) (c : ℕ) (g : ℤ) (r : KeyRecord) → is_in r ≡ false → counts by c g r ≡ false
 unfolding counts
-out_counts by c g r e = rw e (and_no (leb r.channel c) (same (group by r.note) g))
-  where
-    and_no : (a b : Bool) → (a && false && b) ≡ false
-    and_no true b = refl
-    and_no false b = refl
+out_counts by c g r e = rw (e, and-false (leb r.channel c))
 
 pub no_detunings : (by : GroupBy) (c : ℕ) (g : ℤ) (rs : List KeyRecord) → AllOut rs → highest by c g rs ≡ none
 unfolding highest

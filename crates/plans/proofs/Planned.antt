@@ -27,7 +27,6 @@ use Rattle.channels.proofs.ListLaws.{Pairwise, false→T}
 use Rattle.plans.proofs.Rising.{Other, Each-rising, rising_Each, length_rising, rising_sorted, rising_of_sorted, absent}
 use Rattle.plans.proofs.Plan.{different}
 use Rattle.channels.proofs.RecordNumbers.{place_held}
-use Rattle.plans.proofs.SortedKeys.{accepted_few}
 use Rattle.plans.proofs.Models.{same_model}
 use Rattle.plans.proofs.Demand3.{demand_3}
 

@@ -1,14 +1,14 @@
 -- The keys in order, with one line more: they hold the list's lines, and a list that meets no refusal has at most one for each key. Assumes nothing.
 use mathlib.Core.Path.{◌≡◌, refl, sym, ap, ◌∙◌, subst}
-use mathlib.Core.Bool.{Bool, true, false, ◌||◌, or-false}
+use mathlib.Core.Bool.{true, false, ◌||◌, or-false}
+use Rattle.std.proofs.Math.Bool.{or-true}
 use mathlib.Core.List.{List, [], ◌∷◌, ◌++◌, map}
 use mathlib.Core.Option.{some}
-use Prim.Native.Nat.{ℕ, zero, suc, ◌+◌, ◌<◌, ◌≤◌}
+use Prim.Native.Nat.{ℕ, zero, suc, ◌<◌, ◌≤◌}
 use native.Mathlib.Omega.{arith}
 use lib.Dec.{T, eqb, eqb→eq, eqb_refl}
 use lib.Ieee.{Float, nan, binary64, fits, le}
-use lib.Ieee.Positive.{positive}
-use lib.ListN.{length, get_or, take, drop, set, replicate, length-replicate, length-map, length-set, length-append}
+use lib.ListN.{length, get_or, set, replicate, length-replicate, length-map, length-set, length-append}
 use Rattle.std.specs.List.{insert}
 use lib.Seq.{get_or-set_same, get_or-set_other}
 use Rattle.arithmetic.specs.Note.{is_note}
@@ -22,10 +22,7 @@ use Rattle.plans.specs.PlanInternal.{Accepted, Holds, Rises, line_at, lines_of, 
 use Rattle.channels.proofs.ListLaws.{outcome, passed, failed, true→T, T→false, false→T, not_false, or_left, Each-map, Each-image, at_member, pigeonhole}
 use Rattle.channels.proofs.ListLaws.{below, below_length, below_member}
 use Rattle.channels.proofs.RecordNumbers.{place_parts}
-use Rattle.plans.proofs.Rising.{Sorted, append, Each-rising, length_rising, rising_sorted, rising_snoc}
-
-abbrev pub Positive : Line → Type 0
-Positive l = T (positive l.detuning)
+use Rattle.plans.proofs.Rising.{Positive, Sorted, eqb_other, others_of, append, Each-rising, length_rising, rising_sorted, rising_snoc}
 
 -- ---- lists with one element more
 pub Each-snoc : {A : Type 0} (P : A → Type 0) (l : List A) (x : A) → Each P l → P x → Each P (l ++ (x ∷ []))
@@ -41,16 +38,10 @@ distinct_snoc [] m d h = (tt, tt)
 distinct_snoc (n ∷ l) m d h = elim (outcome (eqb n m)) [
   | passed e ↦ absurd (not_false h (or_left (eqb n m) (member m l) (true→T e)))
   | failed e ↦ (
-    false→T (member_snoc n m l ∙ rw (T→false (member n l) d.0) (other e)),
+    false→T (member_snoc n m l ∙ rw (T→false (member n l) d.0) (eqb_other n m e)),
     distinct_snoc l m d.1 (rw e at h),
   )
 ]
-  where
-    other : eqb n m ≡ false → eqb m n ≡ false
-    other e = elim (outcome (eqb m n)) [
-      | passed u ↦ absurd (not_false e (subst (λ (j : ℕ). T (eqb n j)) (sym (eqb→eq m n (true→T u))) (eqb_refl n)))
-      | failed u ↦ u
-    ]
 
 pub keys_snoc : (lines : List Line) (x : Line) → keys (lines ++ (x ∷ [])) ≡ keys lines ++ (x.key ∷ [])
 keys_snoc [] x = refl
@@ -126,25 +117,18 @@ before_kept cells ds k d xs h = ap (λ b. insert xs b k) (same xs h)
     same [] h = refl
     same (y ∷ xs) h = rw (get_or-set_other ds k y d nan (differs y k h.0), same xs h.1)
 
-pub others_of : (k : ℕ) (lines : List Line) → member k (keys lines) ≡ false → Each (λ (l : Line). eqb l.key k ≡ false) lines
-others_of k [] h = tt
-others_of k (x ∷ lines) h = elim (outcome (eqb x.key k)) [
-  | passed e ↦ absurd (not_false h (or_left (eqb x.key k) (member k (keys lines)) (true→T e)))
-  | failed e ↦ (e, others_of k lines (rw e at h))
-]
-
 -- no line
-pub zeros_at : (n k : ℕ) → get_or {A = ℕ} (replicate n 0) k 0 ≡ 0
-zeros_at zero k = refl
-zeros_at (suc n) zero = refl
-zeros_at (suc n) (suc k) = zeros_at n k
+pub replicated_at : {A : Type 0} (a : A) (n k : ℕ) → get_or (replicate n a) k a ≡ a
+replicated_at a zero k = refl
+replicated_at a (suc n) zero = refl
+replicated_at a (suc n) (suc k) = replicated_at a n k
 
 pub holds_none : (order : ArrayVec ℕ) (d : Float) → order.items ≡ []
     → Holds (record { order = order; records = replicate key_count 0; detunings = replicate key_count d }) []
 unfolding lines_of rising
 holds_none order d e = record {
   ordered = rw e;
-  marked = λ k. ap (λ (c : ℕ). is_held (place_of c)) (zeros_at key_count k) ∙ none_held;
+  marked = λ k. ap (λ (c : ℕ). is_held (place_of c)) (replicated_at 0 key_count k) ∙ none_held;
   long = record {
     records = length-replicate {A = ℕ} key_count 0;
     detunings = length-replicate key_count d;
@@ -217,16 +201,12 @@ module _ (s : SortedKeys) (order : ArrayVec ℕ) (cell : ℕ) (x : Line) (lines 
     | passed e ↦
         subst (λ (i : ℕ). is_held (place_of (get_or cells i 0)) ≡ true) (eqb→eq k j (true→T e))
         (rw (get_or-set_same s.records k cell 0 (omega (arith, h.long.records))) held)
-        ∙ sym (rw (keys_snoc lines x, member_snoc j k (keys lines), e) (or_yes (member j (keys lines))))
+        ∙ sym (rw (keys_snoc lines x, member_snoc j k (keys lines), e) (or-true (member j (keys lines))))
     | failed e ↦
         ap (λ (c : ℕ). is_held (place_of c)) (get_or-set_other s.records k j cell 0 (λ u. not_false e (subst (λ (i : ℕ). T (eqb k i)) (sym u) (eqb_refl k))))
         ∙ h.marked j
         ∙ sym (rw (keys_snoc lines x, member_snoc j k (keys lines), e) (or-false (member j (keys lines))))
   ]
-    where
-      or_yes : (b : Bool) → b || true ≡ true
-      or_yes true = refl
-      or_yes false = refl
 
   pub holds_more : Holds (record { order = order; records = cells; detunings = ds }) (lines ++ (x ∷ []))
   unfolding lines_of

@@ -1,5 +1,5 @@
 -- What the private functions of a plan yield. No public contract cites it. Assumes nothing.
-use Rattle.std.specs.Prelude.{◌≡◌, true, false, cond, ◌&&◌, List, [], ◌∷◌, ◌++◌, map, ℕ, zero, suc, ◌+◌, ◌-◌, ◌<◌, ◌≤◌, T, eqb, leb, ℤ, pos, negsuc, length, get_or, take, drop, Float, Result, Ok, Err}
+use Rattle.std.specs.Prelude.{◌≡◌, true, false, cond, ◌&&◌, List, [], ◌∷◌, map, ℕ, zero, suc, ◌+◌, ◌-◌, ◌<◌, ◌≤◌, T, eqb, leb, ℤ, pos, negsuc, length, get_or, Float, Result, Ok, Err}
 use Rattle.std.specs.Prelude.{Option as Optional, Some, None, ◌/◌, insert, filter, All, Contains, ◌≤ℤ◌}
 use Rattle.std.specs.List.{filter_map}
 use Rattle.std.proofs.Math.Option.{Option, none, some}

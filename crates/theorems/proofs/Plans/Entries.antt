@@ -26,7 +26,7 @@ use Rattle.channels.proofs.ListLaws.{outcome, passed, failed, true→T, or_cases
 use Rattle.plans.proofs.Rising.{rising_Each}
 use Rattle.plans.proofs.Plan.{channel, below_count, used}
 use Rattle.plans.proofs.Seats.{seated_lines, unseated}
-use Rattle.plans.proofs.SortedKeys.{others_of}
+use Rattle.plans.proofs.Rising.{others_of}
 use Rattle.plans.proofs.Held.{at_key, of_kept, zip}
 use Rattle.plans.proofs.Carried.{last_of, heard, entry_is}
 use Rattle.plans.proofs.PlanEntries.{entry_each}

@@ -1,13 +1,13 @@
 -- `placing::place_keys` meets its contract: each turn is one of the pass. Assumes nothing.
-use Rattle.std.proofs.Common.{Option as Optional, Some, ℤ, zero, suc, replicate, ◌≡◌, ℕ, ◌+◌, ◌-◌, ◌<◌, ◌≤◌, List, ◌∷◌, true, length, get_or, map, take, drop, set, refl, sym, ap, ◌∙◌, subst, arith}
+use Rattle.std.proofs.Common.{Option as Optional, Some, ℤ, ◌≡◌, ℕ, ◌+◌, ◌-◌, ◌<◌, ◌≤◌, List, ◌∷◌, true, length, get_or, map, drop, set, refl, sym, ap, ◌∙◌, subst, arith}
 use lib.ListN.{length-map, length-replicate}
 use lib.Ieee.{Float, nan}
 use Rattle.arithmetic.specs.Note.{is_note}
 use Rattle.channels.specs.Lists.{Each}
 use Rattle.channels.specs.declared.keys.Place.{Place}
-use Rattle.channels.specs.Places.{note_of, place_of, cell_of, place}
+use Rattle.channels.specs.Places.{place_of, cell_of, place}
 use Rattle.std.proofs.lemmas.List.{drop_more}
-use lib.ListN.{drop_of_length-le, length-take}
+use lib.ListN.{drop_of_length-le}
 use Rattle.channels.proofs.RecordNumbers.{place_record}
 use Rattle.plans.specs.declared.placing.Run.{Run}
 use Rattle.plans.specs.declared.sorted_keys.SortedKeys.{SortedKeys}
@@ -17,15 +17,10 @@ use Rattle.plans.specs.Plan.{records_in, records_of}
 use Rattle.plans.specs.PlanInternal.{Ready, Seats, channels_with, line_at, lines_of, slot_of}
 use Rattle.plans.proofs.Records.{noted_found, noted_at}
 use Rattle.plans.proofs.PlanBlocks.{lines_kept}
-use Rattle.plans.proofs.SortedKeys.{accepted_few}
+use Rattle.plans.proofs.SortedKeys.{accepted_few, replicated_at}
 use Rattle.plans.proofs.Pass.{Pass, no_run, some_channel, one_more_channel, pass_begins, pass_next, pass_ends, used_few, own_lines, each_drop}
 use Rattle.plans.proofs.placing.place_keys.Goals as goal
 use Rattle.plans.proofs.placing.place_keys.Goals.{In-loop-key}
-
-none_used : (n k : ℕ) → (get_or (replicate n (record { used = 0; last = 0 })) k no_run).used ≡ 0
-none_used zero k = refl
-none_used (suc n) zero = refl
-none_used (suc n) (suc k) = none_used n k
 
 -- the keys, whose order is lent as a list
 abbrev in_list : SortedKeys → List ℕ → SortedKeys
@@ -41,7 +36,7 @@ loop-key-init c =
     let ks = c.as_slice-key-items.result.now in
     let r = ready_in_list s ks c.as_slice-key-items.ensures.value c.requires in
     pass_begins c.args.by (map (line_at s.records s.detunings) ks) r.ok r.ordered s.detunings s.records _
-    (own_lines s.records s.detunings ks).0 r.no_other (none_used 801) r.long.records
+    (own_lines s.records s.detunings ks).0 r.no_other (λ k. ap (λ (r : Run). r.used) (replicated_at no_run 801 k)) r.long.records
     (length-replicate {A = Run} 801 no_run)
 
 -- ---- in a turn

@@ -1,5 +1,5 @@
 -- `AotTuningModel::next_detuning` meets its contract: the least group has its detuning, or the channel has none. Assumes nothing.
-use Rattle.std.proofs.Common.{◌≡◌, ℕ, Bool, List, None, map, ltb, length, sym, ap, subst, ◌∙◌, arith}
+use Rattle.std.proofs.Common.{◌≡◌, ℕ, Bool, List, map, ltb, length, sym, ap, subst, ◌∙◌, arith}
 use mir.Syntax.{w32}
 use mir.Val.{SFits}
 use mir.Facts.{to_z-of_z}

@@ -1,10 +1,10 @@
 -- `SortedKeys::add_all` meets its contract, line by line. Assumes nothing.
-use Rattle.std.proofs.Common.{◌≡◌, true, [], add-one, length, refl, sym, ap, ◌∙◌, arith}
+use Rattle.std.proofs.Common.{◌≡◌, true, [], add-one, length, ◌∙◌, arith}
 use Rattle.arithmetic.specs.Outcome.{refused, value}
 use Rattle.arithmetic.specs.Refusal.{lists_unequal}
 use Rattle.plans.specs.KeyLine.{key_line}
 use Rattle.plans.specs.PlanLists.{line_by_line}
-use Rattle.plans.proofs.Lines.{begins, checked_refused, ended, not_tested, tested, turn_next, turn_refused, turn_twice}
+use Rattle.plans.proofs.Lines.{checked_refused, ended, tested, turn_next, turn_refused, turn_twice}
 use Rattle.plans.proofs.sorted_keys.SortedKeys.add_all.Given.{Over}
 use Rattle.plans.proofs.sorted_keys.SortedKeys.add_all.Goals as goal
 use Rattle.plans.proofs.sorted_keys.SortedKeys.add_all.Goals.{In_ok-n}
