@@ -1,6 +1,6 @@
 -- The check of a plan's lists, line by line, at the line where a loop stands. Assumes nothing.
 use mathlib.Core.Path.{◌≡◌, refl, sym, ap, ◌∙◌}
-use mathlib.Core.Bool.{Bool, true, false, ◌&&◌}
+use mathlib.Core.Bool.{true, false, ◌&&◌}
 use mathlib.Core.List.{List, [], ◌∷◌, ◌++◌}
 use Prim.Native.Nat.{ℕ, zero, suc, ◌<◌, ◌≤◌}
 use native.Mathlib.Omega.{arith}
@@ -35,25 +35,6 @@ use Rattle.plans.specs.declared.sorted_keys.SortedKeys.{SortedKeys}
 use Rattle.plans.specs.PlanInternal.{Accepted, Adds, Checked, Holds}
 use Rattle.channels.proofs.ListLaws.{true→T, outcome, passed, failed}
 use Rattle.plans.proofs.SortedKeys.{accepted_snoc, accepted_nil}
-
--- ---- the lists' lengths
-
-module _ {A : Type 0} (n : ℕ) (b : Bool) (o : Outcome A) where
-  -- of what is refused unless the test holds, a value says that it does
-  pub tested : (x : A) → value x ≡ (refuse n unless b then o) → (b ≡ true) × (value x ≡ o)
-  tested x e = go b e
-    where
-      go : (t : Bool) → value x ≡ (refuse n unless t then o) → (t ≡ true) × (value x ≡ o)
-      go true e = (refl, e)
-      go false e = absurd (let z : ◌≡◌ {A = ℕ} 0 1 = cc in omega arith)
-
-  -- and a refusal that it does not, where nothing else is refused
-  pub not_tested : (x : A) (k : ℕ) → o ≡ value x → refused k ≡ (refuse n unless b then o) → (b ≡ false) × (k ≡ n)
-  not_tested x k v e = go b e
-    where
-      go : (t : Bool) → refused k ≡ (refuse n unless t then o) → (t ≡ false) × (k ≡ n)
-      go true e = absurd (let f : refused k ≡ value x = e ∙ v in let z : ◌≡◌ {A = ℕ} 0 1 = cc in omega arith)
-      go false e = (refl, cc)
 
 -- ---- a turn of a check: the lines so far are held and were accepted, and the lines that are left decide
 pub record Turn (o : Outcome (List Line)) (s : SortedKeys) (rest : List (Outcome Line)) : Type 0 where

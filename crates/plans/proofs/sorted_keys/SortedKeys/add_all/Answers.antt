@@ -1,10 +1,11 @@
 -- `SortedKeys::add_all` meets its contract, line by line. Assumes nothing.
 use Rattle.std.proofs.Common.{◌≡◌, true, [], add-one, length, ◌∙◌, arith}
-use Rattle.arithmetic.specs.Outcome.{refused, value}
+use Rattle.arithmetic.specs.Outcome.{refused}
+use Rattle.arithmetic.proofs.Outcomes.{passed}
 use Rattle.arithmetic.specs.Refusal.{lists_unequal}
 use Rattle.plans.specs.KeyLine.{key_line}
 use Rattle.plans.specs.PlanLists.{line_by_line}
-use Rattle.plans.proofs.Lines.{checked_refused, ended, tested, turn_next, turn_refused, turn_twice}
+use Rattle.plans.proofs.Lines.{checked_refused, ended, turn_next, turn_refused, turn_twice}
 use Rattle.plans.proofs.sorted_keys.SortedKeys.add_all.Given.{Over}
 use Rattle.plans.proofs.sorted_keys.SortedKeys.add_all.Goals as goal
 use Rattle.plans.proofs.sorted_keys.SortedKeys.add_all.Goals.{In_ok-n}
@@ -12,11 +13,7 @@ use Rattle.plans.proofs.sorted_keys.SortedKeys.add_all.Goals.{In_ok-n}
 -- the lists are equally long
 module _ (g : Over) (c : In_ok-n g) where
   counted : (g.L.TuningLists.equally_long c.args.lists.now ≡ true) × (c.in_ok-n.n ≡ length (g.L.TuningLists.rows c.args.lists.now))
-  counted =
-      let s = c.args.lists.now in
-      let l = g.L.TuningLists in
-      let t = tested lists_unequal (l.equally_long s) (value (length (l.rows s))) c.in_ok-n.n c.in_ok-n.ensures in
-      (t.0, let e = t.1 in cc)
+  counted = passed lists_unequal (g.L.TuningLists.equally_long c.args.lists.now) (length (g.L.TuningLists.rows c.args.lists.now)) c.in_ok-n.ensures
 
   whole : g.L.TuningLists.lines c.args.lists.now ≡ line_by_line [] (g.L.TuningLists.rows c.args.lists.now)
   whole = g.met.L.TuningLists.lines_are c.args.lists.now ∙ rw counted.0
