@@ -12,6 +12,7 @@ use lib.ListN.{length}
 use Rattle.arithmetic.specs.Outcome.{Outcome, value, refused, refuse◌unless◌then◌}
 use Rattle.arithmetic.specs.Note.{is_note}
 use Rattle.arithmetic.specs.Nearest.{nearest_rule}
+use Rattle.arithmetic.proofs.Outcomes.{no_value}
 use Rattle.channels.specs.Lists.{Each, member}
 use Rattle.plans.specs.Line.{Line}
 use Rattle.plans.specs.PlanLists.{key_count, is_planned, keys, with_key, note_line, note_lines, pitch_line, pitch_lines, line_by_line, note_lists, pitch_lists}
@@ -20,19 +21,15 @@ use Rattle.channels.proofs.ListLaws.{outcome, passed, failed}
 use Rattle.plans.proofs.SortedKeys.{accepted_snoc, accepted_nil}
 use Rattle.plans.proofs.Lines.{Sound, planned_positive, nearest_sound}
 
--- no refusal is a value
-pub never : {A : Type 0} {X : Type 0} (n : ℕ) (a : A) → refused n ≡ value a → X
-never n a e = absurd (let z : ◌≡◌ {A = ℕ} 0 1 = cc in omega arith)
-
 -- the lines that are accepted, where each that passes by itself is sound
 lines_accepted : (before : List Line) (rest : List (Outcome Line)) (lines : List Line) → Accepted before
     → Each (λ (o : Outcome Line). (l : Line) → o ≡ value l → Sound l) rest
     → line_by_line before rest ≡ value lines → Accepted lines
 unfolding line_by_line
 lines_accepted before [] lines ok h e = let q : before ≡ lines = cc in subst Accepted q ok
-lines_accepted before (refused n ∷ rest) lines ok h e = never n lines e
+lines_accepted before (refused n ∷ rest) lines ok h e = no_value lines n (sym e)
 lines_accepted before (value l ∷ rest) lines ok h e = elim (outcome (member l.key (keys before))) [
-  | passed m ↦ never 5 lines (rw m at e)
+  | passed m ↦ no_value lines 5 (sym (rw m at e))
   | failed m ↦
       let s = h.0 l refl in
       lines_accepted (before ++ (l ∷ [])) rest lines (accepted_snoc before l ok m s.byte s.note s.above s.fitting) h.1 (rw m at e)
@@ -41,16 +38,16 @@ lines_accepted before (value l ∷ rest) lines ok h e = elim (outcome (member l.
 -- a list's own refusal, 12, stands before its lines
 pub of_equal : (n : ℕ) (test : Bool) (o : Outcome (List Line)) (lines : List Line) → (refuse n unless test then o) ≡ value lines → o ≡ value lines
 of_equal n true o lines e = e
-of_equal n false o lines e = never n lines e
+of_equal n false o lines e = no_value lines n (sym e)
 
 -- ---- lists of notes
 
 note_sound : (k : ℕ) (z : ℤ) (d : Float) → k < key_count → T (fits binary64 d) → (l : Line) → note_line k z d ≡ value l → Sound l
 unfolding note_line
 note_sound k z d b f l e = elim (outcome (is_note z)) [
-  | failed u ↦ never 4 l (rw u at e)
+  | failed u ↦ no_value l 4 (sym (rw u at e))
   | passed u ↦ elim (outcome (is_planned d)) [
-    | failed v ↦ never 3 l (rw (u, v) at e)
+    | failed v ↦ no_value l 3 (sym (rw (u, v) at e))
     | passed v ↦
         let x : Line = record { key = k; note = z; detuning = d } in
         let q : value x ≡ value l = rw (u, v) at e in
@@ -83,7 +80,7 @@ unfolding pitch_line
 pitch_sound k hz b l e = go (nearest_rule hz) refl e
   where
     go : (o : Outcome (ℤ × Float)) → nearest_rule hz ≡ o → with_key k o ≡ value l → Sound l
-    go (refused n) p e = never n l e
+    go (refused n) p e = no_value l n (sym e)
     go (value x) p e =
         let y : Line = record { key = k; note = x.0; detuning = x.1 } in
         let q : value y ≡ value l = e in

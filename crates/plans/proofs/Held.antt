@@ -31,6 +31,7 @@ use Rattle.plans.proofs.Seats.{kept, seated_lines, unseated}
 use Rattle.plans.proofs.Records.{each_at, at_each}
 use Rattle.plans.proofs.Models.{out_counts}
 use Rattle.plans.proofs.Unique.{le_antisym}
+use Rattle.plans.proofs.PlanEntries.{heard_each, heard_sorted}
 use Rattle.plans.proofs.Carried.{last_of, heard, entry_is, no_entry, largest}
 
 -- ---- lists
@@ -219,14 +220,11 @@ module _ (by : GroupBy) (all : List Line) (ok : Accepted all) (rs : List KeyReco
     all_heard : Each Heard (heard by all c g)
     all_heard =
         let k = keep (of_group by g) (rising all) in
-        zip3 hear (keep up_to k) (Each-keep Fact up_to k (Each-keep Fact (of_group by g) (rising all) (Each-rising Fact all facts)))
+        zip3 hear (keep up_to k) (heard_each by all ok Fact facts c g)
         (Each-keep (λ (l : Line). of_group by g l ≡ true) up_to k (kept (of_group by g) (rising all))) (kept up_to k)
 
     all_positive : Each (λ (l : Line). T (positive l.detuning)) (heard by all c g)
-    all_positive = Each-map (λ l h. h.fact_of.above) (heard by all c g) all_heard
-
-    in_order_lem : Pairwise UpTo (heard by all c g)
-    in_order_lem = Pairwise-keep UpTo up_to (keep (of_group by g) (rising all)) (Pairwise-keep UpTo (of_group by g) (rising all) (sorted by all ok))
+    all_positive = heard_each by all ok (λ (l : Line). T (positive l.detuning)) ok.detunings c g
 
     none_counts : heard by all c g ≡ [] → highest by c g rs ≡ none
     none_counts e = none_of (highest by c g rs)
@@ -263,7 +261,7 @@ module _ (by : GroupBy) (all : List Line) (ok : Accepted all) (rs : List KeyReco
         go [] e = none_counts e
         go (x ∷ l) e =
             let z = largest Heard x l (subst (Each Heard) e all_heard) (subst (Each (λ (y : Line). T (positive y.detuning))) e all_positive)
-            (subst (Pairwise UpTo) e in_order_lem) in
+            (subst (Pairwise UpTo) e (heard_sorted by all ok c g)) in
             largest_counts z.0 z.1 (subst (Each (λ (y : Line). T (le y.detuning z.0.detuning))) (sym e) z.4) ∙ sym z.3
 
     -- the detunings of the model are the walk's entries

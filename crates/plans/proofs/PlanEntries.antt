@@ -25,12 +25,12 @@ use Rattle.plans.proofs.Plan.{channel, sorted}
 use Rattle.plans.proofs.Carried.{last_of, heard, entry_is, no_entry, largest}
 
 module _ (kind : GroupBy) (lines : List Line) (ok : Accepted lines) where
-  heard_each : (P : Line → Type 0) → Each P lines → (c : ℕ) (g : ℤ) → Each P (heard kind lines c g)
+  pub heard_each : (P : Line → Type 0) → Each P lines → (c : ℕ) (g : ℤ) → Each P (heard kind lines c g)
   heard_each P h c g =
       Each-keep P (λ (l : Line). leb (channel kind lines l.key) c) (keep (of_group kind g) (rising lines))
       (Each-keep P (of_group kind g) (rising lines) (Each-rising P lines h))
 
-  heard_sorted : (c : ℕ) (g : ℤ) → Pairwise UpTo (heard kind lines c g)
+  pub heard_sorted : (c : ℕ) (g : ℤ) → Pairwise UpTo (heard kind lines c g)
   heard_sorted c g =
       Pairwise-keep UpTo (λ (l : Line). leb (channel kind lines l.key) c) (keep (of_group kind g) (rising lines))
       (Pairwise-keep UpTo (of_group kind g) (rising lines) (sorted kind lines ok))
