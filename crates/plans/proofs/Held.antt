@@ -22,11 +22,11 @@ use Rattle.plans.specs.PlanLists.{key_count, keys}
 use Rattle.plans.specs.Walk.{count, seat, entry}
 use Rattle.plans.specs.Plan.{KeyRecord, nobody, is_in, key_in, larger, counts, highest}
 use Rattle.plans.specs.PlanInternal.{Accepted, Seats}
-use Rattle.channels.proofs.ListLaws.{outcome, passed, failed, T→true, true→T, not_false, or_cases, Each-map, Each-keep, Pairwise, Pairwise-keep}
+use Rattle.channels.proofs.ListLaws.{outcome, passed, failed, T→true, true→T, not_false, or_cases, Each-map, Each-keep, Pairwise}
 use mathlib.Core.Logic.{inl, inr}
 use Rattle.plans.proofs.Joins.{le_total, le_refl_positive}
-use Rattle.plans.proofs.Rising.{UpTo, Each-rising, others_of, rising_Each}
-use Rattle.plans.proofs.Plan.{channel, sorted, below_count}
+use Rattle.plans.proofs.Rising.{UpTo, others_of, rising_Each}
+use Rattle.plans.proofs.Plan.{channel, below_count}
 use Rattle.plans.proofs.Seats.{kept, seated_lines, unseated}
 use Rattle.plans.proofs.Records.{each_at, at_each}
 use Rattle.plans.proofs.Models.{out_counts}

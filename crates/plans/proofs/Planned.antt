@@ -12,7 +12,6 @@ use lib.ListN.{length, get_or}
 use Rattle.arithmetic.specs.Outcome.{Outcome, value}
 use Rattle.arithmetic.specs.Note.{is_note}
 use Rattle.plans.specs.declared.aot.GroupBy.{GroupBy}
-use Rattle.plans.specs.declared.aot.GroupBy.TheVariants.{Note}
 use Rattle.channels.specs.Lists.{Each, Distinct, member}
 use Rattle.plans.specs.Line.{Line, rising}
 use Rattle.plans.specs.PlanLists.{key_count, keys}
@@ -25,7 +24,6 @@ use Rattle.plans.specs.PlanInternal.{Accepted, Checked, Fine, Holds, Ready, line
 use Rattle.plans.specs.Plan.{Model, Answer, tuned, untuned, empty, holding, planned, Smallest}
 use Rattle.channels.proofs.ListLaws.{Pairwise, false→T}
 use Rattle.plans.proofs.Rising.{Other, Each-rising, rising_Each, length_rising, rising_sorted, rising_of_sorted, rising_apart, distinct_apart, absent}
-use Rattle.plans.proofs.Plan.{different}
 use Rattle.channels.proofs.RecordNumbers.{place_held}
 use Rattle.plans.proofs.Models.{same_model}
 use Rattle.plans.proofs.Demand3.{demand_3}
