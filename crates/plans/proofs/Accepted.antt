@@ -18,11 +18,15 @@ use Rattle.plans.specs.PlanLists.{key_count, is_planned, keys, with_key, note_li
 use Rattle.plans.specs.PlanInternal.{Accepted}
 use Rattle.channels.proofs.ListLaws.{outcome, passed, failed}
 use Rattle.plans.proofs.SortedKeys.{accepted_snoc, accepted_nil}
-use Rattle.plans.proofs.Lines.{Sound, planned_positive, nearest_sound}
+use Rattle.plans.proofs.Lines.{Sound, note_lines_each, pitch_lines_each, planned_positive, nearest_sound}
+
+-- a line that passes by itself is sound
+abbrev SoundIfValue : Outcome Line → Type 0
+SoundIfValue o = (l : Line) → o ≡ value l → Sound l
 
 -- the lines that are accepted, where each that passes by itself is sound
 lines_accepted : (before : List Line) (rest : List (Outcome Line)) (lines : List Line) → Accepted before
-    → Each (λ (o : Outcome Line). (l : Line) → o ≡ value l → Sound l) rest
+    → Each SoundIfValue rest
     → line_by_line before rest ≡ value lines → Accepted lines
 unfolding line_by_line
 lines_accepted before [] lines ok h e = let q : before ≡ lines = cc in subst Accepted q ok
@@ -55,21 +59,13 @@ note_sound k z d b f l e = elim (outcome (is_note z)) [
   ]
 ]
 
-note_lines_sound : (ks : List ℕ) (ns : List ℤ) (ds : List Float) → Each (λ (k : ℕ). k < key_count) ks → Each (λ (d : Float). T (fits binary64 d)) ds
-    → Each (λ (o : Outcome Line). (l : Line) → o ≡ value l → Sound l) (note_lines ks ns ds)
-unfolding note_lines
-note_lines_sound [] ns ds b f = tt
-note_lines_sound (k ∷ ks) [] ds b f = tt
-note_lines_sound (k ∷ ks) (z ∷ ns) [] b f = tt
-note_lines_sound (k ∷ ks) (z ∷ ns) (d ∷ ds) b f = (note_sound k z d b.0 f.0, note_lines_sound ks ns ds b.1 f.1)
-
 -- Lists of keys that are bytes, notes, and detunings that are f64s.
 pub notes_accepted : (ks : List ℕ) (ns : List ℤ) (ds : List Float) (lines : List Line) → Each (λ (k : ℕ). k < key_count) ks
     → Each (λ (d : Float). T (fits binary64 d)) ds
     → note_lists ks ns ds ≡ value lines → Accepted lines
 unfolding note_lists
 notes_accepted ks ns ds lines b f e =
-    lines_accepted [] (note_lines ks ns ds) lines accepted_nil (note_lines_sound ks ns ds b f)
+    lines_accepted [] (note_lines ks ns ds) lines accepted_nil (note_lines_each SoundIfValue note_sound ks ns ds b f)
     (of_equal 12 (eqb (length ns) (length ks) && eqb (length ds) (length ks)) (line_by_line [] (note_lines ks ns ds)) lines e)
 
 -- ---- lists of pitches
@@ -86,17 +82,10 @@ pitch_sound k hz b l e = go (nearest_rule hz) refl e
         let r : y ≡ l = cc in
         subst Sound r (nearest_sound k hz x.0 x.1 b (sym p))
 
-pitch_lines_sound : (ks : List ℕ) (hzs : List Float) → Each (λ (k : ℕ). k < key_count) ks
-    → Each (λ (o : Outcome Line). (l : Line) → o ≡ value l → Sound l) (pitch_lines ks hzs)
-unfolding pitch_lines
-pitch_lines_sound [] hzs b = tt
-pitch_lines_sound (k ∷ ks) [] b = tt
-pitch_lines_sound (k ∷ ks) (hz ∷ hzs) b = (pitch_sound k hz b.0, pitch_lines_sound ks hzs b.1)
-
 -- Lists of keys that are bytes and pitches, any f64s.
 pub pitches_accepted : (ks : List ℕ) (hzs : List Float) (lines : List Line) → Each (λ (k : ℕ). k < key_count) ks → pitch_lists ks hzs ≡ value lines
     → Accepted lines
 unfolding pitch_lists
 pitches_accepted ks hzs lines b e =
-    lines_accepted [] (pitch_lines ks hzs) lines accepted_nil (pitch_lines_sound ks hzs b)
+    lines_accepted [] (pitch_lines ks hzs) lines accepted_nil (pitch_lines_each SoundIfValue pitch_sound ks hzs b)
     (of_equal 12 (eqb (length hzs) (length ks)) (line_by_line [] (pitch_lines ks hzs)) lines e)

@@ -26,7 +26,7 @@ use Rattle.arithmetic.specs.Pitch.{is_pitch, detuning_of}
 use Rattle.arithmetic.specs.Nearest.{nearest_rule, nearest_note}
 use Rattle.arithmetic.proofs.Bounds.{detuning_is, planned_is}
 use Rattle.arithmetic.proofs.Nearest.{nearest_is_note, nearest_detuning}
-use Rattle.channels.specs.Lists.{member}
+use Rattle.channels.specs.Lists.{Each, member}
 use Rattle.plans.specs.Line.{Line}
 use Rattle.plans.specs.Entries.{entry_of}
 use Rattle.plans.specs.PlanLists.{key_count, is_planned, note_line, pitch_line, note_lines, pitch_lines, keys, line_by_line}
@@ -162,6 +162,22 @@ pitch_row (k ∷ ks) [] zero = refl
 pitch_row (k ∷ ks) [] (suc i) = sym (short ks i)
 pitch_row (k ∷ ks) (hz ∷ hzs) zero = refl
 pitch_row (k ∷ ks) (hz ∷ hzs) (suc i) = pitch_row ks hzs i
+
+-- what holds of each line by itself
+pub note_lines_each : (P : Outcome Line → Type 0) {B : ℕ → Type 0} {F : Float → Type 0} → ((k : ℕ) (z : ℤ) (d : Float) → B k → F d → P (note_line k z d))
+    → (ks : List ℕ) (ns : List ℤ) (ds : List Float) → Each B ks → Each F ds → Each P (note_lines ks ns ds)
+unfolding note_lines
+note_lines_each P h [] ns ds b f = tt
+note_lines_each P h (k ∷ ks) [] ds b f = tt
+note_lines_each P h (k ∷ ks) (z ∷ ns) [] b f = tt
+note_lines_each P h (k ∷ ks) (z ∷ ns) (d ∷ ds) b f = (h k z d b.0 f.0, note_lines_each P h ks ns ds b.1 f.1)
+
+pub pitch_lines_each : (P : Outcome Line → Type 0) {B : ℕ → Type 0} → ((k : ℕ) (hz : Float) → B k → P (pitch_line k hz))
+    → (ks : List ℕ) (hzs : List Float) → Each B ks → Each P (pitch_lines ks hzs)
+unfolding pitch_lines
+pitch_lines_each P h [] hzs b = tt
+pitch_lines_each P h (k ∷ ks) [] b = tt
+pitch_lines_each P h (k ∷ ks) (hz ∷ hzs) b = (h k hz b.0, pitch_lines_each P h ks hzs b.1)
 
 -- equally long lists have a line for each key
 note_lines_long : (ks : List ℕ) (ns : List ℤ) (ds : List Float) → length ns ≡ length ks → length ds ≡ length ks → length (note_lines ks ns ds) ≡ length ks

@@ -21,9 +21,10 @@ use Rattle.plans.specs.Plan.{Model, planned}
 use Rattle.channels.specs.TuningValue.{sent_as}
 use Rattle.theorems.specs.Bounds.{value_of, StepBound}
 use Rattle.channels.specs.declared.tuning_value.TuningKind.{TuningKind}
-use Rattle.channels.proofs.ListLaws.{outcome, passed, failed}
+use Rattle.channels.proofs.ListLaws.{outcome, passed, failed, Each-all}
 use Rattle.arithmetic.proofs.Outcomes.{no_value}
 use Rattle.plans.proofs.Accepted.{of_equal}
+use Rattle.plans.proofs.Lines.{pitch_lines_each}
 use Rattle.plans.proofs.SortedKeys.{Each-snoc}
 use Rattle.plans.proofs.PlanEntries.{planned_each}
 use Rattle.theorems.proofs.Values.Bounds.{sent_law}
@@ -56,16 +57,12 @@ pitch_close k hz l e = elim (outcome (is_pitch hz)) [
   | failed p ↦ no_value l 1 (sym (rw p at e))
 ]
 
-pitch_lines_close : (ks : List ℕ) (hzs : List Float) → Each (λ (o : Outcome Line). (l : Line) → o ≡ value l → Close l.detuning) (pitch_lines ks hzs)
-unfolding pitch_lines
-pitch_lines_close [] hzs = tt
-pitch_lines_close (k ∷ ks) [] = tt
-pitch_lines_close (k ∷ ks) (hz ∷ hzs) = (λ l e. pitch_close k hz l e, pitch_lines_close ks hzs)
-
 pitches_close : (ks : List ℕ) (hzs : List Float) (lines : List Line) → pitch_lists ks hzs ≡ value lines → Each (λ (l : Line). Close l.detuning) lines
 unfolding pitch_lists
 pitches_close ks hzs lines e =
-    lines_each (λ (l : Line). Close l.detuning) [] (pitch_lines ks hzs) lines tt (pitch_lines_close ks hzs)
+    lines_each (λ (l : Line). Close l.detuning) [] (pitch_lines ks hzs) lines tt
+    (pitch_lines_each (λ (o : Outcome Line). (l : Line) → o ≡ value l → Close l.detuning) (λ k hz b. pitch_close k hz) ks hzs
+    (Each-all (λ (k : ℕ). Unit {0}) (λ k. tt) ks))
     (of_equal 12 (eqb (length hzs) (length ks)) (line_by_line [] (pitch_lines ks hzs)) lines e)
 
 -- ---- the theorem
