@@ -2,7 +2,7 @@
 -- the plan has one, and no other channel has a key. Assumes nothing.
 use mathlib.Core.Path.{◌≡◌, refl, sym, ap, ◌∙◌, subst}
 use mathlib.Core.Logic.{inl, inr}
-use mathlib.Core.Bool.{Bool, true, false, cond}
+use mathlib.Core.Bool.{true}
 use mathlib.Core.List.{List, [], ◌∷◌, map}
 use mathlib.Core.Option.{Option, none, some}
 use Prim.Native.Nat.{ℕ, ◌<◌}
@@ -12,7 +12,6 @@ use lib.Dec.{T, eqb, eqb→eq, leb}
 use lib.IntN.{ℤ, pos}
 use lib.Ieee.{Float}
 use lib.Ieee.Positive.{positive}
-use lib.ListN.{length}
 use Rattle.arithmetic.specs.Outcome.{value}
 use Rattle.plans.specs.declared.aot.GroupBy.{GroupBy}
 use Rattle.plans.specs.declared.aot.GroupBy.TheVariants.{Channel}
@@ -20,7 +19,7 @@ use Rattle.channels.specs.Lists.{Each, keep, member}
 use Rattle.plans.specs.Line.{Line, group, of_group, rising}
 use Rattle.plans.specs.PlanLists.{keys}
 use Rattle.plans.specs.Walk.{count, seat, entry}
-use Rattle.plans.specs.Plan.{Model, Answer, tuned, untuned, holding, empty, planned}
+use Rattle.plans.specs.Plan.{Model, tuned, planned}
 use Rattle.plans.specs.PlanInternal.{Accepted}
 use Rattle.channels.proofs.ListLaws.{outcome, passed, failed, true→T, or_cases, Each-map}
 use Rattle.plans.proofs.Models.{planned_by}

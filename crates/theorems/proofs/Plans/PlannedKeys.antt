@@ -1,12 +1,12 @@
 -- A plan key by key, in groups of any kind: the channel that a key is on, and how far the detuning that the channel has for its group is from the key's own.
 -- Assumes nothing.
 use mathlib.Core.Path.{◌≡◌, refl, sym, ap, ◌∙◌, subst}
-use mathlib.Core.Bool.{Bool, true, false, ◌&&◌, cond}
+use mathlib.Core.Bool.{true, ◌&&◌}
 use mathlib.Core.List.{List, [], ◌∷◌, ◌++◌, append_assoc, nil≢cons}
 use mathlib.Core.Option.{Option, none, some}
 use Prim.Native.Nat.{ℕ, zero, suc, ◌<◌, ◌≤◌}
 use native.Mathlib.Omega.{arith}
-use lib.Dec.{leb, eqb, eqb_refl}
+use lib.Dec.{eqb, eqb_refl}
 use lib.IntN.{ℤ}
 use lib.Ieee.{Float}
 use lib.ListN.{length, get_or}
@@ -25,7 +25,7 @@ use Rattle.plans.proofs.Carried.{last_of, replaced_is}
 use Rattle.arithmetic.specs.Outcome.{value}
 use Rattle.plans.specs.Placing.{Joined, together}
 use Rattle.theorems.specs.PlannedKeys.{is_on, row, last_detuning, JoinChain, Placed}
-use Rattle.plans.specs.Plan.{Model, Answer, tuned, untuned, holding, empty, planned}
+use Rattle.plans.specs.Plan.{Model, tuned, holding, planned}
 use Rattle.plans.proofs.Held.{of_kept, zip}
 
 -- ---- a channel takes the keys of a group that come first

@@ -2,11 +2,11 @@
 -- Assumes nothing.
 use mathlib.Core.Path.{◌≡◌, refl, sym, ap, ◌∙◌, subst}
 use mathlib.Core.Logic.{◌⊎◌, inl, inr}
-use mathlib.Core.Bool.{Bool, true, false, ◌&&◌, cond}
+use mathlib.Core.Bool.{Bool, true, false, ◌&&◌}
 use mathlib.Core.List.{List, [], ◌∷◌, ◌++◌, map, append_assoc, append-nil}
 use Prim.Native.Nat.{ℕ}
 use native.Mathlib.Omega.{arith}
-use lib.Dec.{T, eqb, leb}
+use lib.Dec.{T, eqb}
 use lib.IntN.{ℤ}
 use lib.Ieee.{Float}
 use lib.ListN.{length}
@@ -17,7 +17,6 @@ use Rattle.arithmetic.proofs.Outcomes.{no_value, refused_by, refuses_twice}
 use Rattle.channels.specs.Lists.{Each, member}
 use Rattle.plans.specs.Line.{Line}
 use Rattle.plans.specs.PlanLists.{is_planned, keys, with_key, note_line, note_lines, pitch_line, pitch_lines, line_by_line, note_lists, pitch_lists}
-use Rattle.plans.specs.Walk.{count}
 use Rattle.plans.specs.Plan as M
 use Rattle.channels.proofs.ListLaws.{outcome, passed, failed, Each-all}
 use Rattle.plans.proofs.Lines.{nearest_refused, note_lines_each, pitch_lines_each}
