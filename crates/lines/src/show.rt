@@ -7,13 +7,14 @@ ghost use Rattle.senders.specs.Lent.{Answers, sent};
 ghost use Rattle.lines.specs.Show.{bytes_line, refusal_line, hex_digit};
 
 use channels::Refusal;
+use senders::outgoing::send;
 
 // The line of bytes that are sent, each shown by two digits and what parts it from the next, or the feed. Refuses 10.
 pub(crate) fn show_bytes(bytes: &[u8], out: &mut [u8]) -> Result<usize, Refusal>
     ensures { Answers (sent (bytes_line bytes.now)) out.old (outcome result) out.new }
 {
     if bytes.is_empty() {
-        return put(b"-\n", out);
+        return send(b"-\n", out);
     }
     if out.len() / 3 < bytes.len() {
         return Err(Refusal::BufferTooShort);
@@ -34,20 +35,9 @@ pub(crate) fn show_refusal(refusal: Refusal, out: &mut [u8]) -> Result<usize, Re
 {
     let number = refusal.number();
     if number < 10 {
-        return put(&[b'R', b'0' + number, b'\n'], out);
+        return send(&[b'R', b'0' + number, b'\n'], out);
     }
-    put(&[b'R', b'0' + number / 10, b'0' + number % 10, b'\n'], out)
-}
-
-// A text at the start of a buffer. Refuses 10.
-fn put(text: &[u8], out: &mut [u8]) -> Result<usize, Refusal>
-    ensures { Answers (sent text.now) out.old (outcome result) out.new }
-{
-    if out.len() < text.len() {
-        return Err(Refusal::BufferTooShort);
-    }
-    out[..text.len()].copy_from_slice(text);
-    Ok(text.len())
+    send(&[b'R', b'0' + number / 10, b'0' + number % 10, b'\n'], out)
 }
 
 // The hexadecimal digit of a number below 16.

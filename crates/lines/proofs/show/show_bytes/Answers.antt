@@ -7,7 +7,7 @@ use Rattle.lines.proofs.Shows.{spaced_more, spaced_all, shown_none, shown_length
 use Rattle.lines.proofs.show.show_bytes.Goals as goal
 
 pub returns-then-is_empty : goal.returns-then-is_empty
-returns-then-is_empty c = rw (shown_none c.args.bytes.now (grind (arith, nat_tests))) c.put.ensures
+returns-then-is_empty c = rw (shown_none c.args.bytes.now (grind (arith, nat_tests))) c.send.ensures
 
 pub returns-then-out-bytes : goal.returns-then-out-bytes
 returns-then-out-bytes c = ends_short refl (omega (arith, shown_length c.args.bytes.now (grind (arith, nat_tests))))
