@@ -34,7 +34,7 @@ pub struct Event {
     pub velocity: u8,
 }
 
-// What a line means, which is given without its feed. Refuses 13 every line that does not have the four fields, parted by commas.
+// What a line means, which is given without its feed. Refuses 13 every line that does not have the four fields, separated by commas.
 pub fn parse(line: &[u8]) -> Result<Event, Refusal>
     ensures { outcome_by meant result ≡ meaning line.now }
 {
