@@ -10,7 +10,7 @@ use native.Mathlib.Omega.{arith}
 use borrow.Author.Tests.{leb-true, leb-false}
 use lib.Dec.{leb}
 use lib.Ieee.{Float}
-use lib.ListN.{length, get_elem?, length-append}
+use lib.ListN.{length, get_elem?}
 use Rattle.channels.specs.ChannelList.{entries}
 use Rattle.channels.specs.declared.list.ChannelList.{ChannelList}
 use Rattle.channels.specs.Lists.{upward}
@@ -68,13 +68,13 @@ module _ (kind : TuningKind) (channels : List ℕ) (i : ℕ) where
 
 -- ---- sixteen channels at most
 
-module _ (kind : TuningKind) (l : ChannelList) (long : length l.channels ≡ 16) (i : ℕ) (o : Option Float) where
+module _ (kind : TuningKind) (l : ChannelList) (i : ℕ) (o : Option Float) where
   -- so the tuning of the next channel has room
   pub channel_room : length (bytes_of (channel_messages kind (entries l) i o)) + 12 * min i 16 ≤ 12 * min (i + 1) 16
   channel_room = go (leb 16 i) refl
     where
       go : (b : Bool) → leb 16 i ≡ b → length (bytes_of (channel_messages kind (entries l) i o)) + 12 * min i 16 ≤ 12 * min (i + 1) 16
       go true e =
-          let past = entry_past l i (omega (arith, leb-true 16 i e, entries_few l long)) in
+          let past = entry_past l i (omega (arith, leb-true 16 i e, entries_few l)) in
           rw (channel_past kind (entries l) i o past) (omega (arith, leb-true 16 i e))
       go false e = omega (arith, leb-false 16 i e, channel_small kind (entries l) i o)

@@ -19,7 +19,7 @@ module _ (c : After-tuning) where
   more = bytes_of (channel_messages c.args.kind (entries c.channels-channels.result) c.loop-i.i (optional c.detuning-detuning.result))
 
   room : length more + 12 * min c.loop-i.i 16 ≤ 12 * min (c.loop-i.i + 1) 16
-  room = channel_room c.args.kind c.channels-channels.result (omega arith) c.loop-i.i (optional c.detuning-detuning.result)
+  room = channel_room c.args.kind c.channels-channels.result c.loop-i.i (optional c.detuning-detuning.result)
 
 pub unwrap-requires : goal.unwrap-requires
 unwrap-requires c =

@@ -22,7 +22,7 @@ module _ (c : After-tuning_bytes-bytes) where
 pub returns-in_default : goal.returns-in_default
 returns-in_default c =
     let a = c.args in
-    let past = entry_past a.channels a.i (omega (arith, entries_few a.channels (omega arith), c.in_default.ensures)) in
+    let past = entry_past a.channels a.i (omega (arith, entries_few a.channels, c.in_default.ensures)) in
     rw (channel_past a.kind _ a.i _ past) refl
 
 pub unwrap-requires : goal.unwrap-requires
