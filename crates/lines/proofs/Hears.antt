@@ -180,7 +180,7 @@ module _ {T : Type 0} {view : T → Tuner} {o : Outcome (Effect ℕ Tuner)} {t b
 
 -- ---- no line's event is refused for want of room by its rule
 
-abbrev roomy : {A : Type 0} → Outcome A → Bool
+abbrev pub roomy : {A : Type 0} → Outcome A → Bool
 roomy (value a) = true
 roomy (refused n) = not (eqb n buffer_too_short)
 
@@ -245,8 +245,9 @@ line_roomy : (line : List ℕ) → roomy (meaning line) ≡ true
 unfolding meaning
 line_roomy line = roomy_unless 13 (leb (length line) 64) (of_fields (split 44 line)) refl (fields_roomy (split 44 line))
 
-not_short : (t : Tuner) (line : List ℕ) {n : ℕ} → event_rule t (meaning line) ≡ refused n → n ≡ 10 → ⊥
-not_short t line {n} e i = absurd (let z : true ≡ not (eqb 10 10) = sym (rw (e, i) at (event_roomy t (meaning line) (line_roomy line))) in cc z)
+-- The tuner's own tests never answer 10, so that a 10 always means the room.
+pub not_short : (t : Tuner) (o : Outcome Event) → roomy o ≡ true → {n : ℕ} → event_rule t o ≡ refused n → n ≡ 10 → ⊥
+not_short t o p {n} e i = absurd (let z : true ≡ not (eqb 10 10) = sym (rw (e, i) at (event_roomy t o p)) in cc z)
 
 -- 10 is the number of one refusal
 pub the_short : (r : Refusal) → number r ≡ 10 → r ≡ BufferTooShort
@@ -313,7 +314,7 @@ module _ {T : Type 0} {view : T → Tuner} (u : Tuner) (line : List ℕ) where
   unsent_short {t} {back} {out} {room} {n} h ten fits = rw (h.1, ten) (go h.0)
     where
       go : Unsent (event_rule u (meaning line)) room n → Steps view (line_rule u line) t out (refused 10) t out
-      go (by_rule e) = absurd (not_short u line e ten)
+      go (by_rule e) = absurd (not_short u (meaning line) (line_roomy line) e ten)
       go (by_room bs w e few more i) = line_short e (omega (arith, shown_length bs (omega arith)))
 
   -- it was refused otherwise, which is shown

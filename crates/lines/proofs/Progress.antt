@@ -4,18 +4,21 @@ use native.Mathlib.Nat.{zero-add, sub-zero}
 use native.Mathlib.Omega.{arith}
 use mathlib.Core.Path.{◌≡◌, refl, sym, ◌∙◌, ap, subst}
 use mathlib.Core.List.{List, [], ◌++◌, append_assoc, append-nil}
-use lib.ListN.{length, take, drop, length-append, length-drop, take-append-drop}
+use lib.ListN.{length, take, drop, length-append, length-drop, drop_of_length-le, take-append-drop}
 use lib.Seq.{drop-drop, take_at, drop_at}
 use borrow.Rule.Slice.PartMut.{put_mid}
 use Rattle.std.specs.Prelude.{Some, None}
 use Rattle.memchr.specs.Find.{IsFirstByte, is_byte}
-use Rattle.senders.proofs.Lent.{tail_back}
 use Rattle.lines.specs.Split.{feed}
 use Rattle.lines.specs.Console.{answer}
 use Rattle.lines.specs.Session.{Session, line_ended, nothing, step_rule, Stepped}
 use Rattle.lines.specs.Inner.{longer_by}
 use Rattle.lines.proofs.Puts.{SentAll}
 use Rattle.lines.proofs.Stepping.{behind, behind_behind, Small, no_feed, no_room, line_ends}
+
+-- nothing is behind a list's end
+tail_back : (l ys : List ℕ) (w : ℕ) → take w l ++ (ys ++ drop (length l - w) (drop w l)) ≡ take w l ++ ys
+tail_back l ys w = rw (drop_of_length-le (drop w l) {i = length l - w} (omega (arith, length-drop w l)), append-nil)
 
 -- `used` bytes of the piece are taken and w bytes written: what a call does is that, and then what it does with the rest
 pub record Progress (s₀ : Session) (piece old : List ℕ) (s : Session) (used w : ℕ) (out : List ℕ) : Type 0 where

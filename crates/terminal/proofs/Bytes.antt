@@ -21,7 +21,7 @@ use Rattle.terminal.specs.declared.failure.Failure.{Failure}
 use Rattle.terminal.specs.declared.failure.Failure.TheVariants.{Input, Output}
 use Rattle.terminal.specs.declared.stream.Stream.{Stream}
 use Rattle.terminal.specs.Bytes.{EndsBehind, TurnedOver, RanOver}
-use Rattle.terminal.proofs.Turns.{unread_kept}
+use Rattle.terminal.proofs.Turns.{turn_writes, turn_answers, turn_reads}
 
 -- ---- what a call moved
 
@@ -61,7 +61,7 @@ module _ {size : ℕ} {a b : Option (List ℕ)} {s : State} where
       record {
         read = [];
         put = take (count put) s.unwritten;
-        turn = rw e (writes put);
+        turn = turn_writes s t put e;
         taken = Consumes-nil a;
         given = rw is (given_by b b' res s.unwritten h);
         behind = λ f x some. f (sym (ap (λ (u : State). u.ended) e) ∙ x) some;
@@ -73,7 +73,7 @@ module _ {size : ℕ} {a b : Option (List ℕ)} {s : State} where
       record {
         read = [];
         put = [];
-        turn = rw e (answers room none);
+        turn = turn_answers s t room none e;
         taken = Consumes-nil a;
         given = Appends-nil b;
         behind = λ f x some. f (sym (ap (λ (u : State). u.ended) e) ∙ x) some;
@@ -88,7 +88,7 @@ over_reads s before piece out room {a} {a'} {b} {t} res {got} is same idle most 
     record {
       read = brought (result_ok res) piece;
       put = [];
-      turn = rw (f, unread_kept s before piece out same idle.answered) (reads room (result_ok res) piece idle);
+      turn = turn_reads s t room (result_ok res) before piece out same idle.answered idle.written idle.more f;
       taken = taken_by a a' res piece h;
       given = Appends-nil b;
       behind = λ g x some.

@@ -1,14 +1,22 @@
--- Where nothing is left to answer and to write, and a read there, which overwrites nothing. Assumes nothing.
+-- A turn of the program is one of `Turn`: of a write, an answer, and a read, which overwrites nothing. Assumes nothing.
 use Prim.Native.Nat.{ℕ, ◌-◌}
 use native.Mathlib.Omega.{arith}
 use mathlib.Core.Path.{◌≡◌, refl, sym, ap, ◌∙◌}
 use mathlib.Core.Bool.{Bool, false}
 use mathlib.Core.List.{List, []}
-use lib.ListN.{length, drop, length-take, length-drop}
+use lib.ListN.{length, take, drop, length-take, length-drop}
+use Rattle.std.specs.Prelude.{Option}
 use Rattle.std.proofs.lemmas.List.{nil_from_length}
-use Rattle.terminal.specs.Stream.{State, Idle, view, part}
+use Rattle.terminal.specs.Stream.{State, Idle, view, part, answer_rule, brought, read_rule, count, write_rule}
+use Rattle.terminal.specs.Stream.{Turn, reads, answers, writes}
 use Rattle.terminal.specs.declared.stream.Part.{Part}
 use Rattle.terminal.specs.declared.stream.Stream.{Stream}
+
+pub turn_writes : (s t : State) (put : Option ℕ) → t ≡ write_rule put s → Turn s [] (take (count put) s.unwritten) t
+turn_writes s t put e = rw e (writes put)
+
+pub turn_answers : (s t : State) (room : ℕ) → s.unwritten ≡ [] → t ≡ answer_rule room s → Turn s [] [] t
+turn_answers s t room none e = rw e (answers room none)
 
 -- a part that is empty is so in any buffer of that length
 still_empty : (p : Part) (before after : List ℕ) → length after ≡ length before → part p before ≡ [] → part p after ≡ []
@@ -18,6 +26,13 @@ still_empty p before after same none =
 
 pub unread_kept : (s : Stream) (before piece out : List ℕ) → length piece ≡ length before → part s.unanswered before ≡ [] → view s piece out ≡ view s before out
 unread_kept s before piece out same none = rw (still_empty s.unanswered before piece same none, none) refl
+
+pub turn_reads : (s : Stream) (t : State) (room : ℕ) (got : Option ℕ) (before piece out : List ℕ) → length piece ≡ length before
+    → part s.unanswered before ≡ [] → part s.unwritten out ≡ [] → s.ended ≡ false
+    → t ≡ read_rule room got piece (view s piece out) → Turn (view s before out) (brought got piece) [] t
+turn_reads s t room got before piece out same none written more e =
+    rw (e, unread_kept s before piece out same none)
+    (reads room got piece (record { answered = none; written = written; more = more }))
 
 -- nothing is left, by what the stream's functions said
 pub idle : (s : State) {unwritten unanswered : List ℕ} {ended : Bool} → unwritten ≡ s.unwritten → unanswered ≡ s.unanswered → ended ≡ s.ended
