@@ -19,12 +19,6 @@ told_map (Some x) (Some y) P note d h f = f x y h
 told_map (Some x) None P note d h f = absurd h
 told_map None r P note d h f = rw h
 
-pub returns-in_err-nearest : goal.returns-in_err-nearest
-unfolding replied
-returns-in_err-nearest c =
-    let p = err_from_is_err_and c.from_residual.result c.from_residual.ensures.1 in
-    rw (p.1, p.2, register_refused c.args.pitch.hz _ c.in_err-nearest.ensures (state_of c.args.self.now) c.args.key)
-
 pub returns-in_err-allocation : goal.returns-in_err-allocation
 unfolding replied
 returns-in_err-allocation c =

@@ -7,10 +7,6 @@ use Rattle.pools.specs.PoolInternal.{held_by}
 use Rattle.pools.proofs.Blocks.{key_sound}
 use Rattle.pools.proofs.jit.JitTuningModel.holder.Goals as goal
 
-pub returns-in_err-place : goal.returns-in_err-place
-unfolding place held_by held_at
-returns-in_err-place c = rw (c.from_residual.ensures, sym c.in_err-place.ensures)
-
 pub returns : goal.returns
 unfolding place held_by held_at
 returns c =

@@ -7,17 +7,6 @@ use Rattle.pools.specs.Block.{register_note_rule}
 use Rattle.pools.proofs.Pools.{noted, not_noted}
 use Rattle.pools.proofs.jit.JitTuningModel.register_note.Goals as goal
 
-pub returns-in_err-note-clause-told : goal.returns-in_err-note-clause-told
-unfolding replied register_note_rule
-returns-in_err-note-clause-told c =
-    let p = err_from_is_err_and c.from_residual.result c.from_residual.ensures.1 in
-    let none = not_noted c.args.note _ (rw (to_z-of_z _ _ c.ranges.note) at c.in_err-note.ensures) in
-    rw (p.1, p.2, none.0, none.1)
-
-pub returns-in_err-note-clause-moved : goal.returns-in_err-note-clause-moved
-unfolding register_note_rule
-returns-in_err-note-clause-moved c = rw (not_noted c.args.note _ (rw (to_z-of_z _ _ c.ranges.note) at c.in_err-note.ensures)).0
-
 pub returns : goal.returns
 unfolding register_note_rule
 returns c =
