@@ -44,3 +44,5 @@ module _ (m : JitTuningModel) (note : ℤ) (key : ℕ) (d : Float) where
         pub given_ignored : mode_of m.pooling_mode ≡ Ignore → pressed s key note d ≡ given s key note d (Some (Ignored old))
         unfolding state_of state_with held_by
         given_ignored e = pressed_ignoring s key note d (sym full) _ (sym longest) same (pool_there m note long) e
+
+pub ruleset allocations = (given_free, given_nobody, given_blocked, given_elsewhere, given_stopped, given_ignored)

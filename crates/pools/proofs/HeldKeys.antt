@@ -58,6 +58,9 @@ module _ (s : State) where
   unfolding held_keys found
   here from p h e = record { reached = omega arith; inside = h; is = e; left = held_here s.keys from p h e }
 
+  pub here_left : (from : ℕ) (p : Place) → from < length s.keys → found s from ≡ some p → held_keys s from ≡ record { key = from; place = p } ∷ held_keys s (from + 1)
+  here_left from p h e = (here from p h e).left
+
   pub skipped : (from : ℕ) → from < length s.keys → found s from ≡ none → held_keys s from ≡ held_keys s (from + 1)
   unfolding held_keys found
   skipped from h e = held_not s.keys from h e
@@ -89,6 +92,9 @@ module _ (s : State) where
   -- The next key is the first of those left.
   pub next_met : (from : ℕ) (h : Held) → first (held_keys s from) ≡ some h → Met s from h
   next_met from h e = step (length s.keys) from (omega arith) h e
+
+  pub left_behind : (from : ℕ) (h : Held) → some h ≡ first (held_keys s from) → held_keys s from ≡ h ∷ held_keys s (h.key + 1)
+  left_behind from h e = (next_met from h (sym e)).left
 
   -- No next key: none is left.
   pub next_none : (from : ℕ) → first (held_keys s from) ≡ none → held_keys s from ≡ []

@@ -182,6 +182,7 @@ pub struct JitTuningModel {
 
 impl JitTuningModel {
     // A model in which no key is found, with the channels listed.
+    #[tactic(auto, using(channels::proofs::ChannelLists::entries_few, crate::proofs::FreshBlocks::state_fresh))]
     pub fn new(
         channels: ChannelList,
         group_by: PoolGroupBy,
@@ -201,6 +202,7 @@ impl JitTuningModel {
 
     // A model in which no key is found, with the channels of a list. Refuses 6 or 7 as the channel list does; the model has no channels then.
     // Example: JitTuningModel::open([0, 16], Channel, Stop) is refused (6)
+    #[tactic(auto, using(crate::proofs::FreshBlocks::listed), unfolding(crate::specs::Pool::open_rule))]
     pub fn open(
         channels: &[u8],
         group_by: PoolGroupBy,
@@ -240,7 +242,7 @@ impl JitTuningModel {
     }
 
     // A press for a note and a detuning: with those that `allocate_key` answers it is the press that was asked about. Refuses 4, then 11 a key that is held.
-    #[tactic(auto, using(crate::proofs::Pools::noted, crate::proofs::Pools::not_noted), unfolding(crate::specs::Pool::replied, crate::specs::Block::register_note_rule))]
+    #[tactic(auto, using(crate::proofs::Pools::register_noted, crate::proofs::Pools::register_unnoted), unfolding(crate::specs::Pool::replied))]
     pub fn register_note(
         &mut self,
         key: u8,
@@ -293,6 +295,7 @@ impl JitTuningModel {
 
     // The first found key from a number on. All found keys by rising key: from 0, and then each time from one above the last.
     // Example: open([0], Channel, Stop); register_key(1, 440 Hz); next_key(0) is key 1, channel 0, note 69
+    #[tactic(auto, using(crate::proofs::HeldKeys::here_left, crate::proofs::HeldKeys::skipped, crate::proofs::HeldKeys::walked, crate::proofs::Blocks::key_here, crate::proofs::Blocks::keys_many), unfolding(crate::specs::PoolAnswers::next_held, channels::specs::Places::place, channels::specs::Lists::first))]
     pub fn next_key(&self, from: usize) -> Option<HeldKey>
         ensures { next_held result ≡ first (held_keys (state_of self.now) from) }
     {
@@ -321,6 +324,7 @@ impl JitTuningModel {
 
     // Every found key is released, by rising key.
     // Example: open([0], Channel, Stop); register_key(1, 440 Hz); stop(); access_key(1) is not found
+    #[tactic(auto, using(crate::proofs::Pools::stop_turn, crate::proofs::Pools::released_keys, crate::proofs::HeldKeys::walked, crate::proofs::Blocks::keys_many), unfolding(crate::specs::Pool::stopped, crate::specs::Pool::released_all))]
     pub fn stop(&mut self)
         ensures { state_of self.new ≡ stopped (state_of self.old) }
     {
@@ -349,7 +353,7 @@ impl JitTuningModel {
 // The steps of a press and of a release.
 impl JitTuningModel {
     // The key on its channel, if it is found.
-    #[tactic(auto, using(crate::proofs::Blocks::key_sound), unfolding(channels::specs::Places::place, crate::specs::PoolInternal::held_by, crate::specs::Pool::held_at))]
+    #[tactic(auto, using(crate::proofs::Blocks::key_channel), unfolding(channels::specs::Places::place, crate::specs::PoolInternal::held_by, crate::specs::Pool::held_at))]
     fn holder(&self, key: u8) -> Option<Holder>
         ensures { held_by result ≡ held_at key (found (state_of self.now) key) }
     {
@@ -373,7 +377,7 @@ impl JitTuningModel {
     }
 
     // The channel for a press of a key that is not held.
-    #[tactic(auto, using(crate::proofs::Allocations::given_free, crate::proofs::Allocations::given_nobody, crate::proofs::Allocations::given_blocked, crate::proofs::Allocations::given_elsewhere, crate::proofs::Allocations::given_stopped, crate::proofs::Allocations::given_ignored), unfolding(crate::specs::PoolInternal::held_by))]
+    #[tactic(auto, using(crate::proofs::Allocations::allocations), unfolding(crate::specs::PoolInternal::held_by))]
     fn channel_for(&self, note: Note) -> Option<Allocation>
         ensures { (key : ℕ) (d : Float) → pressed (state_of self.now) key note.number d ≡ given (state_of self.now) key note.number d result }
     {
@@ -482,7 +486,7 @@ impl<'a> Iterator for HeldKeys<'a> {
 
     ghost remaining = { item_count left };
 
-    #[tactic(auto, using(crate::proofs::HeldKeys::next_met, crate::proofs::HeldKeys::next_none), unfolding(crate::specs::PoolAnswers::next_held))]
+    #[tactic(auto, using(crate::proofs::HeldKeys::left_behind, crate::proofs::HeldKeys::next_none), unfolding(crate::specs::PoolAnswers::next_held))]
     fn next(&mut self) -> Option<HeldKey> {
         let held = self.model.next_key(self.from)?;
         self.from = held.key as usize + 1;
