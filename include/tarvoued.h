@@ -9,7 +9,7 @@
 
    Pointers are not null, also where a length is 0, and point to as many elements as the length beside them says, aligned as their type asks. Memory that is
    lent to be changed overlaps no other argument. A channel is an index into the channel list that the block was opened with. A setting that is a number, or
-   a message's kind, is read as 0 where it names none. What each function does is proved in crates/capi; this file puts it in words. */
+   a message's kind, is read as 0 where it names none. What each function does is proved in crates/capi_c; this file puts it in words. */
 #ifndef TARVOUED_H
 #define TARVOUED_H
 

@@ -232,14 +232,14 @@ impl From<Result<Approximation, Refusal>> for Note {
 
 impl Note {
     // The detuning of a group on a channel.
-    pub(crate) fn of_detuning(channel: u16, group: i32, detuning: Option<f64>) -> Note
+    pub fn of_detuning(channel: u16, group: i32, detuning: Option<f64>) -> Note
         ensures { result ≡ of_detuning channel group (optional detuning) }
     {
         Note::of_entry(channel, detuning.map(|detuning| (group, detuning)))
     }
 
     // A group on a channel with its detuning.
-    pub(crate) fn of_entry(channel: u16, entry: Option<(i32, f64)>) -> Note
+    pub fn of_entry(channel: u16, entry: Option<(i32, f64)>) -> Note
         ensures { result ≡ of_entry channel (optional entry) }
     {
         match entry {

@@ -1,10 +1,7 @@
-// The interface for C, C++, Rust and Python (`include/tarvoued.h`): tuners and models in blocks of the caller's memory, messages, and values. Each entry
-// is thin: it calls the function in place and gives its answer in numbers. Names begin with `tarvoued_`, since a name is the whole program's.
-// A crate is built as a library or for C, not as both: this is the library, and `capi_c` exports each of its functions to C.
+// The types of the interface for C, C++, Rust and Python (`include/tarvoued.h`): answers in numbers, messages, and blocks of the caller's memory. The functions
+// are in `capi_c`, since a crate is built as a library or for C, not as both.
 #![tactic(auto)]
 
 pub mod answer;
+pub mod block;
 pub mod message;
-pub mod plan;
-pub mod pool;
-pub mod value;

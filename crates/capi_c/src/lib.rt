@@ -1,5 +1,5 @@
-// What a C, C++, Rust or Python program links (`include/tarvoued.h`): an export for each function of the library `capi`, under its name in C. A crate is a library or
-// for C, not both, so each export stands beside the function that it calls, and states its clauses again.
+// The functions for C, C++, Rust and Python (`include/tarvoued.h`): tuners and models in blocks of the caller's memory, messages, and values. Each is thin:
+// it calls the function in place and gives its answer in numbers. Names begin with `tarvoued_`, since a name is the whole program's.
 #![tactic(auto)]
 
 pub mod message;

@@ -1,4 +1,5 @@
-// The plan tuner and the plan model in a block of the caller's memory. Every content of a block is some tuner, and some model.
+// The plan tuner and the plan model in a block of the caller's memory. Entries that are the pool's but for the block stay beside those: in C each has a
+// name of its own.
 
 ghost use Rattle.std.specs.Prelude.{◌≡◌};
 ghost use Rattle.plans.specs.PlanLists.{note_lists, pitch_lists};
@@ -14,8 +15,14 @@ ghost use Rattle.capi.specs.Message.{message_of};
 ghost use Rattle.capi.specs.Entry.{EntryMeets, EntryWrites};
 
 use capi::answer::{Answer, Note};
+use capi::block::Plan;
 use capi::message::Message;
-use capi::plan::Plan;
+use channels::list::ChannelList;
+use channels::tuning_value::TuningKind;
+use plan_tuner::aot::AotTuner;
+use plans::aot::{AotTuningModel, GroupBy};
+use plans::lists::{NoteLists, PitchLists};
+use senders::midi::ChannelMessageType;
 
 // A tuner of the channels listed, without a plan. Refuses 6, 7.
 #[unsafe(no_mangle)]
@@ -23,7 +30,7 @@ pub extern "C" fn tarvoued_plan_open(plan: &mut Plan, channels: &[u8], tuning_ki
     ensures told { result ≡ of_list (start_rule channels.now (kind_of tuning_kind)).0 }
     ensures started { let rule = start_rule channels.now (kind_of tuning_kind) in Starts rule.0 rule.1 plan.old plan.new }
 {
-    capi::plan::tarvoued_plan_open(plan, channels, tuning_kind)
+    Answer::from(plan.restart(channels, TuningKind::from(u16::from(tuning_kind))))
 }
 
 // Plans keys with their notes and detunings, and tunes each channel used, in order. Refuses 12, then line by line 4, 3, 5; then 10.
@@ -40,10 +47,16 @@ pub extern "C" fn tarvoued_plan_set_tuning(
     ensures smallest { Smallest (view plan.old) (note_lists keys.now notes.now detunings.now)
         (plan_sent_in result) (view plan.new) }
 {
-    capi::plan::tarvoued_plan_set_tuning(plan, keys, notes, detunings, out)
+    let lists = NoteLists {
+        keys,
+        notes,
+        detunings,
+    };
+    Answer::from(plan.set_tuning(&lists, out))
 }
 
 // Plans keys with their pitches in Hz, and tunes each channel used, in order. Refuses 12, then line by line 1, 5; then 10.
+// C has no generics: an entry for each kind of list.
 #[unsafe(no_mangle)]
 pub extern "C" fn tarvoued_plan_set_tuning_of_pitches(
     plan: &mut Plan,
@@ -55,7 +68,7 @@ pub extern "C" fn tarvoued_plan_set_tuning_of_pitches(
         plan.old out.old result plan.new out.new }
     ensures smallest { Smallest (view plan.old) (pitch_lists keys.now pitches.now) (plan_sent_in result) (view plan.new) }
 {
-    capi::plan::tarvoued_plan_set_tuning_of_pitches(plan, keys, pitches, out)
+    Answer::from(plan.set_tuning(&PitchLists { keys, pitches }, out))
 }
 
 // A press: the note-on of a key of the plan. Refuses 8, 10.
@@ -68,7 +81,7 @@ pub extern "C" fn tarvoued_plan_note_on(
 ) -> Answer
     ensures { EntryWrites (note_on_rule (view plan.now) key velocity) out.old result out.new }
 {
-    capi::plan::tarvoued_plan_note_on(plan, key, velocity, out)
+    Answer::from(plan.note_on(key, velocity, out))
 }
 
 // A release: the note-off of a key of the plan. Refuses 8, 10.
@@ -81,7 +94,7 @@ pub extern "C" fn tarvoued_plan_note_off(
 ) -> Answer
     ensures { EntryWrites (note_off_rule (view plan.now) key velocity) out.old result out.new }
 {
-    capi::plan::tarvoued_plan_note_off(plan, key, velocity, out)
+    Answer::from(plan.note_off(key, velocity, out))
 }
 
 // The pressure of a key of the plan. Refuses 8, 10.
@@ -94,7 +107,7 @@ pub extern "C" fn tarvoued_plan_note_attr(
 ) -> Answer
     ensures { EntryWrites (note_attr_rule (view plan.now) key pressure) out.old result out.new }
 {
-    capi::plan::tarvoued_plan_note_attr(plan, key, pressure, out)
+    Answer::from(plan.note_attr(key, pressure, out))
 }
 
 // A message to every channel, except bends of a tuner that tunes by bends. Refuses 8 from left, 9, 10.
@@ -102,7 +115,7 @@ pub extern "C" fn tarvoued_plan_note_attr(
 pub extern "C" fn tarvoued_plan_global_attr(plan: &Plan, message: Message, out: &mut [u8]) -> Answer
     ensures { EntryWrites (global_attr_rule (view plan.now) (message_of message)) out.old result out.new }
 {
-    capi::plan::tarvoued_plan_global_attr(plan, message, out)
+    Answer::from(plan.global_attr(ChannelMessageType::from(message), out))
 }
 
 // Sends nothing: a plan tuner does not know which keys are pressed.
@@ -110,15 +123,16 @@ pub extern "C" fn tarvoued_plan_global_attr(plan: &Plan, message: Message, out: 
 pub extern "C" fn tarvoued_plan_stop(plan: &Plan, out: &mut [u8]) -> Answer
     ensures { EntryWrites (stop_rule (view plan.now)) out.old result out.new }
 {
-    capi::plan::tarvoued_plan_stop(plan, out)
+    Answer::from(plan.stop(out))
 }
 
 // The channel and the note of a key of the plan.
+#[tactic(auto, unfolding(channels::specs::Places::place))]
 #[unsafe(no_mangle)]
 pub extern "C" fn tarvoued_plan_lookup(plan: &Plan, key: u8) -> Note
     ensures { result ≡ of_place (found (view plan.now) key) }
 {
-    capi::plan::tarvoued_plan_lookup(plan, key)
+    Note::from(plan.access_key(key))
 }
 
 // The detuning of a group on a channel of the plan.
@@ -126,7 +140,7 @@ pub extern "C" fn tarvoued_plan_lookup(plan: &Plan, key: u8) -> Note
 pub extern "C" fn tarvoued_plan_detuning(plan: &Plan, channel: u16, group: i32) -> Note
     ensures { result ≡ of_detuning channel group ((plan_of plan.now.model).detunings channel group) }
 {
-    capi::plan::tarvoued_plan_detuning(plan, channel, group)
+    Note::of_detuning(channel, group, plan.model.detuning(channel, group))
 }
 
 // The first of a channel's detunings whose group is `from` or higher.
@@ -134,17 +148,24 @@ pub extern "C" fn tarvoued_plan_detuning(plan: &Plan, channel: u16, group: i32) 
 pub extern "C" fn tarvoued_plan_next_detuning(plan: &Plan, channel: u16, from: i32) -> Note
     ensures { result ≡ of_entry channel (next_rule (plan_of plan.now.model) channel from) }
 {
-    capi::plan::tarvoued_plan_next_detuning(plan, channel, from)
+    Note::of_entry(channel, plan.model.next_detuning(channel, from))
 }
 
 // A plan model, which sends nothing, of the channels listed, without a plan. Refuses 6, 7.
+#[tactic(auto, unfolding(plans::specs::Plan::open_rule))]
 #[unsafe(no_mangle)]
 pub extern "C" fn tarvoued_plan_model_open(plan: &mut Plan, channels: &[u8], group_by: u8) -> Answer
     ensures told { result ≡ of_list (open_rule channels.now (group_by_of group_by)).1 }
     ensures started { let rule = open_rule channels.now (group_by_of group_by) in
         Starts rule.1 (record { plan = rule.0; kind = FineTuning }) plan.old plan.new }
 {
-    capi::plan::tarvoued_plan_model_open(plan, channels, group_by)
+    let listed = ChannelList::of(channels);
+    let answer = Answer::from(listed);
+    if let Ok(list) = listed {
+        let model = AotTuningModel::new(list, GroupBy::from(u16::from(group_by)));
+        *plan = AotTuner::of(model, TuningKind::FineTuning);
+    }
+    answer
 }
 
 // Plans keys with their notes and detunings. Refuses 12, then line by line 4, 3, 5.
@@ -162,10 +183,16 @@ pub extern "C" fn tarvoued_plan_model_set_tuning(
     ensures smallest { Model.Smallest (plan_of plan.old.model) (note_lists keys.now notes.now detunings.now)
         (plan_of plan.new.model, plan_in result) }
 {
-    capi::plan::tarvoued_plan_model_set_tuning(plan, keys, notes, detunings)
+    let lists = NoteLists {
+        keys,
+        notes,
+        detunings,
+    };
+    Answer::from(plan.model.set_tuning(&lists))
 }
 
 // Plans keys with their pitches in Hz. Refuses 12, then line by line 1, 5.
+// C has no generics: an entry for each kind of list.
 #[unsafe(no_mangle)]
 pub extern "C" fn tarvoued_plan_model_set_tuning_of_pitches(
     plan: &mut Plan,
@@ -179,5 +206,5 @@ pub extern "C" fn tarvoued_plan_model_set_tuning_of_pitches(
     ensures smallest { Model.Smallest (plan_of plan.old.model) (pitch_lists keys.now pitches.now)
         (plan_of plan.new.model, plan_in result) }
 {
-    capi::plan::tarvoued_plan_model_set_tuning_of_pitches(plan, keys, pitches)
+    Answer::from(plan.model.set_tuning(&PitchLists { keys, pitches }))
 }

@@ -1,4 +1,5 @@
-// The pool tuner and the pool model in a block of the caller's memory. Every content of a block is some tuner, and some model.
+// The pool tuner and the pool model in a block of the caller's memory. Entries that are the plan's but for the block stay beside those: in C each has a
+// name of its own.
 
 ghost use Rattle.std.specs.Prelude.{◌≡◌};
 ghost use Rattle.pools.specs.Pool.{open_rule, found, released, replied, register_rule, repitch_rule};
@@ -11,8 +12,14 @@ ghost use Rattle.capi.specs.Message.{message_of};
 ghost use Rattle.capi.specs.Entry.{EntryMeets, EntryWrites};
 
 use capi::answer::{Answer, Note, RegisteredKey};
+use capi::block::Pool;
 use capi::message::Message;
-use capi::pool::Pool;
+use channels::Pitch;
+use channels::list::ChannelList;
+use channels::tuning_value::TuningKind;
+use pools::jit::{JitTuningModel, PoolGroupBy, PoolingMode};
+use senders::jit::JitTuner;
+use senders::midi::ChannelMessageType;
 
 // A tuner of the channels listed, in which no key is found. Refuses 6, 7.
 #[unsafe(no_mangle)]
@@ -25,7 +32,11 @@ pub extern "C" fn tarvoued_pool_open(
     ensures told { result ≡ of_list (start_rule channels.now (kind_of tuning_kind) (mode_of pooling_mode)).0 }
     ensures started { let rule = start_rule channels.now (kind_of tuning_kind) (mode_of pooling_mode) in Starts rule.0 rule.1 pool.old pool.new }
 {
-    capi::pool::tarvoued_pool_open(pool, channels, tuning_kind, pooling_mode)
+    Answer::from(pool.restart(
+        channels,
+        TuningKind::from(u16::from(tuning_kind)),
+        PoolingMode::from(u16::from(pooling_mode)),
+    ))
 }
 
 // A press. Refuses 8, 1, 11, 10; is rejected where no channel is free.
@@ -40,7 +51,7 @@ pub extern "C" fn tarvoued_pool_note_on(
     ensures { EntryMeets view of_press (note_on_rule (view pool.old) key hz velocity)
         pool.old out.old result pool.new out.new }
 {
-    capi::pool::tarvoued_pool_note_on(pool, key, hz, velocity, out)
+    Answer::from(pool.note_on(key, Pitch::from_hz(hz), velocity, out))
 }
 
 // A release. Refuses 8, 10.
@@ -54,7 +65,7 @@ pub extern "C" fn tarvoued_pool_note_off(
     ensures { EntryMeets view of_sent (note_off_rule (view pool.old) key velocity)
         pool.old out.old result pool.new out.new }
 {
-    capi::pool::tarvoued_pool_note_off(pool, key, velocity, out)
+    Answer::from(pool.note_off(key, velocity, out))
 }
 
 // The tuning of the channel of a key that is found, by the pitch. Refuses 1, and 10 where the key is found.
@@ -62,7 +73,7 @@ pub extern "C" fn tarvoued_pool_note_off(
 pub extern "C" fn tarvoued_pool_note_pitch(pool: &Pool, key: u8, hz: f64, out: &mut [u8]) -> Answer
     ensures { EntryWrites (note_pitch_rule (view pool.now) key hz) out.old result out.new }
 {
-    capi::pool::tarvoued_pool_note_pitch(pool, key, hz, out)
+    Answer::from(pool.note_pitch(key, Pitch::from_hz(hz), out))
 }
 
 // The pressure of a key that is found. Refuses 8, 10.
@@ -75,7 +86,7 @@ pub extern "C" fn tarvoued_pool_note_attr(
 ) -> Answer
     ensures { EntryWrites (note_attr_rule (view pool.now) key pressure) out.old result out.new }
 {
-    capi::pool::tarvoued_pool_note_attr(pool, key, pressure, out)
+    Answer::from(pool.note_attr(key, pressure, out))
 }
 
 // A message to every channel, except bends of a tuner that tunes by bends. Refuses 8 from left, 9, 10.
@@ -83,7 +94,7 @@ pub extern "C" fn tarvoued_pool_note_attr(
 pub extern "C" fn tarvoued_pool_global_attr(pool: &Pool, message: Message, out: &mut [u8]) -> Answer
     ensures { EntryWrites (global_attr_rule (view pool.now) (message_of message)) out.old result out.new }
 {
-    capi::pool::tarvoued_pool_global_attr(pool, message, out)
+    Answer::from(pool.global_attr(ChannelMessageType::from(message), out))
 }
 
 // Every key that is found is released, by rising key. Refuses 10.
@@ -92,7 +103,7 @@ pub extern "C" fn tarvoued_pool_stop(pool: &mut Pool, out: &mut [u8]) -> Answer
     ensures { EntryMeets view of_sent (stop_rule (view pool.old))
         pool.old out.old result pool.new out.new }
 {
-    capi::pool::tarvoued_pool_stop(pool, out)
+    Answer::from(pool.stop(out))
 }
 
 // Where a key is found.
@@ -100,10 +111,11 @@ pub extern "C" fn tarvoued_pool_stop(pool: &mut Pool, out: &mut [u8]) -> Answer
 pub extern "C" fn tarvoued_pool_lookup(pool: &Pool, key: u8) -> Note
     ensures { result ≡ of_place (found (view pool.now).pool key) }
 {
-    capi::pool::tarvoued_pool_lookup(pool, key)
+    Note::from(pool.access_key(key))
 }
 
 // A pool model, which sends nothing, of the channels listed, in which no key is found. Refuses 6, 7.
+#[tactic(auto, unfolding(pools::specs::Pool::open_rule))]
 #[unsafe(no_mangle)]
 pub extern "C" fn tarvoued_pool_model_open(
     pool: &mut Pool,
@@ -115,7 +127,17 @@ pub extern "C" fn tarvoued_pool_model_open(
     ensures started { let rule = open_rule channels.now (group_of group_by) (mode_of pooling_mode) in
         Starts rule.0 (record { pool = rule.1; kind = FineTuning }) pool.old pool.new }
 {
-    capi::pool::tarvoued_pool_model_open(pool, channels, group_by, pooling_mode)
+    let listed = ChannelList::of(channels);
+    let answer = Answer::from(listed);
+    if let Ok(list) = listed {
+        let model = JitTuningModel::new(
+            list,
+            PoolGroupBy::from(u16::from(group_by)),
+            PoolingMode::from(u16::from(pooling_mode)),
+        );
+        *pool = JitTuner::of(model, TuningKind::FineTuning);
+    }
+    answer
 }
 
 // A press: the nearest note, on a channel of its pool. Refuses 1, 11; is rejected where no channel is free.
@@ -129,7 +151,7 @@ pub extern "C" fn tarvoued_pool_model_register_key(
     ensures moved { Moves (register_rule (state_of pool.old.model) key hz) pool.old.model pool.new.model }
     ensures kept { pool.new.kind ≡ pool.old.kind }
 {
-    capi::pool::tarvoued_pool_model_register_key(pool, key, hz)
+    RegisteredKey::from(pool.model.register_key(key, Pitch::from_hz(hz)))
 }
 
 // A release: where the key was found.
@@ -139,7 +161,7 @@ pub extern "C" fn tarvoued_pool_model_deregister_key(pool: &mut Pool, key: u8) -
     ensures moved { state_of pool.new.model ≡ released (state_of pool.old.model) key }
     ensures kept { pool.new.kind ≡ pool.old.kind }
 {
-    capi::pool::tarvoued_pool_model_deregister_key(pool, key)
+    Note::from(pool.model.deregister_key(key))
 }
 
 // The detuning of a pitch for the note of a key that is found. Refuses 1.
@@ -147,5 +169,5 @@ pub extern "C" fn tarvoued_pool_model_deregister_key(pool: &mut Pool, key: u8) -
 pub extern "C" fn tarvoued_pool_model_repitch_key(pool: &Pool, key: u8, hz: f64) -> Note
     ensures { result ≡ of_repitched (repitch_rule (state_of pool.now.model) key hz) }
 {
-    capi::pool::tarvoued_pool_model_repitch_key(pool, key, hz)
+    Note::from(pool.model.repitch_key(key, Pitch::from_hz(hz)))
 }

@@ -187,22 +187,29 @@ read_any : (c : ℕ) (xs : List ℕ) → list_any (λ (n : ℕ). eqb (n % 16) c)
 read_any c [] = refl
 read_any c (x ∷ xs) = ap (λ (b : Bool). eqb (x % 16) c || b) (read_any c xs)
 
-module _ (l : ChannelList) where
-  -- Every stored list has at most sixteen entries, each below 16.
-  pub length_entries : length l.channels ≡ 16 → length (entries l) ≡ min l.count 16
-  unfolding entries
-  length_entries h = rw (length-map, length-take, h)
+-- so many places of the first n are the first of those
+taken : (n m : ℕ) (xs : List ℕ) → m ≡ min (min n 16) (length xs) → take m xs ≡ take (min n 16) xs
+taken n m xs e = rw (e, take_min (min n 16) xs)
 
-  pub entries_few : length l.channels ≡ 16 → length (entries l) ≤ 16
-  entries_few h = omega (arith, length_entries h)
+module _ (l : ChannelList) where
+  length_entries_lem : length (entries l) ≡ min (min l.count 16) (length l.channels)
+  unfolding entries
+  length_entries_lem = length-map (take (min l.count 16) l.channels) channel_of ∙ length-take (min l.count 16) l.channels
+
+  -- Every stored list has at most sixteen entries, each below 16.
+  pub entries_few : length (entries l) ≤ 16
+  entries_few = omega (arith, length_entries_lem)
 
   pub entries_low : Low (entries l)
   unfolding entries
-  entries_low = low_read (take l.count l.channels)
+  entries_low = low_read (take (min l.count 16) l.channels)
+
+  pub length_entries : length l.channels ≡ 16 → length (entries l) ≡ min l.count 16
+  length_entries h = omega (arith, length_entries_lem, h)
 
   pub entry_at : (i : ℕ) → i < length (entries l) → some (get_or l.channels i 0 % 16) ≡ get_elem? (entries l) i
   unfolding entries
-  entry_at = read_at l.count l.channels
+  entry_at = read_at (min l.count 16) l.channels
 
   pub entry_past : (i : ℕ) → length (entries l) ≤ i → none ≡ get_elem? (entries l) i
   entry_past = read_past (entries l)
@@ -211,13 +218,17 @@ module _ (l : ChannelList) where
   pub member_entries : (n c : ℕ) → n ≡ length (entries l) → list_any (λ (k : ℕ). eqb (k % 16) c) (take n l.channels) ≡ member c (entries l)
   unfolding entries
   member_entries n c e =
-      let m : n ≡ min l.count (length l.channels) = e ∙ length-map (take l.count l.channels) channel_of ∙ length-take l.count l.channels in
-      rw (m, take_min l.count l.channels) (read_any c (take l.count l.channels))
+      rw (taken l.count n l.channels (e ∙ length_entries_lem)) (read_any c (take (min l.count 16) l.channels))
 
   -- one more is stored behind the others
-  pub entries_more : (c : ℕ) → c ≤ 15 → l.count < length l.channels → entries (record { channels = set l.channels l.count c; count = l.count + 1 }) ≡ entries l ++ (c ∷ [])
+  pub entries_more :
+      (c : ℕ) → c ≤ 15 → l.count < length l.channels → l.count < 16
+      → entries (record { channels = set l.channels l.count c; count = l.count + 1 }) ≡ entries l ++ (c ∷ [])
   unfolding entries
-  entries_more c h k =
-      ap (map channel_of) (take_more_set l.channels l.count c k)
+  entries_more c h k few =
+      let this : min l.count 16 ≡ l.count = omega (arith, few) in
+      let next : min (l.count + 1) 16 ≡ l.count + 1 = omega (arith, few) in
+      rw (this, next)
+      (ap (map channel_of) (take_more_set l.channels l.count c k)
       ∙ map_push channel_of (take l.count l.channels) c
-      ∙ ap (λ (n : ℕ). map channel_of (take l.count l.channels) ++ (n ∷ [])) (mod-eq_of_lt (omega arith))
+      ∙ ap (λ (n : ℕ). map channel_of (take l.count l.channels) ++ (n ∷ [])) (mod-eq_of_lt (omega arith)))

@@ -1,6 +1,6 @@
 -- The channel list with which a tuner or a model is opened: it is refused with 6 or 7, entry by entry. Channel i of a plan or a pool is entry i, and the
 -- channels present are the entries. Assumes nothing.
-use Rattle.std.specs.Prelude.{ℕ, not, List, [], ◌∷◌, ◌++◌, map, take, leb, Some, None}
+use Rattle.std.specs.Prelude.{ℕ, not, List, [], ◌∷◌, ◌++◌, map, take, min, leb, Some, None}
 use Rattle.std.specs.Prelude.{Option as Optional}
 use Rattle.std.proofs.Math.Option.{Option, some, none}
 use Rattle.arithmetic.specs.Refusal.{channel_over15, channel_twice}
@@ -28,7 +28,7 @@ present (refused n) = []
 
 -- The entries as they are stored: the first places, at most sixteen, each read as a MIDI channel.
 unfoldable pub entries : ChannelList → List ℕ
-entries l = map channel_of (take l.count l.channels)
+entries l = map channel_of (take (min l.count 16) l.channels)
 
 -- the code's answer in these words: the channel's number, if there is one
 abbrev pub entry_number : Optional Channel → Option ℕ

@@ -52,7 +52,7 @@ tuned_few m next (refused j) n e =
 -- ---- demand 3
 
 -- a plan that is tuned is a placing that fits
-some_fits :
+pub some_fits :
     (by : GroupBy) (lines : List Line) (present : ℕ) {find : ℕ → Option (ℕ × ℤ)} {n : ℕ} → Demand3 by lines present find true n
     → SomeFits by lines present
 some_fits by lines present {n = n} d = go (leb n present) refl

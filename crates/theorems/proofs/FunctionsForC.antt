@@ -28,7 +28,7 @@ use Rattle.pools.specs.Pool as Pools
 use Rattle.plans.specs.Plan as M
 use Rattle.channels.specs.declared.tuning_value.Tuning.{Tuning}
 use Rattle.channels.specs.declared.tuning_value.Tuning.TheVariants.{Fine, Bend}
-use Rattle.senders.specs.Lent.{Effect, fitted, told, Moved, left}
+use Rattle.senders.specs.Lent.{Effect, Steps, fitted, told, Moved, left}
 use Rattle.senders.specs.Midi.{message_rule}
 use Rattle.senders.specs.Mts.{channel_tuning_rule}
 use Rattle.senders.specs.Jit as Jit
@@ -44,6 +44,13 @@ use Rattle.theorems.specs.FunctionsForC.{plan_model_open, plan_model_set_tuning,
 use Rattle.theorems.proofs.Plans.Refusals.{note_lists_numbers, pitch_lists_numbers, refused_leaves}
 use Rattle.theorems.proofs.Tuners.Refusals.{has, Among, among_test}
 use Rattle.theorems.proofs.Tuners.Demand1 as D
+
+-- A call in place, whose answer is then given in numbers, meets the contract of an entry: one law over the tuner and the answer.
+pub entry_meets :
+    {R S T : Type 0} {view : T → S} {answer_of : Outcome R → Answer} {rule : Outcome (Effect R S)} {old new : T} {buffer buffer' : List ℕ}
+    {result : Outcome R} {answer : Answer}
+    → answer ≡ answer_of result → Steps view rule old buffer result new buffer' → EntryMeets view answer_of rule old buffer answer new buffer'
+entry_meets {answer_of = answer_of} e p = record { answer_is = e ∙ ap answer_of p.told_is; block_is = p.moved_is; buffer_is = p.left_is }
 
 -- A call ends in what it does, and `refusal` is 0; or it is refused, and `refusal` is among these numbers.
 pub data Ends (ns : List ℕ) : ℕ → ℕ → Type 0 where

@@ -1,3 +1,4 @@
 -- Refusals of the tuners and of messages.
 pub mod Refusals
 pub mod Demand1
+pub mod Planning

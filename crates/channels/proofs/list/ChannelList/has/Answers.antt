@@ -6,7 +6,7 @@ use Rattle.channels.proofs.ChannelLists.{entries_few, member_entries}
 use Rattle.channels.proofs.list.ChannelList.has.Goals as goal
 
 pub shared_ref_as_front-entries : goal.shared_ref_as_front-entries
-shared_ref_as_front-entries c = omega (arith, entries_few c.args.self (omega arith))
+shared_ref_as_front-entries c = omega (arith, entries_few c.args.self)
 
 pub returns : goal.returns
 returns c =

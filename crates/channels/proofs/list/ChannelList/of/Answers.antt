@@ -53,7 +53,7 @@ loop-number-preserved c =
     let inv = c.loop-number.invariant in
     let is = channel_of_number _ _ c.in_ok-channel.ensures in
     let new = rw is.0 at (sym c.if-has.ensures) in
-    let more = entries_more l x is.1 (omega (arith, inv.places, room at.Else-has)) in
+    let more = entries_more l x is.1 (omega (arith, inv.places, room at.Else-has)) (room at.Else-has) in
     let same = c.number.ensures ∙ is.0 in
     rw same
     record {

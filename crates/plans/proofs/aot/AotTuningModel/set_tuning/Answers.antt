@@ -49,7 +49,7 @@ module _ (g : Over) (c : Else-few g) where
   enough_tunes =
       tuned_tunes c.args.self.now (g.L.TuningLists.lines c.args.lists.now) c.add_all.new.self c.in_ok-add_all.ensures (entries c.channels-channels.result)
       c.channels-channels.ensures c.group_by-by.result c.group_by-by.ensures _ _ c.place_keys-count.result c.place_keys-count.ensures
-      (omega (arith, c.len-present.ensures, c.if-few.false)) (entries_few c.channels-channels.result places)
+      (omega (arith, c.len-present.ensures, c.if-few.false)) (entries_few c.channels-channels.result)
 
 pub returns-clause-tunes : goal.returns-clause-tunes
 returns-clause-tunes g c = enough_tunes g (goal.at.returns-clause-tunes g c).Else-few
