@@ -93,9 +93,6 @@ module _ (s : State) where
   pub next_met : (from : ℕ) (h : Held) → first (held_keys s from) ≡ some h → Met s from h
   next_met from h e = step (length s.keys) from (omega arith) h e
 
-  pub left_behind : (from : ℕ) (h : Held) → some h ≡ first (held_keys s from) → held_keys s from ≡ h ∷ held_keys s (h.key + 1)
-  left_behind from h e = (next_met from h (sym e)).left
-
   -- No next key: none is left.
   pub next_none : (from : ℕ) → first (held_keys s from) ≡ none → held_keys s from ≡ []
   unfolding first

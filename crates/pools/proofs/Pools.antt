@@ -14,7 +14,7 @@ use Rattle.arithmetic.specs.Refusal.{pitch_out_of_range, note_out_of_range}
 use Rattle.arithmetic.specs.Note.{is_note, note_rule}
 use Rattle.arithmetic.specs.Pitch.{is_pitch, detuning_of}
 use Rattle.arithmetic.specs.Nearest.{nearest_note, nearest_rule}
-use Rattle.arithmetic.proofs.Outcomes.{no_value, passed, refused_at}
+use Rattle.arithmetic.proofs.Outcomes.{no_value, passed, refuses_once, refused_at}
 use Rattle.arithmetic.proofs.Notes.{letter_below}
 use Rattle.channels.specs.Lists.{first}
 use Rattle.channels.specs.Places.{Place}
@@ -142,11 +142,11 @@ module _ (hz : Float) (s : State) (key : ℕ) where
 
 -- ---- a press for a note, by whether a number is one
 
-module _ (z n : ℤ) (s : State) (key : ℕ) (d : Float) where
-  pub register_noted : value n ≡ note_rule z → unless_held s key n d ≡ register_note_rule s key z d
+module _ (z : ℤ) where
+  pub noted : (n : ℤ) → value n ≡ note_rule z → (s : State) (key : ℕ) (d : Float) → unless_held s key n d ≡ register_note_rule s key z d
   unfolding note_rule register_note_rule
-  register_noted e = let is = passed note_out_of_range (is_note z) z e in rw (is.0, is.1)
+  noted n e s key d = let is = passed note_out_of_range (is_note z) z e in rw (is.0, is.1)
 
-pub register_unnoted : (z : ℤ) (n : ℕ) (s : State) (key : ℕ) (d : Float) → ◌≡◌ {A = Outcome ℤ} (refused n) (note_rule z) → register_note_rule s key z d ≡ refused n
-unfolding note_rule register_note_rule
-register_unnoted z n s key d e = sym (refused_at note_out_of_range (is_note z) z e (unless_held s key z d))
+  pub not_noted : (n : ℕ) → ◌≡◌ {A = Outcome ℤ} (refused n) (note_rule z) → (is_note z ≡ false) × (n ≡ 4)
+  unfolding note_rule
+  not_noted n e = (refuses_once note_out_of_range n (is_note z) z).0 (sym e)

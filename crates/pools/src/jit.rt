@@ -242,7 +242,7 @@ impl JitTuningModel {
     }
 
     // A press for a note and a detuning: with those that `allocate_key` answers it is the press that was asked about. Refuses 4, then 11 a key that is held.
-    #[tactic(auto, using(crate::proofs::Pools::register_noted, crate::proofs::Pools::register_unnoted), unfolding(crate::specs::Pool::replied))]
+    #[tactic(auto, using(crate::proofs::Pools::not_noted), unfolding(crate::specs::Block::register_note_rule, crate::specs::Pool::replied))]
     pub fn register_note(
         &mut self,
         key: u8,
@@ -486,7 +486,7 @@ impl<'a> Iterator for HeldKeys<'a> {
 
     ghost remaining = { item_count left };
 
-    #[tactic(auto, using(crate::proofs::HeldKeys::left_behind, crate::proofs::HeldKeys::next_none), unfolding(crate::specs::PoolAnswers::next_held))]
+    #[tactic(auto, using(crate::proofs::HeldKeys::next_none), unfolding(crate::specs::PoolAnswers::next_held))]
     fn next(&mut self) -> Option<HeldKey> {
         let held = self.model.next_key(self.from)?;
         self.from = held.key as usize + 1;

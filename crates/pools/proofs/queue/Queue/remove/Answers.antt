@@ -1,0 +1,42 @@
+-- `Queue::remove` meets its contract. The loop's invariant: the first items are those read without the number, and none from i on has changed. Assumes nothing.
+use Rattle.std.proofs.Common.{◌≡◌, length, get_or, take, set, refl, sym, ap, ◌∙◌, arith}
+use Rattle.std.proofs.lemmas.List.{length-set, length-take-le}
+use Rattle.channels.specs.Lists.{without}
+use Rattle.pools.specs.Block.{queue_of}
+use Rattle.pools.proofs.Queues.{counted, sifted_here, sifted_other, sifted_rest, fewer}
+use Rattle.pools.proofs.queue.Queue.remove.Goals as goal
+use Rattle.pools.proofs.queue.Queue.remove.Goals.{then-y-x, else-y-x}
+
+pub loop-i-preserved : goal.loop-i-preserved
+loop-i-preserved c =
+    let l = c.loop-i in
+    let items = l.self.items in
+    let m = c.args.self.now.items in
+    let y = get_or items l.i 0 in
+    let e : length items ≡ length m = omega arith in
+    let rest = sifted_rest c.args.x items m l.i l.kept (omega arith) e l.invariant.few l.invariant.read l.invariant.rest in
+    elim c.if-y-x.branch [
+      | then-y-x w ↦ record {
+        long = omega (arith, length-set items l.kept y);
+        few = omega arith;
+        read = ap (λ n. take n (set items l.kept y)) w.kept-is ∙ sifted_other c.args.x items m l.i l.kept (omega arith) e l.invariant.few l.invariant.read l.invariant.rest w.if-y-x.true;
+        rest = rest;
+      }
+      | else-y-x w ↦ record {
+        long = omega (arith, length-set items l.kept y);
+        few = omega arith;
+        read = ap (λ n. take n (set items l.kept y)) w.kept-is ∙ sifted_here c.args.x items m l.i l.kept (omega arith) e l.invariant.few l.invariant.read l.invariant.rest w.if-y-x.false;
+        rest = rest;
+      }
+    ]
+
+pub returns-clause-found : goal.returns-clause-found
+unfolding queue_of
+returns-clause-found c =
+    let l = c.loop-i in
+    let q = c.args.self.now in
+    let n = c.len-n.result in
+    let ended : l.i ≡ n = omega arith in
+    let left = l.invariant.read ∙ ap (λ k. without c.args.x (take k q.items)) ended ∙ ap (without c.args.x) (sym (counted q.count n q.items c.len-n.ensures.count)) in
+    let many = length-take-le l.kept l.self.items (omega arith) in
+    fewer c.args.x (take q.count q.items) l.kept n (sym many ∙ ap length left) c.len-n.ensures.count
