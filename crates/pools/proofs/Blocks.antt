@@ -15,7 +15,8 @@ use Rattle.pools.specs.declared.jit.JitTuningModel.{JitTuningModel}
 use Rattle.pools.specs.declared.jit.PoolGroupBy.{PoolGroupBy}
 use Rattle.pools.specs.declared.jit.PoolGroupBy.TheVariants.{NoteLetter, Channel}
 use Rattle.pools.specs.declared.pool.Pool as C
-use Rattle.pools.proofs.Pools.{pool_small}
+use Rattle.pools.proofs.HeldKeys.{here_left, skipped, walked}
+use Rattle.pools.proofs.Pools.{pool_small, stop_turn, released_keys}
 
 pub key_changed : (m : JitTuningModel) (key n : ℕ) → state_of (record m { records = set m.records key n }) ≡ with_key (state_of m) key (place_of n)
 unfolding state_of state_with with_key
@@ -91,6 +92,11 @@ module _ (m : JitTuningModel) where
           ∙ ap (with_key (state_of kept) key) f
           ∙ ap (λ (s : State). with_key s key (some (record { channel = channel; note = note })))
           (pool_changed p ∙ ap (with_pool (state_of m) note) (e ∙ ap (λ (q : Pool). taken_in q key) (pool_here d h)))
+
+-- a walk over the keys, and a release of each
+pub ruleset next_keys = (here_left, skipped, walked, key_here, keys_many)
+
+pub ruleset stops = (walked, stop_turn, released_keys, keys_many)
 
 -- ---- a call in place leads to the rule's state, also where it is refused
 

@@ -98,6 +98,8 @@ pub released_found : (s : State) (key : ℕ) (p : Place) → found s key ≡ som
 unfolding released released_from
 released_found s key p e = rw e
 
+pub ruleset releases = (held_at_is, held_at_none, released_none, released_found)
+
 -- the found keys behind a released one stay
 held_behind : (s : State) (key from : ℕ) → key < from → held_keys (released s key) from ≡ held_keys s from
 unfolding held_keys released released_from forgotten freed with_key with_pool

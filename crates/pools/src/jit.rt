@@ -110,7 +110,8 @@ pub struct Repitched {
     pub detuning: f64,
 }
 
-// A key on a channel of its note's pool. The channel is a place in the channel list, which has at most sixteen too.
+// A key on a channel of its note's pool. That is channel i of the model, a place in the channel list, which has at most sixteen, so that i is a `Channel` too.
+// It is lent: the steps of a press and of a release that take it by value take a ninth more instructions.
 #[derive(Clone, Copy)]
 struct Holder {
     key: u8,
@@ -258,7 +259,7 @@ impl JitTuningModel {
 
     // A release: where the key was found.
     // Example: open([0], Channel, Stop); register_key(1, 440 Hz); deregister_key(1) is channel 0, note 69
-    #[tactic(auto, using(crate::proofs::Pools::held_at_is, crate::proofs::Pools::held_at_none, crate::proofs::Pools::released_found, crate::proofs::Pools::released_none), unfolding(channels::specs::Places::place, crate::specs::PoolInternal::held_by))]
+    #[tactic(auto, using(crate::proofs::Pools::releases), unfolding(channels::specs::Places::place, crate::specs::PoolInternal::held_by))]
     pub fn deregister_key(&mut self, key: u8) -> Option<Place>
         ensures told { place result ≡ found (state_of self.old) key }
         ensures moved { state_of self.new ≡ released (state_of self.old) key }
@@ -295,7 +296,7 @@ impl JitTuningModel {
 
     // The first found key from a number on. All found keys by rising key: from 0, and then each time from one above the last.
     // Example: open([0], Channel, Stop); register_key(1, 440 Hz); next_key(0) is key 1, channel 0, note 69
-    #[tactic(auto, using(crate::proofs::HeldKeys::here_left, crate::proofs::HeldKeys::skipped, crate::proofs::HeldKeys::walked, crate::proofs::Blocks::key_here, crate::proofs::Blocks::keys_many), unfolding(crate::specs::PoolAnswers::next_held, channels::specs::Places::place, channels::specs::Lists::first))]
+    #[tactic(auto, using(crate::proofs::Blocks::next_keys), unfolding(crate::specs::PoolAnswers::next_held, channels::specs::Places::place, channels::specs::Lists::first))]
     pub fn next_key(&self, from: usize) -> Option<HeldKey>
         ensures { next_held result ≡ first (held_keys (state_of self.now) from) }
     {
@@ -324,7 +325,7 @@ impl JitTuningModel {
 
     // Every found key is released, by rising key.
     // Example: open([0], Channel, Stop); register_key(1, 440 Hz); stop(); access_key(1) is not found
-    #[tactic(auto, using(crate::proofs::Pools::stop_turn, crate::proofs::Pools::released_keys, crate::proofs::HeldKeys::walked, crate::proofs::Blocks::keys_many), unfolding(crate::specs::Pool::stopped, crate::specs::Pool::released_all))]
+    #[tactic(auto, using(crate::proofs::Blocks::stops), unfolding(crate::specs::Pool::stopped, crate::specs::Pool::released_all))]
     pub fn stop(&mut self)
         ensures { state_of self.new ≡ stopped (state_of self.old) }
     {
@@ -353,7 +354,7 @@ impl JitTuningModel {
 // The steps of a press and of a release.
 impl JitTuningModel {
     // The key on its channel, if it is found.
-    #[tactic(auto, using(crate::proofs::Blocks::key_channel), unfolding(channels::specs::Places::place, crate::specs::PoolInternal::held_by, crate::specs::Pool::held_at))]
+    #[tactic(auto, unfolding(channels::specs::Places::place, crate::specs::PoolInternal::held_by, crate::specs::Pool::held_at))]
     fn holder(&self, key: u8) -> Option<Holder>
         ensures { held_by result ≡ held_at key (found (state_of self.now) key) }
     {

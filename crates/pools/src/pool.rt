@@ -29,7 +29,7 @@ impl Pool {
         }
     }
 
-    // The next free channel, if there is one.
+    // The next free channel, if there is one. A number in the memory of a program in C is read by its remainder by 16, and so by that by 256.
     #[tactic(auto, using(crate::proofs::Queues::first_map, crate::proofs::Queues::first_map_none), unfolding(crate::specs::Block::pool_in))]
     pub fn next_free(&self) -> Option<Channel>
         ensures { entry_number result ≡ first (pool_in self.now).free }
@@ -48,7 +48,7 @@ impl Pool {
     }
 
     // The channel goes to the back, unless the key has lost it.
-    #[tactic(auto, using(crate::proofs::Queues::map_behind, crate::proofs::Queues::without_none), unfolding(crate::specs::Block::pool_in, crate::specs::Pool::freed_in))]
+    #[tactic(auto, using(crate::proofs::Queues::put_back), unfolding(crate::specs::Block::pool_in, crate::specs::Pool::freed_in))]
     pub fn freed_by(&mut self, key: u8, channel: Channel)
         ensures { pool_in self.new ≡ freed_in (pool_in self.old) key channel.number }
     {

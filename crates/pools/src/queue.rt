@@ -60,7 +60,7 @@ impl Queue {
     }
 
     // One item more at the back; a full queue stays as it is.
-    #[tactic(auto, using(crate::proofs::Queues::push_room, crate::proofs::Queues::push_full, crate::proofs::Queues::counted), unfolding(crate::specs::Block::queue_of))]
+    #[tactic(auto, using(crate::proofs::Queues::pushed), unfolding(crate::specs::Block::queue_of))]
     pub fn push_back(&mut self, x: u16)
         ensures { queue_of self.new ≡ behind (queue_of self.old) x }
     {
@@ -85,7 +85,7 @@ impl Queue {
     }
 
     // The queue without a number; whether it was there.
-    #[tactic(auto, using(crate::proofs::Queues::sifted_here, crate::proofs::Queues::sifted_other, crate::proofs::Queues::sifted_rest, crate::proofs::Queues::fewer, crate::proofs::Queues::counted), unfolding(crate::specs::Block::queue_of, channels::specs::Lists::without))]
+    #[tactic(auto, unfolding(crate::specs::Block::queue_of, channels::specs::Lists::without))]
     pub fn remove(&mut self, x: u16) -> bool
         ensures found { result ≡ member x (queue_of self.old) }
         ensures left { queue_of self.new ≡ without x (queue_of self.old) }
