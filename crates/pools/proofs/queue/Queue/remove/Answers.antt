@@ -7,10 +7,6 @@ use Rattle.pools.proofs.Queues.{counted, sifted_here, sifted_other, sifted_rest,
 use Rattle.pools.proofs.queue.Queue.remove.Goals as goal
 use Rattle.pools.proofs.queue.Queue.remove.Goals.{then-y-x, else-y-x}
 
-pub loop-i-init : goal.loop-i-init
-unfolding without
-loop-i-init c = record { long = omega arith; few = omega arith; read = refl; rest = refl }
-
 pub loop-i-preserved : goal.loop-i-preserved
 loop-i-preserved c =
     let l = c.loop-i in
@@ -34,13 +30,13 @@ loop-i-preserved c =
       }
     ]
 
-pub returns : goal.returns
+pub returns-clause-found : goal.returns-clause-found
 unfolding queue_of
-returns c =
+returns-clause-found c =
     let l = c.loop-i in
     let q = c.args.self.now in
     let n = c.len-n.result in
     let ended : l.i ≡ n = omega arith in
     let left = l.invariant.read ∙ ap (λ k. without c.args.x (take k q.items)) ended ∙ ap (without c.args.x) (sym (counted q.count n q.items c.len-n.ensures.count)) in
     let many = length-take-le l.kept l.self.items (omega arith) in
-    record { found = fewer c.args.x (take q.count q.items) l.kept n (sym many ∙ ap length left) c.len-n.ensures.count; left = left }
+    fewer c.args.x (take q.count q.items) l.kept n (sym many ∙ ap length left) c.len-n.ensures.count
