@@ -1,9 +1,9 @@
 -- The channel for a press of a key that is not held: each way to it is that of the rule. Assumes nothing.
-use Rattle.std.proofs.Common.{◌≡◌, ℕ, length, ℤ, Float, Some, None, sym, ap, ◌∙◌}
+use Rattle.std.proofs.Common.{◌≡◌, ℕ, length, ℤ, Float, Some, None, sym}
 use Rattle.std.proofs.Math.Option.{some, none}
 use Rattle.channels.specs.Lists.{first}
 use Rattle.channels.specs.declared.channel.Channel.{Channel}
-use Rattle.pools.specs.Pool.{Pool, State, pool_of, pool, oldest, oldest_of, pressed}
+use Rattle.pools.specs.Pool.{State, pool_of, pool, oldest, pressed}
 use Rattle.pools.specs.Block.{group_of, mode_of, state_of, state_with}
 use Rattle.pools.specs.PoolInternal.{held_by, given}
 use Rattle.pools.specs.declared.jit.Allocation.TheVariants.{Free, Stopped, Ignored}

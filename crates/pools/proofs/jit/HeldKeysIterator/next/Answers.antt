@@ -2,7 +2,7 @@
 use Rattle.std.proofs.Common.{length, sym, ap, arith}
 use Rattle.pools.specs.Block.{state_of}
 use Rattle.pools.specs.PoolAnswers.{held, next_held}
-use Rattle.pools.proofs.HeldKeys.{next_met, next_none}
+use Rattle.pools.proofs.HeldKeys.{next_met}
 use Rattle.pools.proofs.jit.HeldKeysIterator.next.Goals as goal
 
 pub returns-clause-steps : goal.returns-clause-steps

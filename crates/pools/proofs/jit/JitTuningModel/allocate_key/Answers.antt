@@ -9,7 +9,7 @@ use Rattle.pools.specs.declared.jit.Registered.{Registered}
 use Rattle.std.proofs.lemmas.Result.{err_from_is_err_and}
 use Rattle.pools.specs.Pool.{replied}
 use Rattle.pools.specs.Block.{state_of}
-use Rattle.pools.proofs.Pools.{register_found, register_refused}
+use Rattle.pools.proofs.Pools.{register_found}
 use Rattle.pools.proofs.jit.JitTuningModel.allocate_key.Goals as goal
 
 -- what `map` makes of an allocation, by what the closure does to it

@@ -1,5 +1,5 @@
 -- `Queue::remove` meets its contract. The loop's invariant: the first items are those read without the number, and none from i on has changed. Assumes nothing.
-use Rattle.std.proofs.Common.{◌≡◌, length, get_or, take, set, refl, sym, ap, ◌∙◌, arith}
+use Rattle.std.proofs.Common.{◌≡◌, length, get_or, take, set, sym, ap, ◌∙◌, arith}
 use Rattle.std.proofs.lemmas.List.{length-set, length-take-le}
 use Rattle.channels.specs.Lists.{without}
 use Rattle.pools.specs.Block.{queue_of}
