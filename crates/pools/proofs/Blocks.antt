@@ -1,13 +1,13 @@
 -- Laws of a pool model's state in memory: what a change of a pool or of a key's record does to the state. Assumes nothing.
 use Rattle.std.proofs.Common.{◌≡◌, ℕ, ◌<◌, ◌≤◌, map, length, get_or, set, ℤ, true, sym, ap, ◌∙◌, arith}
 use Rattle.std.proofs.Math.ListN.{get_or-map, get_or-eq_default}
-use Rattle.std.proofs.Math.Decide.{dec_lt}
+use Rattle.std.proofs.Math.Nat.{mod-eq_of_lt}
 use Rattle.std.proofs.Math.Option.{some, none}
 use Rattle.std.proofs.Math.Seq.{take-set-lt, get_or-take}
 use Rattle.std.proofs.lemmas.List.{map-set, length-take, length-map, get_or-map as get_or-map'}
 use Rattle.arithmetic.specs.Note.{is_note}
 use Rattle.arithmetic.specs.Outcome.{Outcome, value, refused}
-use Rattle.channels.specs.Places.{Place, place_of, note_of}
+use Rattle.channels.specs.Places.{Place, channel_of, place_of, note_of}
 use Rattle.channels.proofs.RecordNumbers.{place_sound}
 use Rattle.pools.specs.Pool.{Pool, State, pool_count, pool_of, pool, empty_pool, found, taken_in, freed_in, with_pool, with_key, taken, freed, forgotten, replied}
 use Rattle.pools.specs.Block.{pool_in, group_of, state_with, state_of, Moves}
@@ -15,7 +15,8 @@ use Rattle.pools.specs.declared.jit.JitTuningModel.{JitTuningModel}
 use Rattle.pools.specs.declared.jit.PoolGroupBy.{PoolGroupBy}
 use Rattle.pools.specs.declared.jit.PoolGroupBy.TheVariants.{NoteLetter, Channel}
 use Rattle.pools.specs.declared.pool.Pool as C
-use Rattle.pools.proofs.Pools.{pool_small}
+use Rattle.pools.proofs.HeldKeys.{here_left, skipped, walked}
+use Rattle.pools.proofs.Pools.{pool_small, stop_turn, released_keys}
 
 pub key_changed : (m : JitTuningModel) (key n : ℕ) → state_of (record m { records = set m.records key n }) ≡ with_key (state_of m) key (place_of n)
 unfolding state_of state_with with_key
@@ -42,18 +43,12 @@ module _ (m : JitTuningModel) where
   unfolding place_of note_of
   key_past key h = sym (key_here key) ∙ ap place_of (get_or-eq_default m.records 0 {n = key} h)
 
-  pub key_sound : (key : ℕ) (p : Place) → found (state_of m) key ≡ some p → (p.channel < 16) × (is_note p.note ≡ true)
-  key_sound key p e = place_sound (get_or m.records key 0) p (key_here key ∙ e)
+  -- a found key's channel is below 16, and its note is a note
+  pub key_channel : (key : ℕ) (p : Place) → found (state_of m) key ≡ some p → channel_of p.channel ≡ p.channel
+  key_channel key p e = mod-eq_of_lt (place_sound (get_or m.records key 0) p (key_here key ∙ e)).0
 
-  pub key_inside : (key : ℕ) (p : Place) → found (state_of m) key ≡ some p → key < length m.records
-  key_inside key p e = elim (dec_lt key (length m.records)) [
-    | yes h ↦ h
-    | no h ↦ absurd (let past = sym e ∙ key_past key (omega arith) in cc)
-  ]
-
-  -- a found key's note is a note
   pub found_note : (key : ℕ) (p : Place) → found (state_of m) key ≡ some p → is_note p.note ≡ true
-  found_note key p e = (key_sound key p e).1
+  found_note key p e = (place_sound (get_or m.records key 0) p (key_here key ∙ e)).1
 
   pub keys_many : length (state_of m).keys ≡ length m.records
   unfolding state_of state_with
@@ -97,6 +92,11 @@ module _ (m : JitTuningModel) where
           ∙ ap (with_key (state_of kept) key) f
           ∙ ap (λ (s : State). with_key s key (some (record { channel = channel; note = note })))
           (pool_changed p ∙ ap (with_pool (state_of m) note) (e ∙ ap (λ (q : Pool). taken_in q key) (pool_here d h)))
+
+-- a walk over the keys, and a release of each
+pub ruleset next_keys = (here_left, skipped, walked, key_here, keys_many)
+
+pub ruleset stops = (walked, stop_turn, released_keys, keys_many)
 
 -- ---- a call in place leads to the rule's state, also where it is refused
 

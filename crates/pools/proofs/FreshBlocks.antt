@@ -1,7 +1,12 @@
 -- A model as it is opened. Assumes nothing.
 use Rattle.std.proofs.Common.{◌≡◌, ℕ, zero, suc, List, [], ◌∷◌, map, length, take, replicate, refl, ap}
 use Rattle.std.proofs.Math.Option.{Option, none}
-use Rattle.channels.specs.ChannelList.{entries}
+use Rattle.std.specs.Prelude.{Result, Ok, Err}
+use Rattle.std.specs.Result.{result_unwrap_or}
+use Rattle.arithmetic.specs.Answers.{outcome_by}
+use Rattle.arithmetic.specs.declared.refusal.Refusal.{Refusal}
+use Rattle.channels.specs.declared.list.ChannelList.{ChannelList}
+use Rattle.channels.specs.ChannelList.{entries, present}
 use Rattle.channels.specs.Lists.{upward}
 use Rattle.channels.specs.Places.{Place, note_of, place_of}
 use Rattle.pools.specs.Pool.{key_count, Pool, pool_count, fresh}
@@ -31,3 +36,8 @@ pub state_fresh : (m : JitTuningModel) (group : PoolGroupBy) (mode : PoolingMode
     → state_of m ≡ fresh (entries m.channels) group mode
 unfolding state_of state_with fresh
 state_fresh m group mode p by in-mode records pools begun = rw (by, in-mode, records, none_found key_count, pools, first_pools group p, begun)
+
+-- a refused list is read as none
+pub listed : (r : Result ChannelList Refusal) (d : ChannelList) → entries d ≡ [] → entries (result_unwrap_or r d) ≡ present (outcome_by entries r)
+listed (Ok x) d h = refl
+listed (Err e) d h = h

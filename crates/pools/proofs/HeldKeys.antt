@@ -58,6 +58,9 @@ module _ (s : State) where
   unfolding held_keys found
   here from p h e = record { reached = omega arith; inside = h; is = e; left = held_here s.keys from p h e }
 
+  pub here_left : (from : ℕ) (p : Place) → from < length s.keys → found s from ≡ some p → held_keys s from ≡ record { key = from; place = p } ∷ held_keys s (from + 1)
+  here_left from p h e = (here from p h e).left
+
   pub skipped : (from : ℕ) → from < length s.keys → found s from ≡ none → held_keys s from ≡ held_keys s (from + 1)
   unfolding held_keys found
   skipped from h e = held_not s.keys from h e

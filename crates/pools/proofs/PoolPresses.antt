@@ -1,6 +1,6 @@
 -- What an accepted press or a repitch answers: its detuning can be measured, since its note is a note and its pitch a pitch. Assumes nothing.
 use mathlib.Core.Path.{◌≡◌, refl, sym, ap, subst, ◌∙◌}
-use mathlib.Core.Bool.{Bool, true, false, not}
+use mathlib.Core.Bool.{true, not}
 use mathlib.Core.Option.{Option, some, none}
 use Prim.Native.Nat.{ℕ}
 use lib.Dec.{T}
@@ -14,6 +14,7 @@ use Rattle.arithmetic.specs.Nearest.{nearest_note}
 use Rattle.arithmetic.proofs.Bounds.{detuning_positive}
 use Rattle.arithmetic.proofs.Nearest.{nearest_is_note}
 use Rattle.channels.specs.Lists.{first}
+use Rattle.channels.proofs.ListLaws.{T→true}
 use Rattle.channels.specs.Places.{Place, is_held}
 use Rattle.pools.specs.Pool.{State, Press, accepted, rejected, pool, found, room_for, pressed_on, pressed, unless_held, register_rule, tuning, repitch_rule}
 use Rattle.pools.specs.Block.{state_of, register_note_rule}
@@ -21,12 +22,8 @@ use Rattle.pools.specs.declared.jit.JitTuningModel.{JitTuningModel}
 use Rattle.pools.proofs.Pools.{value_by}
 use Rattle.pools.proofs.Blocks.{found_note}
 
-true_of : (b : Bool) → T b → b ≡ true
-true_of true t = refl
-true_of false t = elim t [ ]
-
 measurable : (hz : Float) (z : ℤ) → is_pitch hz ≡ true → is_note z ≡ true → positive (detuning_of hz z) ≡ true
-measurable hz z p n = true_of (positive (detuning_of hz z)) (detuning_positive hz z (subst T (sym p) tt) n)
+measurable hz z p n = T→true (positive (detuning_of hz z)) (detuning_positive hz z (subst T (sym p) tt) n)
 
 -- an accepted press answers the note and the detuning it was made with
 pub made_with : (s : State) (key : ℕ) (note : ℤ) (v : Float) {c : ℕ} {st : Option ℤ} {z : ℤ} {d : Float} → (pressed s key note v).0 ≡ accepted c st z d → (z ≡ note) × (d ≡ v)

@@ -14,12 +14,12 @@ use Rattle.arithmetic.specs.Refusal.{pitch_out_of_range, note_out_of_range}
 use Rattle.arithmetic.specs.Note.{is_note, note_rule}
 use Rattle.arithmetic.specs.Pitch.{is_pitch, detuning_of}
 use Rattle.arithmetic.specs.Nearest.{nearest_note, nearest_rule}
-use Rattle.arithmetic.proofs.Outcomes.{no_value, refuses_once}
+use Rattle.arithmetic.proofs.Outcomes.{no_value, passed, refuses_once, refused_at}
 use Rattle.arithmetic.proofs.Notes.{letter_below}
-use Rattle.arithmetic.proofs.Refusals.{nearest_refuses}
 use Rattle.channels.specs.Lists.{first}
 use Rattle.channels.specs.Places.{Place}
 use Rattle.pools.specs.Pool.{State, Held, pool_count, pool_of, pool, found, with_pool, with_key, freed, forgotten, released, released_from, released_all, held_at, oldest_of, oldest, Room, room, made_room, room_for, accepted, rejected, taken, pressed, pressed_on, held_from, held_keys, unless_held, register_rule}
+use Rattle.pools.specs.Block.{register_note_rule}
 use Rattle.pools.specs.declared.jit.PoolGroupBy.{PoolGroupBy}
 use Rattle.pools.specs.declared.jit.PoolGroupBy.TheVariants.{NoteLetter, Channel}
 use Rattle.pools.specs.declared.jit.PoolingMode.{PoolingMode}
@@ -31,17 +31,6 @@ use Rattle.pools.proofs.HeldKeys.{here, skipped}
 pub value_by : {A : Type 0} (k : ℕ) (a : A) (test : Bool) (o : Outcome A) → value a ≡ (refuse k unless test then o) → (test ≡ true) × (value a ≡ o)
 value_by k a true o e = (refl, e)
 value_by k a false o e = no_value a k e
-
--- ---- whether a number is a note
-
-module _ (z : ℤ) where
-  pub noted : (n : ℤ) → ◌≡◌ {A = Outcome ℤ} (value n) (note_rule z) → (is_note z ≡ true) × (n ≡ z)
-  unfolding note_rule
-  noted n e = let f = value_by note_out_of_range n (is_note z) (value z) e in let g = f.1 in (f.0, cc)
-
-  pub not_noted : (n : ℕ) → ◌≡◌ {A = Outcome ℤ} (refused n) (note_rule z) → (is_note z ≡ false) × (n ≡ 4)
-  unfolding note_rule
-  not_noted n e = (refuses_once note_out_of_range n (is_note z) z).0 (sym e)
 
 -- ---- the pool of a note
 
@@ -109,6 +98,8 @@ pub released_found : (s : State) (key : ℕ) (p : Place) → found s key ≡ som
 unfolding released released_from
 released_found s key p e = rw e
 
+pub ruleset releases = (held_at_is, held_at_none, released_none, released_found)
+
 -- the found keys behind a released one stay
 held_behind : (s : State) (key from : ℕ) → key < from → held_keys (released s key) from ≡ held_keys s from
 unfolding held_keys released released_from forgotten freed with_key with_pool
@@ -136,29 +127,28 @@ stop_turn s key h = go (found s key) refl
         ap (released_all s) (here s key p h e).left ∙ ap (released_all (released s key)) (sym (held_behind s key (key + 1) (omega arith)))
     go none e = ap (released_all s) (skipped s key h e) ∙ ap (λ (t : State). released_all t (held_keys t (key + 1))) (sym (released_none s key e))
 
--- ---- the nearest note
+-- ---- a press for the nearest note of a pitch, by what `find_by_pitch` answers
 
-module _ (hz : Float) where
-  pub nearest_is : (n : ℤ) (d : Float) → ◌≡◌ {A = Outcome (ℤ × Float)} (value (n, d)) (nearest_rule hz)
-      → (is_pitch hz ≡ true) × (n ≡ nearest_note hz) × (d ≡ detuning_of hz (nearest_note hz))
-  unfolding nearest_rule
-  nearest_is n d e =
-      let nearest : ℤ × Float = (nearest_note hz, detuning_of hz (nearest_note hz)) in
-      let f = value_by pitch_out_of_range (n, d) (is_pitch hz) (value nearest) e in
-      let g = f.1 in
-      let same : ◌≡◌ {A = ℤ × Float} (n, d) nearest = cc in
-      (f.0, ap (λ (x : ℤ × Float). x.0) same, ap (λ (x : ℤ × Float). x.1) same)
+module _ (hz : Float) (s : State) (key : ℕ) where
+  pub register_found : (n : ℤ) (d : Float) → ◌≡◌ {A = Outcome (ℤ × Float)} (value (n, d)) (nearest_rule hz) → unless_held s key n d ≡ register_rule s key hz
+  unfolding nearest_rule register_rule
+  register_found n d e =
+      let is = passed pitch_out_of_range (is_pitch hz) (nearest_note hz, detuning_of hz (nearest_note hz)) e in
+      rw is.0 (ap (λ (x : ℤ × Float). unless_held s key x.0 x.1) is.1)
 
-  -- a press by its pitch is one for the nearest note
-  pub register_nearest : (s : State) (key : ℕ) (n : ℤ) (d : Float) → (is_pitch hz ≡ true) × (n ≡ nearest_note hz) × (d ≡ detuning_of hz (nearest_note hz))
-      → unless_held s key n d ≡ register_rule s key hz
-  unfolding register_rule
-  register_nearest s key n d is = ap (λ z. unless_held s key z d) is.1 ∙ ap (unless_held s key (nearest_note hz)) is.2 ∙ rw is.0
+  pub register_refused : (n : ℕ) → ◌≡◌ {A = Outcome (ℤ × Float)} (refused n) (nearest_rule hz) → register_rule s key hz ≡ refused n
+  unfolding nearest_rule register_rule
+  register_refused n e =
+      let note = nearest_note hz in
+      sym (refused_at pitch_out_of_range (is_pitch hz) (note, detuning_of hz note) e (unless_held s key note (detuning_of hz note)))
 
-  -- by what `find_by_pitch` answers
-  pub register_found : (n : ℤ) (d : Float) → ◌≡◌ {A = Outcome (ℤ × Float)} (value (n, d)) (nearest_rule hz) → (s : State) (key : ℕ) → unless_held s key n d ≡ register_rule s key hz
-  register_found n d e s key = register_nearest s key n d (nearest_is n d e)
+-- ---- a press for a note, by whether a number is one
 
-  pub register_refused : (n : ℕ) → ◌≡◌ {A = Outcome (ℤ × Float)} (refused n) (nearest_rule hz) → (s : State) (key : ℕ) → register_rule s key hz ≡ refused n
-  unfolding register_rule
-  register_refused n e s key = let refusal = (nearest_refuses hz n).0 (sym e) in rw (refusal.0, refusal.1)
+module _ (z : ℤ) where
+  pub noted : (n : ℤ) → value n ≡ note_rule z → (s : State) (key : ℕ) (d : Float) → unless_held s key n d ≡ register_note_rule s key z d
+  unfolding note_rule register_note_rule
+  noted n e s key d = let is = passed note_out_of_range (is_note z) z e in rw (is.0, is.1)
+
+  pub not_noted : (n : ℕ) → ◌≡◌ {A = Outcome ℤ} (refused n) (note_rule z) → (is_note z ≡ false) × (n ≡ 4)
+  unfolding note_rule
+  not_noted n e = (refuses_once note_out_of_range n (is_note z) z).0 (sym e)

@@ -79,6 +79,8 @@ map_behind l c h =
     ∙ ap (take 16) (map-append channel_of l (c ∷ []))
     ∙ ap (λ n. take 16 (map channel_of l ++ (n ∷ []))) (mod-eq_of_lt h)
 
+pub ruleset pushed = (counted, push_room, push_full)
+
 -- ---- the items without a number, as far as i
 
 without-append : (x : ℕ) (l m : List ℕ) → without x (l ++ m) ≡ without x l ++ without x m
@@ -143,3 +145,6 @@ fewer x l m n e f = elim (outcome (member x l)) [
   | passed h ↦ lt-ltb m n (omega (arith, gone x l h)) ∙ sym h
   | failed h ↦ le-ltb m n (omega (arith, ap length (without_none x l h))) ∙ sym h
 ]
+
+-- a channel that a key gives up
+pub ruleset put_back = (map_behind, without_none)

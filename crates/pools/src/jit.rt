@@ -5,7 +5,7 @@ ghost use Rattle.arithmetic.specs.Answers.{outcome_by};
 ghost use Rattle.channels.specs.Lists.{first};
 ghost use Rattle.channels.specs.ChannelList.{entries};
 ghost use Rattle.channels.specs.Places.{place, place_in};
-ghost use Rattle.pools.specs.Pool.{key_count, fresh, pool_of, found, held_at, oldest_of, freed, forgotten, taken, released, held_keys, stopped, replied, pressed, unless_held, register_rule, repitch_rule, open_rule};
+ghost use Rattle.pools.specs.Pool.{key_count, fresh, pool, pool_of, found, held_at, oldest, freed, forgotten, taken, released, held_keys, stopped, replied, pressed, unless_held, register_rule, repitch_rule, open_rule};
 ghost use Rattle.std.specs.Iterator.{YieldsFirstBy, item_count};
 ghost use Rattle.pools.specs.PoolAnswers.{held, left, next_held, press, repitched, told};
 ghost use Rattle.pools.specs.PoolInternal.{held_place, held_by, answered, given, handed_out, with_room};
@@ -39,6 +39,7 @@ pub enum PoolingMode {
 impl From<u16> for PoolGroupBy {
     ghost from_gives = { λ number group. group ≡ group_of number };
 
+    #[tactic(auto, unfolding(crate::specs::Block::group_of))]
     fn from(number: u16) -> PoolGroupBy {
         match number {
             1 => PoolGroupBy::Channel,
@@ -51,6 +52,7 @@ impl From<u16> for PoolGroupBy {
 impl From<u16> for PoolingMode {
     ghost from_gives = { λ number mode. mode ≡ mode_of number };
 
+    #[tactic(auto, unfolding(crate::specs::Block::mode_of))]
     fn from(number: u16) -> PoolingMode {
         match number {
             1 => PoolingMode::Stop,
@@ -63,6 +65,7 @@ impl From<u16> for PoolingMode {
 impl From<PoolGroupBy> for u16 {
     ghost from_gives = { λ group number. group_of number ≡ group };
 
+    #[tactic(auto, unfolding(crate::specs::Block::group_of))]
     fn from(group: PoolGroupBy) -> u16 {
         group as u16
     }
@@ -71,6 +74,7 @@ impl From<PoolGroupBy> for u16 {
 impl From<PoolingMode> for u16 {
     ghost from_gives = { λ mode number. mode_of number ≡ mode };
 
+    #[tactic(auto, unfolding(crate::specs::Block::mode_of))]
     fn from(mode: PoolingMode) -> u16 {
         mode as u16
     }
@@ -78,6 +82,7 @@ impl From<PoolingMode> for u16 {
 
 impl PoolGroupBy {
     // The number of a note's pool.
+    #[tactic(auto, using(arithmetic::proofs::Notes::letter_below), unfolding(crate::specs::Pool::pool_of))]
     fn pool_of(self, note: Note) -> usize
         ensures pool { result ≡ pool_of self note.number }
         ensures few { result < 12 }
@@ -105,7 +110,8 @@ pub struct Repitched {
     pub detuning: f64,
 }
 
-// A key on a channel of its note's pool. The channel is a place in the channel list, which has at most sixteen too.
+// A key on a channel of its note's pool. That is channel i of the model, a place in the channel list, which has at most sixteen, so that i is a `Channel` too.
+// It is lent: the steps of a press and of a release that take it by value take a ninth more instructions.
 #[derive(Clone, Copy)]
 struct Holder {
     key: u8,
@@ -177,6 +183,7 @@ pub struct JitTuningModel {
 
 impl JitTuningModel {
     // A model in which no key is found, with the channels listed.
+    #[tactic(auto, using(channels::proofs::ChannelLists::entries_few, crate::proofs::FreshBlocks::state_fresh))]
     pub fn new(
         channels: ChannelList,
         group_by: PoolGroupBy,
@@ -196,6 +203,7 @@ impl JitTuningModel {
 
     // A model in which no key is found, with the channels of a list. Refuses 6 or 7 as the channel list does; the model has no channels then.
     // Example: JitTuningModel::open([0, 16], Channel, Stop) is refused (6)
+    #[tactic(auto, using(crate::proofs::FreshBlocks::listed), unfolding(crate::specs::Pool::open_rule))]
     pub fn open(
         channels: &[u8],
         group_by: PoolGroupBy,
@@ -210,6 +218,7 @@ impl JitTuningModel {
 
     // What a press would answer: its channel, and the note that would be stopped for it; nothing where no channel is free. Refuses 1, then 11 a key that is held.
     // Example: open([0, 1], Channel, Stop); allocate_key(1, 445 Hz) is channel 0, note 69, detuning 1.011363...
+    #[tactic(auto, using(crate::proofs::Pools::register_found, crate::proofs::Pools::register_refused), unfolding(crate::specs::Pool::replied))]
     pub fn allocate_key(&self, key: u8, pitch: Pitch) -> Result<Option<Registered>, Refusal>
         ensures { press result ≡ (replied (state_of self.now) (register_rule (state_of self.now) key pitch.hz)).0 }
     {
@@ -224,6 +233,7 @@ impl JitTuningModel {
     // Example: open([0], Channel, Stop); register_key(1, 440 Hz); register_key(2, 880 Hz) is channel 0, note 81, detuning 1, stopped note 69
     // Example: open([0], Channel, Block); register_key(1, 440 Hz); register_key(2, 880 Hz) is rejected
     // Example: open([0, 1], Channel, Stop); register_key(1, 445 Hz) is channel 0, note 69, detuning 1.011363...
+    #[tactic(auto, using(crate::proofs::Pools::register_found, crate::proofs::Pools::register_refused), unfolding(crate::specs::Pool::replied))]
     pub fn register_key(&mut self, key: u8, pitch: Pitch) -> Result<Option<Registered>, Refusal>
         ensures told { press result ≡ (replied (state_of self.old) (register_rule (state_of self.old) key pitch.hz)).0 }
         ensures moved { Moves (register_rule (state_of self.old) key pitch.hz) self.old self.new }
@@ -233,6 +243,7 @@ impl JitTuningModel {
     }
 
     // A press for a note and a detuning: with those that `allocate_key` answers it is the press that was asked about. Refuses 4, then 11 a key that is held.
+    #[tactic(auto, using(crate::proofs::Pools::not_noted), unfolding(crate::specs::Block::register_note_rule, crate::specs::Pool::replied))]
     pub fn register_note(
         &mut self,
         key: u8,
@@ -248,6 +259,7 @@ impl JitTuningModel {
 
     // A release: where the key was found.
     // Example: open([0], Channel, Stop); register_key(1, 440 Hz); deregister_key(1) is channel 0, note 69
+    #[tactic(auto, using(crate::proofs::Pools::releases), unfolding(channels::specs::Places::place, crate::specs::PoolInternal::held_by))]
     pub fn deregister_key(&mut self, key: u8) -> Option<Place>
         ensures told { place result ≡ found (state_of self.old) key }
         ensures moved { state_of self.new ≡ released (state_of self.old) key }
@@ -259,6 +271,7 @@ impl JitTuningModel {
 
     // A lookup: where the key is found.
     // Example: open([0], Channel, Stop); register_key(1, 440 Hz); access_key(1) is channel 0, note 69
+    #[tactic(auto, using(crate::proofs::Blocks::key_here))]
     pub fn access_key(&self, key: u8) -> Option<Place>
         ensures { place result ≡ found (state_of self.now) key }
     {
@@ -267,6 +280,7 @@ impl JitTuningModel {
 
     // The detuning of a pitch for the note of a found key. Refuses 1, for unknown keys too.
     // Example: open([0], Channel, Stop); register_key(1, 440 Hz); repitch_key(1, 445 Hz) is channel 0, note 69, detuning 1.011363...
+    #[tactic(auto, unfolding(crate::specs::Pool::repitch_rule, crate::specs::Pool::tuning, channels::specs::Places::place))]
     pub fn repitch_key(&self, key: u8, pitch: Pitch) -> Result<Option<Repitched>, Refusal>
         ensures { repitched result ≡ repitch_rule (state_of self.now) key pitch.hz }
     {
@@ -282,6 +296,7 @@ impl JitTuningModel {
 
     // The first found key from a number on. All found keys by rising key: from 0, and then each time from one above the last.
     // Example: open([0], Channel, Stop); register_key(1, 440 Hz); next_key(0) is key 1, channel 0, note 69
+    #[tactic(auto, using(crate::proofs::Blocks::next_keys), unfolding(crate::specs::PoolAnswers::next_held, channels::specs::Places::place, channels::specs::Lists::first))]
     pub fn next_key(&self, from: usize) -> Option<HeldKey>
         ensures { next_held result ≡ first (held_keys (state_of self.now) from) }
     {
@@ -297,6 +312,7 @@ impl JitTuningModel {
     }
 
     // All found keys, by rising key.
+    #[tactic(auto, using(crate::proofs::HeldKeys::held_few, crate::proofs::Blocks::keys_many))]
     pub fn held_keys(&self) -> HeldKeys<'_>
         ensures all { left result ≡ held_keys (state_of self.now) 0 }
         ensures few { length (left result) ≤ key_count }
@@ -309,6 +325,7 @@ impl JitTuningModel {
 
     // Every found key is released, by rising key.
     // Example: open([0], Channel, Stop); register_key(1, 440 Hz); stop(); access_key(1) is not found
+    #[tactic(auto, using(crate::proofs::Blocks::stops), unfolding(crate::specs::Pool::stopped, crate::specs::Pool::released_all))]
     pub fn stop(&mut self)
         ensures { state_of self.new ≡ stopped (state_of self.old) }
     {
@@ -318,6 +335,7 @@ impl JitTuningModel {
     }
 
     // The channel list that the model was opened with.
+    #[tactic(auto, unfolding(crate::specs::Block::state_of, crate::specs::Block::state_with))]
     pub fn channels(&self) -> ChannelList
         ensures { entries result ≡ (state_of self.now).channels }
     {
@@ -325,6 +343,7 @@ impl JitTuningModel {
     }
 
     // How many channels each pool has.
+    #[tactic(auto, unfolding(crate::specs::Block::state_of, crate::specs::Block::state_with))]
     pub fn num_channels(&self) -> u8
         ensures { result ≡ length (state_of self.now).channels }
     {
@@ -335,6 +354,7 @@ impl JitTuningModel {
 // The steps of a press and of a release.
 impl JitTuningModel {
     // The key on its channel, if it is found.
+    #[tactic(auto, unfolding(channels::specs::Places::place, crate::specs::PoolInternal::held_by, crate::specs::Pool::held_at))]
     fn holder(&self, key: u8) -> Option<Holder>
         ensures { held_by result ≡ held_at key (found (state_of self.now) key) }
     {
@@ -347,6 +367,7 @@ impl JitTuningModel {
     }
 
     // The channel for a press of a key; none where none is free. Refuses 11 a key that is held.
+    #[tactic(auto, using(crate::proofs::Blocks::key_here), unfolding(crate::specs::Pool::unless_held))]
     fn allocation(&self, key: u8, note: Note) -> Result<Option<Allocation>, Refusal>
         ensures { (d : Float) → unless_held (state_of self.now) key note.number d ≡ outcome_by (given (state_of self.now) key note.number d) result }
     {
@@ -357,18 +378,17 @@ impl JitTuningModel {
     }
 
     // The channel for a press of a key that is not held.
+    #[tactic(auto, using(crate::proofs::Allocations::allocations), unfolding(crate::specs::PoolInternal::held_by))]
     fn channel_for(&self, note: Note) -> Option<Allocation>
         ensures { (key : ℕ) (d : Float) → pressed (state_of self.now) key note.number d ≡ given (state_of self.now) key note.number d result }
     {
-        let group = PoolGroupBy::from(self.group_by);
-        let at = group.pool_of(note);
-        let pool = &self.pools[at];
-        if let Some(channel) = pool.next_free() {
+        if let Some(channel) = self.pool_for(note).next_free() {
             return Some(Allocation::Free(channel));
         }
-        let old = self.longest_held(pool)?;
+        let old = self.longest_held(note)?;
+        let group = PoolGroupBy::from(self.group_by);
         let old_at = group.pool_of(old.note);
-        if old_at != at {
+        if old_at != group.pool_of(note) {
             return None;
         }
         match PoolingMode::from(self.pooling_mode) {
@@ -378,15 +398,25 @@ impl JitTuningModel {
         }
     }
 
-    // The longest-held key of a pool, if it is found; a number that is no key's is not.
-    fn longest_held(&self, pool: &Pool) -> Option<Holder>
-        ensures { held_by result ≡ oldest_of (state_of self.now) (first (pool_in pool.now).order) }
+    // The pool of a note.
+    #[tactic(auto, using(crate::proofs::Blocks::pool_here))]
+    fn pool_for(&self, note: Note) -> &Pool
+        ensures { pool_in result.now ≡ pool (state_of self.now) note.number }
     {
-        let key = pool.order.front()?;
+        &self.pools[PoolGroupBy::from(self.group_by).pool_of(note)]
+    }
+
+    // The longest-held key that has its channel, in the pool of a note, if it is found; a number that is no key's is not.
+    #[tactic(auto, using(crate::proofs::Blocks::key_past), unfolding(crate::specs::Block::pool_in, crate::specs::PoolInternal::held_by, crate::specs::Pool::oldest, crate::specs::Pool::oldest_of, crate::specs::Pool::held_at))]
+    fn longest_held(&self, note: Note) -> Option<Holder>
+        ensures { held_by result ≡ oldest (state_of self.now) note.number }
+    {
+        let key = self.pool_for(note).order.front()?;
         self.holder(u8::try_from(key).ok()?)
     }
 
     // A press for a note; nothing where no channel is free. Refuses 11 a key that is held.
+    #[tactic(auto, unfolding(crate::specs::Pool::replied))]
     fn press(&mut self, key: u8, note: Note, detuning: f64) -> Result<Option<Registered>, Refusal>
         ensures told { press result ≡ (replied (state_of self.old) (unless_held (state_of self.old) key note.number detuning)).0 }
         ensures moved { Moves (unless_held (state_of self.old) key note.number detuning) self.old self.new }
@@ -415,6 +445,7 @@ impl JitTuningModel {
     }
 
     // The front of its note's pool goes to the key, which sounds from now on.
+    #[tactic(auto, using(crate::proofs::Blocks::view_taken, channels::proofs::RecordNumbers::place_cell))]
     fn take(&mut self, holder: &Holder)
         ensures { state_of self.new ≡ taken (state_of self.old) holder.now.key holder.now.note.number holder.now.channel.number }
     {
@@ -424,6 +455,7 @@ impl JitTuningModel {
     }
 
     // The channel of a key goes back to the pool of its note, unless the key has lost it.
+    #[tactic(auto, using(crate::proofs::Blocks::view_freed))]
     fn free(&mut self, holder: &Holder)
         ensures { state_of self.new ≡ freed (state_of self.old) holder.now.key (held_place holder.now) }
     {
@@ -432,6 +464,7 @@ impl JitTuningModel {
     }
 
     // The same, and the key is not found any more.
+    #[tactic(auto, using(crate::proofs::Blocks::key_forgotten))]
     fn release(&mut self, holder: &Holder)
         ensures { state_of self.new ≡ forgotten (freed (state_of self.old) holder.now.key (held_place holder.now)) holder.now.key }
     {
@@ -454,6 +487,7 @@ impl<'a> Iterator for HeldKeys<'a> {
 
     ghost remaining = { item_count left };
 
+    #[tactic(auto, using(crate::proofs::HeldKeys::next_none), unfolding(crate::specs::PoolAnswers::next_held))]
     fn next(&mut self) -> Option<HeldKey> {
         let held = self.model.next_key(self.from)?;
         self.from = held.key as usize + 1;
@@ -464,6 +498,7 @@ impl<'a> Iterator for HeldKeys<'a> {
 // By value, the model handed back: a rule of the project asks for press, release, lookup and stop by value beside those in place.
 impl JitTuningModel {
     // A press.
+    #[tactic(auto, using(crate::proofs::Blocks::moves_state))]
     pub fn pressed(
         mut self,
         key: u8,

@@ -18,6 +18,7 @@ pub(crate) struct Pool {
 
 impl Pool {
     // The pool with its first channels free.
+    #[tactic(auto, using(crate::proofs::Queues::channels_same), unfolding(crate::specs::Block::pool_in))]
     pub fn new(count: u8) -> Pool
         requires { count ≤ 16 }
         ensures { pool_in result ≡ record { free = upward 0 count; order = [] } }
@@ -28,7 +29,8 @@ impl Pool {
         }
     }
 
-    // The next free channel, if there is one.
+    // The next free channel, if there is one. A number in the memory of a program in C is read by its remainder by 16, and so by that by 256.
+    #[tactic(auto, using(crate::proofs::Queues::first_map, crate::proofs::Queues::first_map_none), unfolding(crate::specs::Block::pool_in))]
     pub fn next_free(&self) -> Option<Channel>
         ensures { entry_number result ≡ first (pool_in self.now).free }
     {
@@ -37,6 +39,7 @@ impl Pool {
     }
 
     // The front goes to the key.
+    #[tactic(auto, unfolding(crate::specs::Block::pool_in, crate::specs::Pool::taken_in))]
     pub fn taken_by(&mut self, key: u8)
         ensures { pool_in self.new ≡ taken_in (pool_in self.old) key }
     {
@@ -45,6 +48,7 @@ impl Pool {
     }
 
     // The channel goes to the back, unless the key has lost it.
+    #[tactic(auto, using(crate::proofs::Queues::put_back), unfolding(crate::specs::Block::pool_in, crate::specs::Pool::freed_in))]
     pub fn freed_by(&mut self, key: u8, channel: Channel)
         ensures { pool_in self.new ≡ freed_in (pool_in self.old) key channel.number }
     {

@@ -20,6 +20,7 @@ pub(crate) struct Queue {
 
 impl Queue {
     // The queue without items.
+    #[tactic(auto, unfolding(crate::specs::Block::queue_of))]
     pub fn new() -> Queue
         ensures { queue_of result ≡ [] }
     {
@@ -41,6 +42,7 @@ impl Queue {
     }
 
     // How many items there are.
+    #[tactic(auto, unfolding(crate::specs::Block::queue_of))]
     pub fn len(&self) -> usize
         ensures count { result ≡ length (queue_of self.now) }
         ensures few { result ≤ 16 }
@@ -49,6 +51,7 @@ impl Queue {
     }
 
     // The front, if there is one.
+    #[tactic(auto, using(crate::proofs::Queues::front_is), unfolding(crate::specs::Block::queue_of))]
     pub fn front(&self) -> Option<u16>
         ensures { optional result ≡ first (queue_of self.now) }
     {
@@ -57,6 +60,7 @@ impl Queue {
     }
 
     // One item more at the back; a full queue stays as it is.
+    #[tactic(auto, using(crate::proofs::Queues::pushed), unfolding(crate::specs::Block::queue_of))]
     pub fn push_back(&mut self, x: u16)
         ensures { queue_of self.new ≡ behind (queue_of self.old) x }
     {
@@ -68,6 +72,7 @@ impl Queue {
     }
 
     // The queue without its front.
+    #[tactic(auto, using(crate::proofs::Queues::rest_moved, crate::proofs::Queues::counted), unfolding(crate::specs::Block::queue_of))]
     pub fn pop_front(&mut self)
         ensures { queue_of self.new ≡ drop 1 (queue_of self.old) }
     {
@@ -80,6 +85,7 @@ impl Queue {
     }
 
     // The queue without a number; whether it was there.
+    #[tactic(auto, unfolding(crate::specs::Block::queue_of, channels::specs::Lists::without))]
     pub fn remove(&mut self, x: u16) -> bool
         ensures found { result ≡ member x (queue_of self.old) }
         ensures left { queue_of self.new ≡ without x (queue_of self.old) }

@@ -2,15 +2,8 @@
 use Rattle.std.proofs.Common.{length, sym, ap, arith}
 use Rattle.pools.specs.Block.{state_of}
 use Rattle.pools.specs.PoolAnswers.{held, next_held}
-use Rattle.pools.proofs.HeldKeys.{next_met, next_none}
+use Rattle.pools.proofs.HeldKeys.{next_met}
 use Rattle.pools.proofs.jit.HeldKeysIterator.next.Goals as goal
-
-pub returns-in_err-held-clause-steps : goal.returns-in_err-held-clause-steps
-unfolding next_held
-returns-in_err-held-clause-steps c =
-    let it = c.args.self.now in
-    let none_left = next_none (state_of it.model.now) it.from (sym c.in_err-held.ensures) in
-    rw c.from_residual.ensures (none_left, none_left)
 
 pub returns-clause-steps : goal.returns-clause-steps
 unfolding next_held

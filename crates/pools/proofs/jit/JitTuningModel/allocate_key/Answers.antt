@@ -9,7 +9,7 @@ use Rattle.pools.specs.declared.jit.Registered.{Registered}
 use Rattle.std.proofs.lemmas.Result.{err_from_is_err_and}
 use Rattle.pools.specs.Pool.{replied}
 use Rattle.pools.specs.Block.{state_of}
-use Rattle.pools.proofs.Pools.{register_found, register_refused}
+use Rattle.pools.proofs.Pools.{register_found}
 use Rattle.pools.proofs.jit.JitTuningModel.allocate_key.Goals as goal
 
 -- what `map` makes of an allocation, by what the closure does to it
@@ -19,22 +19,16 @@ told_map (Some x) (Some y) P note d h f = f x y h
 told_map (Some x) None P note d h f = absurd h
 told_map None r P note d h f = rw h
 
-pub returns-in_err-nearest : goal.returns-in_err-nearest
-unfolding replied
-returns-in_err-nearest c =
-    let p = err_from_is_err_and c.from_residual.result c.from_residual.ensures.1 in
-    rw (p.1, p.2, register_refused c.args.pitch.hz _ c.in_err-nearest.ensures (state_of c.args.self.now) c.args.key)
-
 pub returns-in_err-allocation : goal.returns-in_err-allocation
 unfolding replied
 returns-in_err-allocation c =
     let p = err_from_is_err_and c.from_residual-in_err-allocation.result c.from_residual-in_err-allocation.ensures.1 in
     let nearest = c.in_ok-nearest.nearest in
-    rw (p.1, p.2, sym (register_found c.args.pitch.hz _ _ c.in_ok-nearest.ensures (state_of c.args.self.now) c.args.key), c.in_err-allocation.ensures nearest.detuning)
+    rw (p.1, p.2, sym (register_found c.args.pitch.hz (state_of c.args.self.now) c.args.key _ _ c.in_ok-nearest.ensures), c.in_err-allocation.ensures nearest.detuning)
 
 pub returns : goal.returns
 unfolding replied
 returns c =
     let nearest = c.in_ok-nearest.nearest in
-    rw (sym (register_found c.args.pitch.hz _ _ c.in_ok-nearest.ensures (state_of c.args.self.now) c.args.key), c.in_ok-allocation.ensures nearest.detuning)
+    rw (sym (register_found c.args.pitch.hz (state_of c.args.self.now) c.args.key _ _ c.in_ok-nearest.ensures), c.in_ok-allocation.ensures nearest.detuning)
     (ap value (told_map c.in_ok-allocation.allocation c.map.result _ nearest.note.number nearest.detuning c.map.ensures.cases (λ x y h. search (rules, h))))

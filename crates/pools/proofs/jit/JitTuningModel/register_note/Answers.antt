@@ -1,25 +1,13 @@
--- `JitTuningModel::register_note` meets its contract: a number that is no note is refused. Assumes nothing.
+-- `JitTuningModel::register_note` meets its contract. Assumes nothing.
 use Rattle.std.proofs.Common.{sym}
 use Rattle.std.proofs.lemmas.Int.{to_z-of_z}
-use Rattle.std.proofs.lemmas.Result.{err_from_is_err_and}
-use Rattle.pools.specs.Pool.{replied}
-use Rattle.pools.specs.Block.{register_note_rule}
+use Rattle.pools.specs.Block.{state_of, register_note_rule}
 use Rattle.pools.proofs.Pools.{noted, not_noted}
 use Rattle.pools.proofs.jit.JitTuningModel.register_note.Goals as goal
-
-pub returns-in_err-note-clause-told : goal.returns-in_err-note-clause-told
-unfolding replied register_note_rule
-returns-in_err-note-clause-told c =
-    let p = err_from_is_err_and c.from_residual.result c.from_residual.ensures.1 in
-    let none = not_noted c.args.note _ (rw (to_z-of_z _ _ c.ranges.note) at c.in_err-note.ensures) in
-    rw (p.1, p.2, none.0, none.1)
 
 pub returns-in_err-note-clause-moved : goal.returns-in_err-note-clause-moved
 unfolding register_note_rule
 returns-in_err-note-clause-moved c = rw (not_noted c.args.note _ (rw (to_z-of_z _ _ c.ranges.note) at c.in_err-note.ensures)).0
 
 pub returns : goal.returns
-unfolding register_note_rule
-returns c =
-    let is = noted c.args.note c.in_ok-note.note.number (rw (to_z-of_z _ _ c.ranges.note) at c.in_ok-note.ensures) in
-    rw (is.0, sym is.1) c.press.ensures
+returns c = rw (sym (noted c.args.note _ (rw (to_z-of_z _ _ c.ranges.note) at c.in_ok-note.ensures) (state_of c.args.self.now) c.args.key c.args.detuning)) c.press.ensures

@@ -1,15 +1,11 @@
 -- `Queue::remove` meets its contract. The loop's invariant: the first items are those read without the number, and none from i on has changed. Assumes nothing.
-use Rattle.std.proofs.Common.{◌≡◌, length, get_or, take, set, refl, sym, ap, ◌∙◌, arith}
+use Rattle.std.proofs.Common.{◌≡◌, length, get_or, take, set, sym, ap, ◌∙◌, arith}
 use Rattle.std.proofs.lemmas.List.{length-set, length-take-le}
 use Rattle.channels.specs.Lists.{without}
 use Rattle.pools.specs.Block.{queue_of}
 use Rattle.pools.proofs.Queues.{counted, sifted_here, sifted_other, sifted_rest, fewer}
 use Rattle.pools.proofs.queue.Queue.remove.Goals as goal
 use Rattle.pools.proofs.queue.Queue.remove.Goals.{then-y-x, else-y-x}
-
-pub loop-i-init : goal.loop-i-init
-unfolding without
-loop-i-init c = record { long = omega arith; few = omega arith; read = refl; rest = refl }
 
 pub loop-i-preserved : goal.loop-i-preserved
 loop-i-preserved c =
@@ -34,13 +30,13 @@ loop-i-preserved c =
       }
     ]
 
-pub returns : goal.returns
+pub returns-clause-found : goal.returns-clause-found
 unfolding queue_of
-returns c =
+returns-clause-found c =
     let l = c.loop-i in
     let q = c.args.self.now in
     let n = c.len-n.result in
     let ended : l.i ≡ n = omega arith in
     let left = l.invariant.read ∙ ap (λ k. without c.args.x (take k q.items)) ended ∙ ap (without c.args.x) (sym (counted q.count n q.items c.len-n.ensures.count)) in
     let many = length-take-le l.kept l.self.items (omega arith) in
-    record { found = fewer c.args.x (take q.count q.items) l.kept n (sym many ∙ ap length left) c.len-n.ensures.count; left = left }
+    fewer c.args.x (take q.count q.items) l.kept n (sym many ∙ ap length left) c.len-n.ensures.count
