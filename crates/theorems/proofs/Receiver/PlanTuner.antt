@@ -7,7 +7,8 @@ use mathlib.Core.List.{List, [], ◌∷◌, ◌++◌}
 use Prim.Native.Nat.{ℕ, zero, suc, ◌<◌}
 use native.Mathlib.Nat.{zero-add}
 use native.Mathlib.Omega.{arith}
-use lib.Dec.{eqb, eqb→eq, leb}
+use lib.Dec.{T, eqb, eqb→eq, leb}
+use Rattle.std.proofs.Math.Option.{none-ne-some}
 use lib.IntN.{pos}
 use lib.Ieee.{Float}
 use lib.ListN.{length, take, drop, get_elem?}
@@ -15,7 +16,7 @@ use lib.Seq.{take_at}
 use borrow.Author.Tests.{eq-eqb}
 use Rattle.channels.specs.Outcome.{Outcome, value, refused}
 use Rattle.channels.specs.ChannelList.{entries, list_rule, present}
-use Rattle.channels.specs.Lists.{member, upward}
+use Rattle.channels.specs.Lists.{Distinct, member, upward}
 use Rattle.plans.specs.Line.{Line}
 use Rattle.channels.specs.Refusal.{buffer_too_short}
 use Rattle.plans.specs.Walk.{count}
@@ -24,9 +25,9 @@ use Rattle.plans.specs.Plan.{Model, plan_of, planned, open_rule}
 use Rattle.channels.specs.TuningValue.{sent_as}
 use Rattle.channels.specs.declared.list.ChannelList.{ChannelList}
 use Rattle.channels.specs.declared.tuning_value.TuningKind.{TuningKind}
-use Rattle.channels.proofs.ChannelLists.{Channels, listed_channels}
-use Rattle.channels.proofs.ListLaws.{true→T}
-use Rattle.channels.proofs.Pigeonhole.{member_self, member_other}
+use Rattle.channels.proofs.ChannelLists.{Channels, channels_fresh, listed_channels}
+use Rattle.channels.proofs.ListLaws.{T→false, member_head, member_tail, not_false, true→T}
+use Rattle.channels.proofs.Pigeonhole.{distinct}
 use Rattle.channels.proofs.Values.{sent_in_steps}
 use Rattle.senders.specs.Lent.{Effect, fitted, Moved, Steps, written}
 use Rattle.senders.specs.Message.{Message}
@@ -175,30 +176,17 @@ module _ (kind : TuningKind) (cs : List ℕ) (detunings : ℕ → Option Float) 
 
 -- ---- the channels of a tuner are distinct
 
--- an entry among those before is not among the rest
-absent : (before cs : List ℕ) (ch j : ℕ) → Channels before cs → member ch before ≡ true → get_elem? cs j ≡ some ch → ⊥
-absent before [] ch j f m e = let z : ◌≡◌ {A = ℕ} 0 1 = cc in omega arith
-absent before (c ∷ cs) ch zero f m e =
-    let same : c ≡ ch = cc in
-    let z = sym m ∙ ap (λ (x : ℕ). member x before) (sym same) ∙ f.1 in
-    let z : ◌≡◌ {A = ℕ} 0 1 = cc in
-    omega arith
-absent before (c ∷ cs) ch (suc j) f m e = absent (before ++ (c ∷ [])) cs ch j f.2 (kept (eqb c ch) refl) e
-  where
-    kept : (b : Bool) → eqb c ch ≡ b → member ch (before ++ (c ∷ [])) ≡ true
-    kept true k = ap (λ (x : ℕ). member x (before ++ (c ∷ []))) (sym (eqb→eq c ch (true→T k))) ∙ member_self c before
-    kept false k = member_other ch c before (λ f. let w = eq-eqb c ch f in let z : ◌≡◌ {A = ℕ} 0 1 = cc in omega arith) ∙ m
+entry_member : (cs : List ℕ) (ch j : ℕ) → get_elem? cs j ≡ some ch → T (member ch cs)
+entry_member [] ch j e = absurd (none-ne-some ch e)
+entry_member (c ∷ cs) ch zero e = let same : c ≡ ch = cc in subst (λ (x : ℕ). T (member x (c ∷ cs))) same (member_head c cs)
+entry_member (c ∷ cs) ch (suc j) e = member_tail ch c cs (entry_member cs ch j e)
 
-only_place : (before cs : List ℕ) (ch i j : ℕ) → Channels before cs → get_elem? cs i ≡ some ch → get_elem? cs j ≡ some ch → j ≡ i
-only_place before [] ch i j f e q = let z : ◌≡◌ {A = ℕ} 0 1 = cc in absurd (omega arith)
-only_place before (c ∷ cs) ch zero zero f e q = refl
-only_place before (c ∷ cs) ch zero (suc j) f e q =
-    let same : c ≡ ch = cc in
-    absurd (absent (before ++ (c ∷ [])) cs ch j f.2 (ap (λ (x : ℕ). member x (before ++ (c ∷ []))) (sym same) ∙ member_self c before) q)
-only_place before (c ∷ cs) ch (suc i) zero f e q =
-    let same : c ≡ ch = cc in
-    absurd (absent (before ++ (c ∷ [])) cs ch i f.2 (ap (λ (x : ℕ). member x (before ++ (c ∷ []))) (sym same) ∙ member_self c before) e)
-only_place before (c ∷ cs) ch (suc i) (suc j) f e q = ap suc (only_place (before ++ (c ∷ [])) cs ch i j f.2 e q)
+only_place : (cs : List ℕ) (ch i j : ℕ) → Distinct cs → get_elem? cs i ≡ some ch → get_elem? cs j ≡ some ch → j ≡ i
+only_place [] ch i j f e q = absurd (none-ne-some ch e)
+only_place (c ∷ cs) ch zero zero f e q = refl
+only_place (c ∷ cs) ch zero (suc j) f e q = let same : c ≡ ch = cc in absurd (not_false (T→false _ f.0) (subst (λ (x : ℕ). T (member x cs)) (sym same) (entry_member cs ch j q)))
+only_place (c ∷ cs) ch (suc i) zero f e q = let same : c ≡ ch = cc in absurd (not_false (T→false _ f.0) (subst (λ (x : ℕ). T (member x cs)) (sym same) (entry_member cs ch i e)))
+only_place (c ∷ cs) ch (suc i) (suc j) f e q = ap suc (only_place cs ch i j f.1 e q)
 
 -- a tuner whose channels are distinct MIDI channels
 abbrev pub Sound : Tuner → Type 0
@@ -260,7 +248,7 @@ module _ (other : Other) (st : State) (r : Receiver) (t : Tuner) (o : Model × M
   plan_tunes f i d h e q =
       let m = (view back).plan in
       ap (λ (x : Receiver). x ch) (plan_received other st r t o call)
-      ∙ touched (view back).kind m.channels (λ j. m.detunings j (pos 0)) ch m.num_channels i d r h e q (λ j g. only_place [] m.channels ch i j f e g)
+      ∙ touched (view back).kind m.channels (λ j. m.detunings j (pos 0)) ch m.num_channels i d r h e q (λ j g. only_place m.channels ch i j (distinct [] m.channels (channels_fresh [] m.channels f)) e g)
 
   -- Every other channel is as it was.
   pub plan_spares :
