@@ -56,6 +56,10 @@ pub Each-map : {A : Type 0} {P Q : A → Type 0} → ((x : A) → P x → Q x) �
 Each-map f [] h = tt
 Each-map f (x ∷ l) h = (f x h.0, Each-map f l h.1)
 
+pub Each-zip : {A : Type 0} {P Q R : A → Type 0} → ((x : A) → P x → Q x → R x) → (l : List A) → Each P l → Each Q l → Each R l
+Each-zip f [] h k = tt
+Each-zip f (x ∷ l) h k = (f x h.0 k.0, Each-zip f l h.1 k.1)
+
 pub Each-all : {A : Type 0} (P : A → Type 0) → ((x : A) → P x) → (l : List A) → Each P l
 Each-all P f [] = tt
 Each-all P f (x ∷ l) = (f x, Each-all P f l)

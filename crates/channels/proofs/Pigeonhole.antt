@@ -33,7 +33,7 @@ gone k seen (x ∷ xs) f t = rw (ne_eqb x k other) (gone k (seen ++ (x ∷ [])) 
     other : x ≡ k → ⊥
     other e = not_false f.0 (rw (e, t) tt)
 
-distinct : (seen xs : List ℕ) → Fresh seen xs → Distinct xs
+pub distinct : (seen xs : List ℕ) → Fresh seen xs → Distinct xs
 distinct seen [] f = tt
 distinct seen (x ∷ xs) f = (false→T (gone x (seen ++ (x ∷ [])) xs f.1 (member_self x seen)), distinct (seen ++ (x ∷ [])) xs f.1)
 

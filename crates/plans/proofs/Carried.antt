@@ -17,7 +17,7 @@ use Rattle.plans.specs.Line.{Line, of_group, joins, rising}
 use Rattle.plans.specs.PlanLists.{keys}
 use Rattle.plans.specs.Walk.{latest, accepts, takes, next, here, later, channels, walk, count, replaced, entry_from, entry}
 use Rattle.plans.specs.PlanInternal.{Accepted}
-use Rattle.channels.proofs.ListLaws.{outcome, passed, failed, T→true, true→T, T→false, Each-map, Each-keep, Pairwise, keep_no, keep_same, keep_swap}
+use Rattle.channels.proofs.ListLaws.{outcome, passed, failed, T→true, true→T, T→false, Each-all, Each-map, Each-keep, Pairwise, keep_no, keep_same, keep_swap}
 use Rattle.channels.proofs.ListLaws.{own_image}
 use Rattle.plans.proofs.Joins.{le_refl_positive}
 use Rattle.plans.proofs.Rising.{UpTo, Sorted, Other}
@@ -110,26 +110,22 @@ module _ (kind : GroupBy) (g : ℤ) where
   on_first : (t : List Line) (ts : List (List Line)) (c : ℕ) (l : List Line) → Each (λ (x : Line). T (member x.key (keys t))) l
       → Each (λ (x : Line). up_to (t ∷ ts) c x ≡ true) l
   unfolding number_of
-  on_first t ts c [] h = tt
-  on_first t ts c (x ∷ l) h = (rw (T→true (member x.key (keys t)) h.0) (leb-zero c), on_first t ts c l h.1)
+  on_first t ts c l h = Each-map {Q = λ x. up_to (t ∷ ts) c x ≡ true} (λ x m. rw (T→true (member x.key (keys t)) m) (leb-zero c)) l h
 
   on_others : (t : List Line) (ts : List (List Line)) (c : ℕ) (l : List Line) → Each (λ (x : Line). not (member x.key (keys t)) ≡ true) l
       → Each (λ (x : Line). up_to (t ∷ ts) (suc c) x ≡ up_to ts c x) l
   unfolding number_of
-  on_others t ts c [] h = tt
-  on_others t ts c (x ∷ l) h = (rw (T→false (member x.key (keys t)) (true→T h.0)) (leb-suc-suc (number_of x.key ts) c), on_others t ts c l h.1)
+  on_others t ts c l h = Each-map {Q = λ x. up_to (t ∷ ts) (suc c) x ≡ up_to ts c x} (λ x m. rw (T→false (member x.key (keys t)) (true→T m)) (leb-suc-suc (number_of x.key ts) c)) l h
 
   zero_is : (t : List Line) (ts : List (List Line)) (w : List Line) → keep (up_to (t ∷ ts) 0) w ≡ keep (λ (l : Line). member l.key (keys t)) w
   unfolding number_of
-  zero_is t ts w = keep_same (up_to (t ∷ ts) 0) (λ (l : Line). member l.key (keys t)) w (each w)
+  zero_is t ts w =
+      keep_same (up_to (t ∷ ts) 0) (λ (l : Line). member l.key (keys t)) w
+      (Each-all (λ (x : Line). up_to (t ∷ ts) 0 x ≡ member x.key (keys t)) (λ x. first (member x.key (keys t)) (number_of x.key ts)) w)
     where
-      each : (l : List Line) → Each (λ (x : Line). up_to (t ∷ ts) 0 x ≡ member x.key (keys t)) l
-      each [] = tt
-      each (x ∷ l) = (first (member x.key (keys t)) (number_of x.key ts), each l)
-        where
-          first : (m : Bool) (k : ℕ) → leb (cond m 0 (suc k)) 0 ≡ m
-          first true k = leb-zero 0
-          first false k = leb-suc-zero k
+      first : (m : Bool) (k : ℕ) → leb (cond m 0 (suc k)) 0 ≡ m
+      first true k = leb-zero 0
+      first false k = leb-suc-zero k
 
   entry_from_lem : (n : ℕ) (w : List Line) (c : ℕ) (e : Option Float) → length w ≤ n → Sorted w → Pairwise Other w → c < length (channels kind n w)
       → entry_from kind g e (channels kind n w) c ≡ last_of e (keep (up_to (channels kind n w) c) (keep (of_group kind g) w))

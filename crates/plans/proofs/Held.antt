@@ -22,7 +22,7 @@ use Rattle.plans.specs.PlanLists.{key_count, keys}
 use Rattle.plans.specs.Walk.{count, seat, entry}
 use Rattle.plans.specs.Plan.{KeyRecord, nobody, is_in, key_in, larger, counts, highest}
 use Rattle.plans.specs.PlanInternal.{Accepted, Seats}
-use Rattle.channels.proofs.ListLaws.{outcome, passed, failed, T→true, true→T, not_false, or_cases, Each-map, Each-keep, Pairwise}
+use Rattle.channels.proofs.ListLaws.{Each-zip, outcome, passed, failed, T→true, true→T, not_false, or_cases, Each-map, Each-keep, Pairwise}
 use mathlib.Core.Logic.{inl, inr}
 use Rattle.plans.proofs.Joins.{le_total, le_refl_positive}
 use Rattle.plans.proofs.Rising.{UpTo, others_of, rising_Each}
@@ -35,13 +35,8 @@ use Rattle.plans.proofs.PlanEntries.{heard_each, heard_sorted}
 use Rattle.plans.proofs.Carried.{last_of, heard, entry_is, no_entry, largest}
 
 -- ---- lists
-pub zip : {A : Type 0} {P Q R : A → Type 0} → ((x : A) → P x → Q x → R x) → (l : List A) → Each P l → Each Q l → Each R l
-zip f [] h k = tt
-zip f (x ∷ l) h k = (f x h.0 k.0, zip f l h.1 k.1)
-
 zip3 : {A : Type 0} {P Q R S : A → Type 0} → ((x : A) → P x → Q x → R x → S x) → (l : List A) → Each P l → Each Q l → Each R l → Each S l
-zip3 f [] h k m = tt
-zip3 f (x ∷ l) h k m = (f x h.0 k.0 m.0, zip3 f l h.1 k.1 m.1)
+zip3 {R = R} {S = S} f l h k m = Each-zip {P = λ x. R x → S x} (λ x g r. g r) l (Each-zip f l h k) m
 
 pub at_key : (P : Line → Type 0) (k : ℕ) (l : List Line) → Each P l → T (member k (keys l)) → (x : Line) × (x.key ≡ k) × P x
 at_key P k [] h m = absurd m
@@ -108,7 +103,7 @@ module _ (by : GroupBy) (c : ℕ) (g : ℤ) where
             let k : larger r.detuning (some d) ≡ some r.detuning = rw e in
             subst (λ (o' : Option Float). Each (λ (x : KeyRecord). counts by c g x ≡ true → Under x.detuning o') (r ∷ l)) (sym k) (
               λ u. le_refl_positive r.detuning p,
-              zip
+              Each-zip
                   (λ x a b u. le_trans_positive x.detuning d r.detuning (a u) q p (b u) (le_total r.detuning d p q e)) l hp h,
             )
       ]
@@ -204,7 +199,7 @@ module _ (by : GroupBy) (all : List Line) (ok : Accepted all) (rs : List KeyReco
         at k b e = elim (outcome (member k (keys all))) [
           | passed m ↦
               let f = at_key (λ (l : Line). counts by c g (rec l.key) ≡ true → P (rec l.key).detuning) k all
-              (zip (λ l a b. line l a b) all facts inside) (true→T m) in
+              (Each-zip (λ l a b. line l a b) all facts inside) (true→T m) in
               subst (λ (j : ℕ). counts by c g (rec j) ≡ true → P (rec j).detuning) f.1 f.2 e
           | failed m ↦ absurd (not_false (out_counts by c g (rec k) (s.no_other k (others_of k all m))) (true→T e))
         ]
@@ -243,7 +238,7 @@ module _ (by : GroupBy) (all : List Line) (ok : Accepted all) (rs : List KeyReco
         finish (highest by c g rs)
         (highest_has by c g (Within z.detuning) rs
         (over_records (Within z.detuning)
-        (zip {R = λ (l : Line). Within z.detuning l.detuning} (λ l a b. (a.fact_of.above, a.fact_of.fitting, b))
+        (Each-zip {R = λ (l : Line). Within z.detuning l.detuning} (λ l a b. (a.fact_of.above, a.fact_of.fitting, b))
         (heard by all c g) all_heard below)))
         (subst (λ (d : Float). Under d (highest by c g rs)) h.fact_of.detuning_is
         (at_each (λ (r : KeyRecord). counts by c g r ≡ true → Under r.detuning (highest by c g rs)) rs nobody

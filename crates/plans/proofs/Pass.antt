@@ -21,7 +21,7 @@ use Rattle.plans.specs.Walk.{count, seat}
 use Rattle.plans.specs.Plan.{KeyRecord, nobody, is_in, records_of}
 use Rattle.plans.specs.declared.placing.Run.{Run}
 use Rattle.plans.specs.PlanInternal.{Accepted, Seats, channels_with, line_at, slot_of}
-use Rattle.channels.proofs.ListLaws.{outcome, passed, failed, T→true, true→T, not_false, Each-map, Each-all, Pairwise, own_image}
+use Rattle.channels.proofs.ListLaws.{outcome, passed, failed, T→true, true→T, not_false, Each-map, Each-all, Each-zip, Pairwise, own_image}
 use Rattle.plans.proofs.Rising.{Other, other_sym, distinct_apart, rising_Each}
 use Rattle.channels.proofs.RecordNumbers.{place_parts}
 use Rattle.plans.proofs.Records.{records_at_lem, records_long}
@@ -161,11 +161,9 @@ module _ (by : GroupBy) (all : List Line) (ds : List Float) (cells : List ℕ) (
             rw (e, get_or-set_other runs at (slot_of g) more no_run ne) (p.table g h)
       ]
 
-    ahead_next : (l : List Line) → Each (Other x) l → Each (λ (y : Line). find by y.key [] all ≡ find by y.key p.done (x ∷ rest)) l
-        → Each (λ (y : Line). find by y.key [] all ≡ find by y.key (x ∷ p.done) rest) l
+    ahead_next : Each (λ (y : Line). find by y.key [] all ≡ find by y.key (x ∷ p.done) rest) rest
     unfolding find
-    ahead_next [] o h = tt
-    ahead_next (y ∷ l) o h = (h.0 ∙ rw o.0, ahead_next l o.1 h.1)
+    ahead_next = Each-zip (λ y o h. h ∙ rw o) rest p.apart.0 p.ahead.1
 
     own_find : find by x.key [] all ≡ c
     unfolding find
@@ -177,16 +175,11 @@ module _ (by : GroupBy) (all : List Line) (ds : List Float) (cells : List ℕ) (
     kept_at : (cell k : ℕ) → eqb x.key k ≡ false → get_or (set cells x.key cell) k 0 ≡ get_or cells k 0
     kept_at cell k h = get_or-set_other cells x.key k cell 0 (differs k h)
 
-    placed_next : (cell : ℕ) (d : List Line) → Each (λ (l : Line). Each (Other l) (x ∷ rest)) d
-        → Each (λ (l : Line). place_of (get_or cells l.key 0) ≡ some (place_in by all l)) d
-        → Each (λ (l : Line). place_of (get_or (set cells x.key cell) l.key 0) ≡ some (place_in by all l)) d
-    placed_next cell [] f h = tt
-    placed_next cell (l ∷ d) f h = (ap place_of (kept_at cell l.key (other_sym l x f.0.0)) ∙ h.0, placed_next cell d f.1 h.1)
+    placed_next : (cell : ℕ) → Each (λ (l : Line). place_of (get_or (set cells x.key cell) l.key 0) ≡ some (place_in by all l)) p.done
+    placed_next cell = Each-zip (λ l f h. ap place_of (kept_at cell l.key (other_sym l x f.0)) ∙ h) p.done p.fresh p.placed
 
-    noted_next : (cell : ℕ) (d : List Line) → Each (Other x) d → Each (λ (l : Line). note_of (get_or cells l.key 0) ≡ l.note) d
-        → Each (λ (l : Line). note_of (get_or (set cells x.key cell) l.key 0) ≡ l.note) d
-    noted_next cell [] f h = tt
-    noted_next cell (l ∷ d) f h = (ap note_of (kept_at cell l.key f.0) ∙ h.0, noted_next cell d f.1 h.1)
+    noted_next : (cell : ℕ) → Each (λ (l : Line). note_of (get_or (set cells x.key cell) l.key 0) ≡ l.note) rest
+    noted_next cell = Each-zip (λ l f h. ap note_of (kept_at cell l.key f) ∙ h) rest p.apart.0 p.noted.1
 
     -- one key more
     pass_one : get_or ds x.key nan ≡ x.detuning → x.key < key_count → (m : ℕ) → m ≡ max n (suc c) → (cell : ℕ) → place_of cell ≡ some (record { channel = channel_of c; note = x.note })
@@ -196,13 +189,13 @@ module _ (by : GroupBy) (all : List Line) (ds : List Float) (cells : List ℕ) (
       reached = omega (arith, p.reached);
       whole = p.whole;
       table = table_next own;
-      ahead = ahead_next rest p.apart.0 p.ahead.1;
+      ahead = ahead_next;
       placed = (
         ap place_of (get_or-set_same cells x.key cell 0 (omega (arith, p.cells_long))) ∙ found
             ∙ ap (λ (j : ℕ). some (record { channel = channel_of j; note = x.note })) (sym own_find),
-        placed_next cell p.done p.fresh p.placed,
+        placed_next cell,
       );
-      noted = noted_next cell rest p.apart.0 p.noted.1;
+      noted = noted_next cell;
       out = λ k h o. ap (λ (z : ℕ). is_note (note_of z)) (kept_at cell k h.0) ∙ p.out k h.1 (h.0, o);
       counted = p.counted ∙ rw counts (omega arith);
       fresh = (p.apart.0, Each-map (λ l h. h.1) p.done p.fresh);
@@ -247,11 +240,10 @@ module _ (by : GroupBy) (all : List Line) (ok : Accepted all) (ordered : rising 
         → Each (λ (x : Line). seat by all x.key ≡ some (channel by all x.key, x.note)) l
         → Each (λ (x : Line). place_of (get_or cells x.key 0) ≡ some (place_in by all x)) l
         → Each (λ (x : Line). seat by all x.key ≡ some ((rec x.key).channel, x.note)) l
-    channels_seated few [] m b h k = tt
-    channels_seated few (x ∷ l) m b h k = (
-      h.0 ∙ ap (λ (c : ℕ). some (c, x.note)) (sym ((parts x k.0).0 ∙ ap channel_of (own_channel x m.0) ∙ mod-eq_of_lt (omega (arith, b.0)))),
-      channels_seated few l m.1 b.1 h.1 k.1,
-    )
+    channels_seated few l m b h k =
+        Each-zip {P = λ x. T (member x.key (keys all)) × (channel by all x.key < count by all)} (λ x n g. g n) l (Each-zip (λ x m b. (m, b)) l m b)
+        (Each-zip {R = λ x. T (member x.key (keys all)) × (channel by all x.key < count by all) → seat by all x.key ≡ some ((rec x.key).channel, x.note)}
+        (λ x s g n. s ∙ ap (λ (c : ℕ). some (c, x.note)) (sym ((parts x g).0 ∙ ap channel_of (own_channel x n.0) ∙ mod-eq_of_lt (omega (arith, n.1))))) l h k)
 
     pub pass_ends : length cells ≡ key_count → Each (λ (l : Line). get_or ds l.key nan ≡ l.detuning) all → (kept : List Float) (runs : List Run) (n i : ℕ)
         → Pass by all kept cells runs n i [] → Seats by all (records_of cells ds) n

@@ -11,6 +11,7 @@ use lib.ListN.{length, get_or, length-map}
 use Rattle.std.specs.Float.{NotNan}
 use Rattle.std.proofs.lemmas.List.{get_or-map}
 use Rattle.channels.specs.Lists.{Each}
+use Rattle.channels.proofs.ListLaws.{Each-zip}
 use Rattle.arithmetic.specs.Outcome.{value}
 use Rattle.plans.specs.declared.aot.GroupBy.{GroupBy}
 use Rattle.plans.specs.Line.{Line}
@@ -34,11 +35,9 @@ detuning_kept (fin s m e) p = refl
 pub lines_kept : (ds : List Float) (l : List Line) → Each (λ (x : Line). x.key < length ds) l → Each (λ (x : Line). T (positive x.detuning)) l
     → Each (λ (x : Line). get_or ds x.key nan ≡ x.detuning) l
     → Each (λ (x : Line). get_or (map detuning_of ds) x.key nan ≡ x.detuning) l
-lines_kept ds [] b p h = tt
-lines_kept ds (x ∷ l) b p h = (
-  get_or-map detuning_of ds x.key nan nan b.0 ∙ ap detuning_of h.0 ∙ detuning_kept x.detuning p.0,
-  lines_kept ds l b.1 p.1 h.1,
-)
+lines_kept ds l b p h =
+    Each-zip (λ x b f. get_or-map detuning_of ds x.key nan nan b ∙ f) l b
+    (Each-zip (λ x p h. ap detuning_of h ∙ detuning_kept x.detuning p) l p h)
 
 -- a key's record
 pub record_in : (cells : List ℕ) (ds : List Float) → length cells ≡ length ds → (k : ℕ)

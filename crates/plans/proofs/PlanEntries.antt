@@ -1,7 +1,6 @@
 -- What a planned model's detuning entries are: each is an f64 that is finite and above zero, so that it can be measured.
 -- Assumes nothing.
 use mathlib.Core.Path.{◌≡◌, sym, ◌∙◌, subst}
-use mathlib.Core.Bool.{Bool, true, false, cond}
 use mathlib.Core.List.{List, [], ◌∷◌}
 use mathlib.Core.Option.{none, some}
 use Prim.Native.Nat.{ℕ}
@@ -11,13 +10,12 @@ use lib.Dec.{T, leb, ltb}
 use lib.IntN.{ℤ}
 use lib.Ieee.{Float}
 use lib.Ieee.Positive.{positive}
-use lib.ListN.{length}
 use Rattle.arithmetic.specs.Outcome.{value}
 use Rattle.plans.specs.declared.aot.GroupBy.{GroupBy}
 use Rattle.channels.specs.Lists.{Each, keep}
 use Rattle.plans.specs.Line.{Line, of_group, rising}
 use Rattle.plans.specs.Walk.{count, entry}
-use Rattle.plans.specs.Plan.{Model, Answer, tuned, untuned, holding, empty, planned}
+use Rattle.plans.specs.Plan.{Model, planned}
 use Rattle.plans.specs.PlanInternal.{Accepted}
 use Rattle.channels.proofs.ListLaws.{outcome, passed, failed, Each-keep, Pairwise, Pairwise-keep}
 use Rattle.plans.proofs.Rising.{UpTo, Each-rising}

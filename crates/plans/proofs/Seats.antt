@@ -14,7 +14,7 @@ use Rattle.plans.specs.Line.{Line, rising}
 use Rattle.plans.specs.PlanLists.{keys}
 use Rattle.plans.specs.Walk.{here, later, channels, walk, note_of, seat_from, seat}
 use Rattle.plans.specs.Placing.{Found}
-use Rattle.channels.proofs.ListLaws.{outcome, passed, failed, T→true, T→false, true→T, Each-map, Pairwise, Pairwise-keep, own_image}
+use Rattle.channels.proofs.ListLaws.{outcome, passed, failed, T→true, T→false, true→T, Each-map, Each-zip, Pairwise, Pairwise-keep, own_image}
 use Rattle.plans.proofs.Rising.{Other, Each-rising, others_of, rising_Each}
 use Rattle.plans.proofs.Sweep.{number_of, here_is, later_is, fewer, both_Each, Each-here, Each-later, Pairwise-later}
 use Rattle.plans.specs.PlanInternal.{Accepted}
@@ -35,13 +35,8 @@ unfolding note_of
 own_note [] a = tt
 own_note (x ∷ t) a = (
   rw (T→true (eqb x.key x.key) (eqb_refl x.key)),
-  go t a.0 (own_note t a.1),
+  Each-zip (λ l o h. rw o h) t a.0 (own_note t a.1),
 )
-  where
-    go : (u : List Line) → Each (Other x) u → Each (λ (l : Line). note_of l.key t ≡ some l.note) u
-        → Each (λ (l : Line). note_of l.key (x ∷ t) ≡ some l.note) u
-    go [] o h = tt
-    go (l ∷ u) o h = (rw o.0 h.0, go u o.1 h.1)
 
 no_note : (k : ℕ) (t : List Line) → Each (λ (l : Line). eqb l.key k ≡ false) t → note_of k t ≡ none
 unfolding note_of
@@ -70,23 +65,24 @@ module _ (kind : GroupBy) where
       let u = later kind [] (x ∷ w) in
       let ts = channels kind n u in
       both_Each kind (λ (l : Line). seat_from l.key c (t ∷ ts) ≡ some (c + number_of l.key (t ∷ ts), l.note)) [] (x ∷ w)
-      (taken t ts t (own_image (λ (l : Line). l.key) t) (own_note t (Pairwise-here [] (x ∷ w) a)))
-      (left t ts u (left_absent [] (x ∷ w) a) (seats n (suc c) u (fewer kind n x w h) (Pairwise-later kind Other [] (x ∷ w) a)))
+      (Each-zip taken t (own_image (λ (l : Line). l.key) t) (own_note t (Pairwise-here [] (x ∷ w) a)))
+      (Each-zip left u (left_absent [] (x ∷ w) a) (seats n (suc c) u (fewer kind n x w h) (Pairwise-later kind Other [] (x ∷ w) a)))
     where
-      taken : (t : List Line) (ts : List (List Line)) (v : List Line) → Each (λ (l : Line). T (member l.key (keys t))) v
-          → Each (λ (l : Line). note_of l.key t ≡ some l.note) v
-          → Each (λ (l : Line). seat_from l.key c (t ∷ ts) ≡ some (c + number_of l.key (t ∷ ts), l.note)) v
-      taken t ts [] m e = tt
-      taken t ts (l ∷ v) m e = (rw (e.0, T→true (member l.key (keys t)) m.0, add-zero c), taken t ts v m.1 e.1)
+      taken : (l : Line) → T (member l.key (keys (here kind [] (x ∷ w)))) → note_of l.key (here kind [] (x ∷ w)) ≡ some l.note
+          → seat_from l.key c (here kind [] (x ∷ w) ∷ channels kind n (later kind [] (x ∷ w)))
+          ≡ some (c + number_of l.key (here kind [] (x ∷ w) ∷ channels kind n (later kind [] (x ∷ w))), l.note)
+      taken l m e = rw (e, T→true (member l.key (keys (here kind [] (x ∷ w)))) m, add-zero c)
 
-      left : (t : List Line) (ts : List (List Line)) (v : List Line) → Each (λ (l : Line). not (member l.key (keys t)) ≡ true) v
-          → Each (λ (l : Line). seat_from l.key (suc c) ts ≡ some (suc c + number_of l.key ts, l.note)) v
-          → Each (λ (l : Line). seat_from l.key c (t ∷ ts) ≡ some (c + number_of l.key (t ∷ ts), l.note)) v
-      left t ts [] m e = tt
-      left t ts (l ∷ v) m e =
-          let f = T→false (member l.key (keys t)) (true→T m.0) in
+      left : (l : Line) → not (member l.key (keys (here kind [] (x ∷ w)))) ≡ true
+          → seat_from l.key (suc c) (channels kind n (later kind [] (x ∷ w))) ≡ some (suc c + number_of l.key (channels kind n (later kind [] (x ∷ w))), l.note)
+          → seat_from l.key c (here kind [] (x ∷ w) ∷ channels kind n (later kind [] (x ∷ w)))
+          ≡ some (c + number_of l.key (here kind [] (x ∷ w) ∷ channels kind n (later kind [] (x ∷ w))), l.note)
+      left l m e =
+          let t = here kind [] (x ∷ w) in
+          let ts = channels kind n (later kind [] (x ∷ w)) in
+          let f = T→false (member l.key (keys t)) (true→T m) in
           let s : suc c + number_of l.key ts ≡ c + suc (number_of l.key ts) = omega arith in
-          (rw (no_note l.key t (others_of l.key t f), f) (e.0 ∙ ap (λ (n : ℕ). some (n, l.note)) s), left t ts v m.1 e.1)
+          rw (no_note l.key t (others_of l.key t f), f) (e ∙ ap (λ (n : ℕ). some (n, l.note)) s)
 
   -- and a key that does not wait has none
   pub no_seat : (k n c : ℕ) (w : List Line) → Each (λ (l : Line). eqb l.key k ≡ false) w → seat_from k c (channels kind n w) ≡ none

@@ -82,6 +82,7 @@ impl<'a> TuningLists for NoteLists<'a> {
         }
     }
 
+    #[tactic(auto, using(arithmetic::proofs::Outcomes::hands_on_by, crate::proofs::Lines::note_row))]
     fn line(&self, i: usize) -> Result<KeyTuning, Refusal> {
         let key = entry(self.keys, i)?;
         let number = entry(self.notes, i)?;
@@ -128,6 +129,7 @@ impl<'a> TuningLists for PitchLists<'a> {
         }
     }
 
+    #[tactic(auto, using(arithmetic::proofs::Outcomes::hands_on_by, crate::proofs::Lines::pitch_row, crate::proofs::Lines::no_pitch_line, crate::proofs::Lines::a_pitch_line))]
     fn line(&self, i: usize) -> Result<KeyTuning, Refusal> {
         let key = entry(self.keys, i)?;
         let hz = entry(self.pitches, i)?;

@@ -1,17 +1,14 @@
 -- Channel lists: the first offending entry decides, with 6 or 7, and a list that is taken has few channels, all low and different.
-use mathlib.Core.Path.{◌≡◌, refl, sym, subst, ◌∙◌}
-use mathlib.Core.Bool.{true, false, true≢false}
-use mathlib.Core.List.{List, [], ◌∷◌, ◌++◌}
+use mathlib.Core.Path.{◌≡◌, refl}
+use mathlib.Core.List.{List, []}
 use mathlib.Core.Logic.{◌⊎◌, inl, inr}
 use Prim.Native.Nat.{ℕ, ◌<◌, ◌≤◌}
 use native.Mathlib.Omega.{arith}
-use lib.Dec.{T, eqb, eqb→eq, eqb_refl}
 use lib.ListN.{length, get_or}
 use Rattle.arithmetic.specs.Outcome.{Outcome, value, refused}
 use Rattle.channels.specs.ChannelList.{list_rule, present}
-use Rattle.channels.specs.Lists.{member, Distinct}
-use Rattle.channels.proofs.ListLaws.{outcome, passed, failed, true→T, false→T, not_false}
-use Rattle.channels.proofs.Pigeonhole.{Fresh, member_self, member_other}
+use Rattle.channels.specs.Lists.{Distinct}
+use Rattle.channels.proofs.Pigeonhole.{Fresh, distinct}
 use Rattle.channels.proofs.ChannelLists.{Offends, over, twice, Offence, fine_listed, offence_refused, Verdict, listed, offended, verdict, listed_channels, channels_fresh, channels_low, channels_few}
 
 -- Refused exactly by the first offence, listed exactly without one.
@@ -40,27 +37,11 @@ listed_well cs l e =
 
 -- ---- the channels of every model
 
--- what was seen does not come again
-absent : (seen l : List ℕ) (c : ℕ) → member c seen ≡ true → Fresh seen l → member c l ≡ false
-absent seen [] c h f = refl
-absent seen (x ∷ l) c h f = elim (outcome (eqb x c)) [
-  | passed e ↦ let q = eqb→eq x c (true→T e) in let z : true ≡ false = sym h ∙ rw q at f.0 in absurd (true≢false z)
-  | failed e ↦ rw e (absent (seen ++ (x ∷ [])) l c (kept (λ q. not_false e (subst (λ (k : ℕ). T (eqb k c)) (sym q) (eqb_refl c)))) f.1)
-]
-  where
-    kept : (x ≡ c → ⊥) → member c (seen ++ (x ∷ [])) ≡ true
-    kept ne = member_other c x seen ne ∙ h
-
--- numbers of which none was seen before are different
-fresh_distinct : (seen l : List ℕ) → Fresh seen l → Distinct l
-fresh_distinct seen [] f = tt
-fresh_distinct seen (x ∷ l) f = (false→T (absent (seen ++ (x ∷ [])) l x (member_self x seen) f.1), fresh_distinct (seen ++ (x ∷ [])) l f.1)
-
 -- However a model or a tuner is opened, its channels are at most sixteen, all different, each below 16: a refused list opens one without channels.
 pub channels_different : (cs : List ℕ) → let l = present (list_rule cs) in
     (length l ≤ 16) × Distinct l × ((i : ℕ) → i < length l → get_or l i 0 < 16)
 channels_different cs = go (list_rule cs) refl
   where
     go : (o : Outcome (List ℕ)) → list_rule cs ≡ o → let l = present o in (length l ≤ 16) × Distinct l × ((i : ℕ) → i < length l → get_or l i 0 < 16)
-    go (value l) e = let w = listed_well cs l e in (w.1, fresh_distinct [] l w.2, w.3)
+    go (value l) e = let w = listed_well cs l e in (w.1, distinct [] l w.2, w.3)
     go (refused n) e = (omega arith, tt, λ i h. absurd (let z : ⊥ = omega arith in z))

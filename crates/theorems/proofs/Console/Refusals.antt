@@ -5,20 +5,15 @@ use native.Mathlib.Omega.{arith}
 use mathlib.Core.Path.{◌≡◌, refl, ◌∙◌, ap}
 use mathlib.Core.Bool.{Bool, true, false, cond}
 use mathlib.Core.List.{List, [], ◌∷◌}
-use mathlib.Core.Logic.{inl, inr}
 use mathlib.Core.Option.{Option, some, none}
 use lib.Dec.{eqb, leb}
-use lib.Ieee.{Float}
 use lib.ListN.{length}
 use borrow.Author.Tests.{eqb-true}
 use Rattle.channels.specs.Outcome.{Outcome, value, refused}
-use Rattle.channels.specs.Places.{Place}
-use Rattle.pools.specs.Pool.{State, Press, register_rule, repitch_rule}
-use Rattle.theorems.proofs.Pools.Refusals.{register_refused, repitch_refused}
 use Rattle.senders.specs.Lent.{Effect, Answer}
 use Rattle.senders.specs.Message.{is_data}
-use Rattle.senders.specs.Jit.{Tuner, Pressed, press_effect, repitch_effect, note_on_rule, note_pitch_rule}
-use Rattle.theorems.proofs.Tuners.Refusals.{Among, among_test}
+use Rattle.senders.specs.Jit.{Tuner, Pressed, note_on_rule, note_pitch_rule}
+use Rattle.theorems.proofs.Tuners.Refusals.{among_press, among_repitch, Among, among_test}
 use Rattle.lines.specs.Split.{comma, split}
 use Rattle.lines.specs.Grammar.{allowed}
 use Rattle.theorems.specs.Grammar.{Means}
@@ -90,26 +85,11 @@ unfolding keeping
 kept_among ns t (value e) h = tt
 kept_among ns t (refused n) h = h
 
-press_among : (t : Tuner) (key : ℕ) (hz : Float) (v : ℕ) → Among (1 ∷ 8 ∷ 11 ∷ 13 ∷ []) (note_on_rule t key hz v)
-press_among t key hz v = among_test (1 ∷ 8 ∷ 11 ∷ 13 ∷ []) 8 (is_data v) (press_effect t v (register_rule t.pool key hz)) refl (by (register_rule t.pool key hz) refl)
-  where
-    by : (o : Outcome (Press × State)) → register_rule t.pool key hz ≡ o → Among (1 ∷ 8 ∷ 11 ∷ 13 ∷ []) (press_effect t v o)
-    by (value r) e = tt
-    by (refused n) e =
-        elim ((register_refused t.pool key hz n).0 e) [ inl h ↦ rw h.1 | inr h ↦ rw h.1.1 ]
-
-repitch_among : (t : Tuner) (key : ℕ) (hz : Float) → Among (1 ∷ 8 ∷ 11 ∷ 13 ∷ []) (note_pitch_rule t key hz)
-repitch_among t key hz = by (repitch_rule t.pool key hz) refl
-  where
-    by : (o : Outcome (Option (Place × Float))) → repitch_rule t.pool key hz ≡ o → Among (1 ∷ 8 ∷ 11 ∷ 13 ∷ []) (repitch_effect t o)
-    by (value r) e = tt
-    by (refused n) e = rw ((repitch_refused t.pool key hz n).0 e).1
-
 event_among : (t : Tuner) (m : Outcome Event) → Among (13 ∷ []) m → Among (1 ∷ 8 ∷ 11 ∷ 13 ∷ []) (event_rule t m)
 unfolding event_rule
-event_among t (value (event On key m v)) h = heard_among (1 ∷ 8 ∷ 11 ∷ 13 ∷ []) (note_on_rule t key (pitch_of m) v) (press_among t key (pitch_of m) v)
+event_among t (value (event On key m v)) h = heard_among (1 ∷ 8 ∷ 11 ∷ 13 ∷ []) (note_on_rule t key (pitch_of m) v) (among_press (1 ∷ 8 ∷ 11 ∷ 13 ∷ []) t key (pitch_of m) v refl refl refl)
 event_among t (value (event Off key m v)) h = among_test (1 ∷ 8 ∷ 11 ∷ 13 ∷ []) 8 (is_data v) _ refl tt
-event_among t (value (event Bend key m v)) h = kept_among (1 ∷ 8 ∷ 11 ∷ 13 ∷ []) t (note_pitch_rule t key (pitch_of m)) (repitch_among t key (pitch_of m))
+event_among t (value (event Bend key m v)) h = kept_among (1 ∷ 8 ∷ 11 ∷ 13 ∷ []) t (note_pitch_rule t key (pitch_of m)) (among_repitch (1 ∷ 8 ∷ 11 ∷ 13 ∷ []) t key (pitch_of m) refl)
 event_among t (refused n) h = rw (only_13 n (eqb n 13) refl h)
 
 pub line_refusals : (t : Tuner) (line : List ℕ) → Among (1 ∷ 8 ∷ 11 ∷ 13 ∷ []) (event_rule t (meaning line))

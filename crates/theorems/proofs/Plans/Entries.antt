@@ -21,12 +21,12 @@ use Rattle.plans.specs.PlanLists.{keys}
 use Rattle.plans.specs.Walk.{count, seat, entry}
 use Rattle.plans.specs.Plan.{Model, tuned, planned}
 use Rattle.plans.specs.PlanInternal.{Accepted}
-use Rattle.channels.proofs.ListLaws.{outcome, passed, failed, true→T, or_cases, Each-map}
+use Rattle.channels.proofs.ListLaws.{outcome, passed, failed, true→T, or_cases, Each-map, Each-zip}
 use Rattle.plans.proofs.Models.{planned_by}
 use Rattle.plans.proofs.Plan.{channel, below_count, used}
 use Rattle.plans.proofs.Seats.{seated_lines, unseated}
 use Rattle.plans.proofs.Rising.{others_of, rising_Each}
-use Rattle.plans.proofs.Held.{at_key, of_kept, zip}
+use Rattle.plans.proofs.Held.{at_key, of_kept}
 use Rattle.plans.proofs.Carried.{last_of, heard, entry_is}
 use Rattle.plans.proofs.PlanEntries.{entry_each}
 
@@ -40,7 +40,7 @@ module _ (kind : GroupBy) (lines : List Line) (ok : Accepted lines) where
   seat_below k c n e = elim (outcome (member k (keys lines))) [
     | passed m ↦
         let f = at_key (λ (l : Line). (seat kind lines l.key ≡ some (channel kind lines l.key, l.note)) × (channel kind lines l.key < count kind lines)) k lines
-        (zip (λ l a b. (a, b)) lines (seated_lines kind lines ok) (rising_Each (λ (l : Line). channel kind lines l.key < count kind lines) lines (below_count kind lines ok))) (true→T m) in
+        (Each-zip (λ l a b. (a, b)) lines (seated_lines kind lines ok) (rising_Each (λ (l : Line). channel kind lines l.key < count kind lines) lines (below_count kind lines ok))) (true→T m) in
         let q = ap number (sym f.2.0 ∙ ap (seat kind lines) f.1 ∙ e) in
         subst (λ (j : ℕ). j < count kind lines) q f.2.1
     | failed m ↦ let q = sym (unseated kind lines ok k (others_of k lines m)) ∙ e in absurd (let z : ◌≡◌ {A = ℕ} 0 1 = cc in omega arith)

@@ -15,7 +15,7 @@ use Rattle.channels.specs.Lists.{Each, keep}
 use Rattle.plans.specs.Line.{Line, of_group, rising, group}
 use Rattle.plans.specs.Walk.{walk, count, replaced, entry_from, entry, seat}
 use Rattle.plans.specs.PlanInternal.{Accepted}
-use Rattle.channels.proofs.ListLaws.{T→true, Each-map, keep_same}
+use Rattle.channels.proofs.ListLaws.{T→true, Each-map, Each-zip, keep_same}
 use Rattle.plans.proofs.Rising.{rising_Each}
 use Rattle.plans.proofs.Sweep.{own_group}
 use Rattle.plans.proofs.Models.{planned_by}
@@ -26,7 +26,7 @@ use Rattle.arithmetic.specs.Outcome.{value}
 use Rattle.plans.specs.Placing.{Joined, together}
 use Rattle.theorems.specs.PlannedKeys.{is_on, row, last_detuning, JoinChain, Placed}
 use Rattle.plans.specs.Plan.{Model, tuned, holding, planned}
-use Rattle.plans.proofs.Held.{of_kept, zip}
+use Rattle.plans.proofs.Held.{of_kept}
 
 -- ---- a channel takes the keys of a group that come first
 module _ (kind : GroupBy) (g : ℤ) where
@@ -94,7 +94,7 @@ module _ (kind : GroupBy) (lines : List Line) (ok : Accepted lines) where
 
   seated : Each Seated lines
   seated =
-      zip {R = Seated} (λ l a b. (a, b)) lines (seated_lines kind lines ok)
+      Each-zip {R = Seated} (λ l a b. (a, b)) lines (seated_lines kind lines ok)
       (rising_Each (λ (l : Line). channel kind lines l.key < count kind lines) lines (below_count kind lines ok))
 
 -- ---- the theorem
@@ -115,7 +115,7 @@ planned_keys m lines ok n =
     (λ h e.
     let by = m.group_by in
     let q : count by lines ≡ n = cc in
-    (q, omega (arith, h), zip (λ l s f. at q l s f) lines (seated by lines ok) (keys_near by lines ok)))
+    (q, omega (arith, h), Each-zip (λ l s f. at q l s f) lines (seated by lines ok) (keys_near by lines ok)))
     (λ h e. absurd (let z : ◌≡◌ {A = ℕ} 0 1 = cc in omega arith))
   where
     at : count m.group_by lines ≡ n → (l : Line) → Seated m.group_by lines ok l → Near m.group_by lines ok (channel m.group_by lines l.key, group m.group_by l.note) l

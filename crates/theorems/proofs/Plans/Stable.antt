@@ -8,7 +8,8 @@ use lib.Ieee.{le}
 use lib.Ieee.Positive.{le_trans_positive}
 use Rattle.channels.specs.Lists.{Each, keep}
 use Rattle.plans.specs.Line.{Line, rising}
-use Rattle.channels.proofs.ListLaws.{outcome, passed, failed, true→T}
+use Rattle.channels.proofs.ListLaws.{Each-keep, Each-map, Each-zip, Pairwise, true→T}
+use Rattle.plans.proofs.Seats.{kept}
 use Rattle.plans.proofs.Rising.{UpTo, Sorted, Positive, rising_keep, rising_of_sorted}
 
 -- ---- equal detunings stay in list order
@@ -24,19 +25,15 @@ level_up_to z x y p q r h k = record {
   ordered = le_trans_positive x.detuning z.detuning y.detuning q p r (and_r (le z.detuning x.detuning) (le x.detuning z.detuning) h) (and_l (le z.detuning y.detuning) (le y.detuning z.detuning) k);
 }
 
-level_after : (z x : Line) (l : List Line) → Positive z → Positive x → T (Level z x) → Each Positive l → Each (UpTo x) (keep (Level z) l)
-level_after z x [] p q h r = tt
-level_after z x (y ∷ l) p q h r = elim (outcome (Level z y)) [
-  | passed e ↦ rw e (level_up_to z x y p q r.0 h (true→T e), level_after z x l p q h r.1)
-  | failed e ↦ rw e (level_after z x l p q h r.1)
-]
+-- elements with P, of which each two are in R
+each_two : {A : Type 0} {P : A → Type 0} {R : A → A → Type 0} → ((x y : A) → P x → P y → R x y) → (l : List A) → Each P l → Pairwise R l
+each_two f [] h = tt
+each_two f (x ∷ l) h = (Each-map (λ y k. f x y h.0 k) l h.1, each_two f l h.1)
 
 level_sorted : (z : Line) (l : List Line) → Positive z → Each Positive l → Sorted (keep (Level z) l)
-level_sorted z [] p h = tt
-level_sorted z (x ∷ l) p h = elim (outcome (Level z x)) [
-  | passed e ↦ rw e (level_after z x l p h.0 (true→T e) h.1, level_sorted z l p h.1)
-  | failed e ↦ rw e (level_sorted z l p h.1)
-]
+level_sorted z l p h =
+    each_two {P = λ y. Positive y × T (Level z y)} (λ x y a b. level_up_to z x y p a.0 b.0 a.1 b.1) (keep (Level z) l)
+    (Each-zip (λ y a b. (a, true→T b)) (keep (Level z) l) (Each-keep Positive (Level z) l h) (kept (Level z) l))
 
 pub rising_stable : (z : Line) (l : List Line) → Positive z → Each Positive l → keep (Level z) (rising l) ≡ keep (Level z) l
 rising_stable z l p h = rising_keep (Level z) l h ∙ rising_of_sorted (keep (Level z) l) (level_sorted z l p h)

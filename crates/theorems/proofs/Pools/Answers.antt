@@ -221,23 +221,26 @@ module _ (channels : List ℕ) (group : PoolGroupBy) (calls : List Call) (key : 
       (λ e. ex.0 (so.1 e), λ e. so.0 (ex.1 e))
 
   -- Stop and Ignore reject exactly where there are no channels.
+  without_channels : (mode : PoolingMode) → let s = model channels group mode calls in
+      ((pressed s key (nearest_note hz) (detuning_of hz (nearest_note hz))).0 ≡ rejected) ↔ (length (present (list_rule channels)) ≡ 0)
+      → found s key ≡ none → Rejects s key hz ↔ (length s.channels ≡ 0)
+  without_channels mode ex new =
+      let s = model channels group mode calls in
+      let ok = model_ok channels group mode calls in
+      let so = rejects_so s key hz pitch new in
+      (λ e. ok.channels ∙ ex.0 (so.1 e), λ e. so.0 (ex.1 (sym ok.channels ∙ e)))
+
   pub stop_rejects_exactly : let s = model channels group Stop calls in
       found s key ≡ none → Rejects s key hz ↔ (length s.channels ≡ 0)
-  stop_rejects_exactly new =
-      let s = model channels group Stop calls in
-      let ok = model_ok channels group Stop calls in
-      let so = rejects_so s key hz pitch new in
-      let ex = stop_exactly (length (present (list_rule channels))) s ok key (nearest_note hz) (detuning_of hz (nearest_note hz)) (mode_kept channels group Stop calls) in
-      (λ e. ok.channels ∙ ex.0 (so.1 e), λ e. so.0 (ex.1 (sym ok.channels ∙ e)))
+  stop_rejects_exactly =
+      without_channels Stop (stop_exactly _ (model channels group Stop calls) (model_ok channels group Stop calls) key (nearest_note hz)
+      (detuning_of hz (nearest_note hz)) (mode_kept channels group Stop calls))
 
   pub ignore_rejects_exactly : let s = model channels group Ignore calls in
       found s key ≡ none → Rejects s key hz ↔ (length s.channels ≡ 0)
-  ignore_rejects_exactly new =
-      let s = model channels group Ignore calls in
-      let ok = model_ok channels group Ignore calls in
-      let so = rejects_so s key hz pitch new in
-      let ex = ignore_exactly (length (present (list_rule channels))) s ok key (nearest_note hz) (detuning_of hz (nearest_note hz)) (mode_kept channels group Ignore calls) in
-      (λ e. ok.channels ∙ ex.0 (so.1 e), λ e. so.0 (ex.1 (sym ok.channels ∙ e)))
+  ignore_rejects_exactly =
+      without_channels Ignore (ignore_exactly _ (model channels group Ignore calls) (model_ok channels group Ignore calls) key (nearest_note hz)
+      (detuning_of hz (nearest_note hz)) (mode_kept channels group Ignore calls))
 
 -- ---- an accepted press gets one of the model's channels
 

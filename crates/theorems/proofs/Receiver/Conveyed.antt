@@ -30,6 +30,7 @@ use Rattle.theorems.proofs.Bytes.Read.{Plain, plain_append}
 use Rattle.senders.proofs.Channels.{entry_low, valid_on}
 use Rattle.theorems.proofs.Receiver.Each.{each_valid}
 use Rattle.channels.specs.Lists.{Each}
+use Rattle.channels.proofs.ListLaws.{Each-map}
 use Rattle.theorems.proofs.Receiver.Hearing.{hear_append, tuning_heard, note_heard, press_heard, tuning_plain, note_plain, press_plain}
 use Rattle.theorems.proofs.Receiver.Received.{sent_heard}
 
@@ -108,8 +109,7 @@ each_low [] h = tt
 each_low (x ∷ l) h = (h 0 (omega arith), each_low l (λ i k. h (suc i) (omega arith)))
 
 valid_each : (m : ChannelMessageType) → Valid (meant 0 m) → (l : List ℕ) → Each (λ c. c < 16) l → Each (λ c. AllValid (meant c m ∷ [])) l
-valid_each m v [] h = tt
-valid_each m v (c ∷ l) h = ((valid_on m v c h.0, tt), valid_each m v l h.1)
+valid_each m v l h = Each-map (λ c low. (valid_on m v c low, tt)) l h
 
 pub all_valid : (kind : TuningKind) (l : ChannelList) (m : ChannelMessageType) → Valid (meant 0 m) → AllValid (to_all kind (entries l) m)
 all_valid kind l m v = by (is_kept kind m)

@@ -7,7 +7,8 @@ use mathlib.Core.List.{List, [], ◌∷◌, ◌++◌}
 use Prim.Native.Nat.{ℕ, zero, suc, ◌<◌}
 use native.Mathlib.Nat.{zero-add}
 use native.Mathlib.Omega.{arith}
-use lib.Dec.{eqb, eqb→eq, leb}
+use lib.Dec.{T, eqb, eqb→eq, leb}
+use Rattle.std.proofs.Math.Option.{none-ne-some}
 use lib.IntN.{pos}
 use lib.Ieee.{Float}
 use lib.ListN.{length, take, drop, get_elem?}
@@ -15,20 +16,21 @@ use lib.Seq.{take_at}
 use borrow.Author.Tests.{eq-eqb}
 use Rattle.channels.specs.Outcome.{Outcome, value, refused}
 use Rattle.channels.specs.ChannelList.{entries, list_rule, present}
-use Rattle.channels.specs.Lists.{member, upward}
+use Rattle.channels.specs.Lists.{Distinct, member, upward}
 use Rattle.plans.specs.Line.{Line}
 use Rattle.channels.specs.Refusal.{buffer_too_short}
-use Rattle.plans.specs.Walk.{count}
 use Rattle.plans.specs.Plan as M
 use Rattle.plans.specs.Plan.{Model, plan_of, planned, open_rule}
 use Rattle.channels.specs.TuningValue.{sent_as}
 use Rattle.channels.specs.declared.list.ChannelList.{ChannelList}
 use Rattle.channels.specs.declared.tuning_value.TuningKind.{TuningKind}
-use Rattle.channels.proofs.ChannelLists.{Channels, listed_channels}
-use Rattle.channels.proofs.ListLaws.{true→T}
-use Rattle.channels.proofs.Pigeonhole.{member_self, member_other}
+use Rattle.channels.proofs.ChannelLists.{Channels, channels_fresh, listed_channels}
+use Rattle.channels.proofs.ListLaws.{T→false, member_head, member_tail, not_false, true→T}
+use Rattle.channels.proofs.Pigeonhole.{distinct}
 use Rattle.channels.proofs.Values.{sent_in_steps}
-use Rattle.senders.specs.Lent.{Effect, fitted, Moved, Steps, written}
+use Rattle.senders.specs.Lent.{Effect, fitted, settled, Steps, written}
+use Rattle.senders.proofs.Lent.{handed_back}
+use Rattle.plans.proofs.Models.{planned_by}
 use Rattle.senders.specs.Message.{Message}
 use Rattle.senders.specs.Midi.{bytes_of}
 use Rattle.senders.specs.Tuner.{each}
@@ -57,52 +59,46 @@ module _ (other : Other) (kind : TuningKind) (l : ChannelList) where
       (sym e)
       (conveys_each other (λ i. channel_messages kind (entries l) i (m.detunings i (pos 0))) (λ i. channel_meant kind (entries l) i (m.detunings i (pos 0))) (upward 0 m.num_channels) (λ i. channel_conveyed i (m.detunings i (pos 0))))
 
+-- A tuned answer: what was planned is the tuner's plan, and its tunings stand at the buffer's start.
+pub record Told (t : Tuner) (o : Model × M.Answer) (back : Tuner) (new : List ℕ) (n w : ℕ) : Type 0 where
+  pub model : Model
+  pub planned_is : o ≡ (model, M.tuned n)
+  pub next_is : back ≡ with_plan t model
+  pub starts : take w new ≡ bytes_of (plan_messages back.kind back.plan)
+
+pub told : (t : Tuner) (o : Model × M.Answer) {s back : AotTuner} {old new : List ℕ} {n w : ℕ}
+    → Steps view (plan_effect t o) s old (value (tunes n w)) back new → Told t o (view back) new n w
+told t (m, M.tuned k) {old = old} {n = n} {w = w} p =
+    let a = accepted p in
+    let bs : List ℕ = bytes_of (plan_messages t.kind m) in
+    let e : Effect Planned Tuner = record { says = tunes k (length bs); bytes = bs; next = with_plan t m } in
+    let same : e ≡ a.effect = cc in
+    let next = a.next_is ∙ sym (ap (λ (x : Effect Planned Tuner). x.next) same) in
+    let says : tunes n w ≡ tunes k (length bs) = a.answer_is ∙ sym (ap (λ (x : Effect Planned Tuner). x.says) same) in
+    let long : w ≡ length bs = cc in
+    let count : k ≡ n = cc in
+    record {
+      model = m;
+      planned_is = ap (λ (j : ℕ). (m, M.tuned j)) count;
+      next_is = next;
+      starts =
+          ap (λ (x : List ℕ). take w x) a.new_is
+          ∙ ap (λ (x : Effect Planned Tuner). take w (written x.bytes old)) (sym same)
+          ∙ take_at bs (drop (length bs) old) w (sym long)
+          ∙ ap (λ (x : Tuner). bytes_of (plan_messages x.kind x.plan)) (sym next);
+    }
+told t (m, M.untuned k) p = let a = accepted p in absurd (let z : ◌≡◌ {A = ℕ} 0 1 = cc in omega arith)
+told t (m, M.refused k) p = let a = accepted p in absurd (let z : ◌≡◌ {A = ℕ} 0 1 = cc in omega arith)
+
 module _ (other : Other) (st : State) (r : Receiver) (t : Tuner) (o : Model × M.Answer) {s back : AotTuner} {old new : List ℕ} {n w : ℕ}
     (call : Steps view (plan_effect t o) s old (value (tunes n w)) back new) where
-  -- what was sent was the tunings of the plan that the tuner now has
-  record Sent : Type 0 where
-    kind_is : t.kind ≡ (view back).kind
-    starts : take w new ≡ bytes_of (plan_messages (view back).kind (view back).plan)
-
-  sent_plan : Sent
-  sent_plan = by o call
-    where
-      by : (o : Model × M.Answer) → Steps view (plan_effect t o) s old (value (tunes n w)) back new → Sent
-      by (m, M.tuned k) p =
-          let a = accepted p in
-          let bs : List ℕ = bytes_of (plan_messages t.kind m) in
-          let e : Effect Planned Tuner = record { says = tunes k (length bs); bytes = bs; next = with_plan t m } in
-          let same : e ≡ a.effect = cc in
-          let next : view back ≡ with_plan t m = a.next_is ∙ sym (ap (λ (x : Effect Planned Tuner). x.next) same) in
-          let says : tunes n w ≡ tunes k (length bs) = a.answer_is ∙ sym (ap (λ (x : Effect Planned Tuner). x.says) same) in
-          let long : w ≡ length bs = cc in
-          let kinds : (view back).kind ≡ t.kind = ap (λ (x : Tuner). x.kind) next in
-          let models : (view back).plan ≡ m = ap (λ (x : Tuner). x.plan) next in
-          record {
-            kind_is = sym kinds;
-            starts =
-                ap (λ (x : List ℕ). take w x) a.new_is
-                ∙ ap (λ (x : Effect Planned Tuner). take w (written x.bytes old)) (sym same)
-                ∙ take_at bs (drop (length bs) old) w (sym long)
-                ∙ ap (λ (x : TuningKind). bytes_of (plan_messages x m)) (sym kinds)
-                ∙ ap (λ (x : Model). bytes_of (plan_messages (view back).kind x)) (sym models);
-          }
-      by (m, M.untuned k) p =
-          let a = accepted p in
-          let z : ◌≡◌ {A = ℕ} 0 1 = cc in
-          absurd (omega arith)
-      by (m, M.refused k) p =
-          let a = accepted p in
-          let z : ◌≡◌ {A = ℕ} 0 1 = cc in
-          absurd (omega arith)
-
   conveyed : Conveys other (plan_messages (view back).kind (view back).plan) (plan_meant (view back).kind (view back).plan)
   unfolding plan_of
   conveyed = plan_conveyed other (view back).kind back.model.channels (view back).plan refl
 
   -- After a tuned answer a reader finds the tunings of the plan's channels.
   pub plan_read : read st (take w new) ≡ plan_messages (view back).kind (view back).plan
-  plan_read = ap (read st) sent_plan.starts ∙ read_plain st (plan_messages (view back).kind (view back).plan) conveyed.plain
+  plan_read = ap (read st) (told t o call).starts ∙ read_plain st (plan_messages (view back).kind (view back).plan) conveyed.plain
 
   -- And a receiver has them.
   pub plan_received : hear_bytes other st (take w new) r ≡ plan_meant (view back).kind (view back).plan r
@@ -175,30 +171,17 @@ module _ (kind : TuningKind) (cs : List ℕ) (detunings : ℕ → Option Float) 
 
 -- ---- the channels of a tuner are distinct
 
--- an entry among those before is not among the rest
-absent : (before cs : List ℕ) (ch j : ℕ) → Channels before cs → member ch before ≡ true → get_elem? cs j ≡ some ch → ⊥
-absent before [] ch j f m e = let z : ◌≡◌ {A = ℕ} 0 1 = cc in omega arith
-absent before (c ∷ cs) ch zero f m e =
-    let same : c ≡ ch = cc in
-    let z = sym m ∙ ap (λ (x : ℕ). member x before) (sym same) ∙ f.1 in
-    let z : ◌≡◌ {A = ℕ} 0 1 = cc in
-    omega arith
-absent before (c ∷ cs) ch (suc j) f m e = absent (before ++ (c ∷ [])) cs ch j f.2 (kept (eqb c ch) refl) e
-  where
-    kept : (b : Bool) → eqb c ch ≡ b → member ch (before ++ (c ∷ [])) ≡ true
-    kept true k = ap (λ (x : ℕ). member x (before ++ (c ∷ []))) (sym (eqb→eq c ch (true→T k))) ∙ member_self c before
-    kept false k = member_other ch c before (λ f. let w = eq-eqb c ch f in let z : ◌≡◌ {A = ℕ} 0 1 = cc in omega arith) ∙ m
+entry_member : (cs : List ℕ) (ch j : ℕ) → get_elem? cs j ≡ some ch → T (member ch cs)
+entry_member [] ch j e = absurd (none-ne-some ch e)
+entry_member (c ∷ cs) ch zero e = let same : c ≡ ch = cc in subst (λ (x : ℕ). T (member x (c ∷ cs))) same (member_head c cs)
+entry_member (c ∷ cs) ch (suc j) e = member_tail ch c cs (entry_member cs ch j e)
 
-only_place : (before cs : List ℕ) (ch i j : ℕ) → Channels before cs → get_elem? cs i ≡ some ch → get_elem? cs j ≡ some ch → j ≡ i
-only_place before [] ch i j f e q = let z : ◌≡◌ {A = ℕ} 0 1 = cc in absurd (omega arith)
-only_place before (c ∷ cs) ch zero zero f e q = refl
-only_place before (c ∷ cs) ch zero (suc j) f e q =
-    let same : c ≡ ch = cc in
-    absurd (absent (before ++ (c ∷ [])) cs ch j f.2 (ap (λ (x : ℕ). member x (before ++ (c ∷ []))) (sym same) ∙ member_self c before) q)
-only_place before (c ∷ cs) ch (suc i) zero f e q =
-    let same : c ≡ ch = cc in
-    absurd (absent (before ++ (c ∷ [])) cs ch i f.2 (ap (λ (x : ℕ). member x (before ++ (c ∷ []))) (sym same) ∙ member_self c before) e)
-only_place before (c ∷ cs) ch (suc i) (suc j) f e q = ap suc (only_place (before ++ (c ∷ [])) cs ch i j f.2 e q)
+only_place : (cs : List ℕ) (ch i j : ℕ) → Distinct cs → get_elem? cs i ≡ some ch → get_elem? cs j ≡ some ch → j ≡ i
+only_place [] ch i j f e q = absurd (none-ne-some ch e)
+only_place (c ∷ cs) ch zero zero f e q = refl
+only_place (c ∷ cs) ch zero (suc j) f e q = let same : c ≡ ch = cc in absurd (not_false (T→false _ f.0) (subst (λ (x : ℕ). T (member x cs)) (sym same) (entry_member cs ch j q)))
+only_place (c ∷ cs) ch (suc i) zero f e q = let same : c ≡ ch = cc in absurd (not_false (T→false _ f.0) (subst (λ (x : ℕ). T (member x cs)) (sym same) (entry_member cs ch i e)))
+only_place (c ∷ cs) ch (suc i) (suc j) f e q = ap suc (only_place cs ch i j f.1 e q)
 
 -- a tuner whose channels are distinct MIDI channels
 abbrev pub Sound : Tuner → Type 0
@@ -216,33 +199,36 @@ started_sound cs kind = by (list_rule cs) refl
 pub planned_kept : (m : Model) (lines : Outcome (List Line)) → ((planned m lines).0.channels ≡ m.channels) × ((planned m lines).0.group_by ≡ m.group_by)
 unfolding planned
 planned_kept m (refused n) = (refl, refl)
-planned_kept m (value lines) = by (leb (count m.group_by lines) (length m.channels))
+planned_kept m (value lines) =
+    planned_by m lines (λ r. (r.0.channels ≡ m.channels) × (r.0.group_by ≡ m.group_by)) (λ h. (refl, refl)) (λ h. (refl, refl))
+
+pub record Kept (t u : Tuner) : Type 0 where
+  pub kind_is : u.kind ≡ t.kind
+  pub channels_is : u.plan.channels ≡ t.plan.channels
+  pub groups_is : u.plan.group_by ≡ t.plan.group_by
+
+pub kept_self : (t : Tuner) → Kept t t
+kept_self t = record { kind_is = refl; channels_is = refl; groups_is = refl }
+
+-- and so does a tuning, refused and untuned ones included
+pub tuning_kept : (t : Tuner) (lines : Outcome (List Line)) (room : ℕ) → Kept t (settled t (fitted room (plan_effect t (planned t.plan lines))))
+tuning_kept t lines room = by (planned t.plan lines) (planned_kept t.plan lines)
   where
-    by :
-        (b : Bool)
-        → let next = (cond {A = Model × M.Answer} b (M.holding m lines, M.tuned (count m.group_by lines)) (M.empty m.channels m.group_by, M.untuned (count m.group_by lines))).0 in
-        (next.channels ≡ m.channels) × (next.group_by ≡ m.group_by)
-    by true = (refl, refl)
-    by false = (refl, refl)
+    at : (e : Effect Planned Tuner) → Kept t e.next → (b : Bool) → Kept t (settled t (cond b (value e) (refused buffer_too_short)))
+    at e k true = k
+    at e k false = kept_self t
+
+    by : (o : Model × M.Answer) → (o.0.channels ≡ t.plan.channels) × (o.0.group_by ≡ t.plan.group_by) → Kept t (settled t (fitted room (plan_effect t o)))
+    by (m, M.tuned n) h = at _ (record { kind_is = refl; channels_is = h.0; groups_is = h.1 }) (leb (length (bytes_of (plan_messages t.kind m))) room)
+    by (m, M.untuned n) h = at _ (record { kind_is = refl; channels_is = h.0; groups_is = h.1 }) (leb 0 room)
+    by (m, M.refused n) h = kept_self t
 
 -- A tuning, of whatever lists and however it ends, leaves the channels.
 pub channels_kept :
     (s back : AotTuner) (lines : Outcome (List Line)) {old new : List ℕ} {answer : Outcome Planned}
     → Steps view (plan_effect (view s) (planned (view s).plan lines)) s old answer back new → (view back).plan.channels ≡ (view s).plan.channels
-channels_kept s back lines {old} p = by (planned (view s).plan lines) (planned_kept (view s).plan lines).0 p.moved_is
-  where
-    at :
-        (e : Effect Planned Tuner) → e.next.plan.channels ≡ (view s).plan.channels → (b : Bool) → Moved view (cond b (value e) (refused buffer_too_short)) s back
-        → (view back).plan.channels ≡ (view s).plan.channels
-    at e q true h = ap (λ (x : Tuner). x.plan.channels) h ∙ q
-    at e q false h = ap (λ (x : AotTuner). (view x).plan.channels) h
-
-    by :
-        (o : Model × M.Answer) → o.0.channels ≡ (view s).plan.channels → Moved view (fitted (length old) (plan_effect (view s) o)) s back
-        → (view back).plan.channels ≡ (view s).plan.channels
-    by (m, M.tuned n) q h = at _ q (leb (length (bytes_of (plan_messages (view s).kind m))) (length old)) h
-    by (m, M.untuned n) q h = at _ q (leb 0 (length old)) h
-    by (m, M.refused n) q h = ap (λ (x : AotTuner). (view x).plan.channels) h
+channels_kept s back lines {old} p =
+    ap (λ (x : Tuner). x.plan.channels) (handed_back p) ∙ (tuning_kept (view s) lines (length old)).channels_is
 
 pub tuned_sound :
     (s back : AotTuner) (lines : Outcome (List Line)) {old new : List ℕ} {answer : Outcome Planned}
@@ -260,7 +246,7 @@ module _ (other : Other) (st : State) (r : Receiver) (t : Tuner) (o : Model × M
   plan_tunes f i d h e q =
       let m = (view back).plan in
       ap (λ (x : Receiver). x ch) (plan_received other st r t o call)
-      ∙ touched (view back).kind m.channels (λ j. m.detunings j (pos 0)) ch m.num_channels i d r h e q (λ j g. only_place [] m.channels ch i j f e g)
+      ∙ touched (view back).kind m.channels (λ j. m.detunings j (pos 0)) ch m.num_channels i d r h e q (λ j g. only_place m.channels ch i j (distinct [] m.channels (channels_fresh [] m.channels f)) e g)
 
   -- Every other channel is as it was.
   pub plan_spares :

@@ -1,13 +1,11 @@
 -- A plan tuner however it was tuned before, refused and untuned plans included. After a tuned answer each key of the list is heard as its
 -- note's, when it is pressed, on a channel that is tuned by the last detuning of a chain of the list's own keys there, from this key on. Assumes nothing.
 use mathlib.Core.Path.{◌≡◌, refl, sym, ap, subst, ◌∙◌}
-use mathlib.Core.Bool.{Bool, true, false, cond}
 use mathlib.Core.Option.{Option, some, none}
 use mathlib.Core.List.{List, [], ◌∷◌, ◌++◌}
 use Prim.Native.Nat.{ℕ, ◌<◌, ◌≤◌}
 use native.Mathlib.Omega.{arith}
 use borrow.Author.Tests.{eq-eqb}
-use lib.Dec.{leb}
 use lib.IntN.{ℤ, pos}
 use lib.Ieee.{Float}
 use lib.ListN.{length, take, get_elem?}
@@ -33,8 +31,7 @@ use Rattle.theorems.specs.PlannedKeys.{row, JoinChain, Placed}
 use Rattle.theorems.proofs.Plans.PlannedKeys.{planned_keys}
 use Rattle.theorems.proofs.Plans.Pitches.{pitches_law}
 use Rattle.senders.specs.Lent.{Effect, fitted, Steps, Answers, settled}
-use Rattle.senders.specs.Midi.{bytes_of}
-use Rattle.plan_tuner.specs.Aot.{Tuner, view, with_plan, Planned, tunes, plan_messages, plan_effect, start_rule, set_tuning_of_pitches_rule, found, placed, note_on_rule}
+use Rattle.plan_tuner.specs.Aot.{Tuner, view, Planned, tunes, plan_effect, start_rule, set_tuning_of_pitches_rule, found, placed, note_on_rule}
 use Rattle.theorems.specs.Reader.{State}
 use Rattle.theorems.specs.Receiver.{Receiver, Other, hear_bytes}
 use Rattle.theorems.specs.ExpectedEffect.{tuned, note_meant, key_meant, value_in}
@@ -42,21 +39,12 @@ use Rattle.theorems.specs.PlanTunerCalls.{Lists, notes, pitches, tune_rule, line
 use Rattle.senders.specs.declared.tuner.NoteMessage.TheVariants.{On}
 use Rattle.plan_tuner.specs.declared.aot.AotTuner.{AotTuner}
 use Rattle.theorems.proofs.Receiver.BothTuners.{key_received}
-use Rattle.theorems.proofs.Bytes.Accepted.{accepted}
 use Rattle.senders.proofs.Lent.{handed_back}
 use Rattle.theorems.proofs.Receiver.PoolTunerCalls.{listed}
 use Rattle.theorems.proofs.Receiver.Received.{tuned_value}
-use Rattle.theorems.proofs.Receiver.PlanTuner.{Sound, started_sound, planned_kept, plan_tunes}
+use Rattle.theorems.proofs.Receiver.PlanTuner.{Kept, Sound, kept_self, started_sound, planned_kept, plan_tunes, told, tuning_kept}
 
 -- ---- what no tuning alters
-
-record Kept (t u : Tuner) : Type 0 where
-  kind_is : u.kind ≡ t.kind
-  channels_is : u.plan.channels ≡ t.plan.channels
-  groups_is : u.plan.group_by ≡ t.plan.group_by
-
-kept_self : (t : Tuner) → Kept t t
-kept_self t = record { kind_is = refl; channels_is = refl; groups_is = refl }
 
 kept_trans : {t u v : Tuner} → Kept t u → Kept u v → Kept t v
 kept_trans a b =
@@ -74,16 +62,7 @@ after_kept : (t : Tuner) (c : Call) → Kept t (after t c)
 unfolding after
 after_kept t (tune lists room) =
     subst (λ (o : Outcome (Effect Planned Tuner)). Kept t (settled t (fitted room o))) (sym (rule_is t lists))
-    (let k = planned_kept t.plan (lines_of lists) in by (planned t.plan (lines_of lists)) k.0 k.1)
-  where
-    at : (e : Effect Planned Tuner) → Kept t e.next → (b : Bool) → Kept t (settled t (cond b (value e) (refused 10)))
-    at e k true = k
-    at e k false = kept_self t
-
-    by : (o : Model × M.Answer) → o.0.channels ≡ t.plan.channels → o.0.group_by ≡ t.plan.group_by → Kept t (settled t (fitted room (plan_effect t o)))
-    by (m, M.tuned n) c g = at _ (record { kind_is = refl; channels_is = c; groups_is = g }) (leb (length (bytes_of (plan_messages t.kind m))) room)
-    by (m, M.untuned n) c g = at _ (record { kind_is = refl; channels_is = c; groups_is = g }) (leb 0 room)
-    by (m, M.refused n) c g = kept_self t
+    (tuning_kept t (lines_of lists) room)
 
 retuned_kept : (t : Tuner) (cs : List Call) → Kept t (retuned t cs)
 unfolding retuned
@@ -145,37 +124,15 @@ result :
     (s back : AotTuner) (o : Outcome (List Line)) {old new : List ℕ} {n w : ℕ}
     → Steps view (plan_effect (view s) (planned (view s).plan o)) s old (value (tunes n w)) back new → Result (view s) (view back) n o
 unfolding planned
-result s back (refused k) call =
-    let a = accepted call in
-    let z : ◌≡◌ {A = ℕ} 0 1 = cc in
-    absurd (omega arith)
-result s back (value lines) {old} {new} {n} {w} call = by (planned (view s).plan (value lines)) refl call
-  where
-    by :
-        (r : Model × M.Answer) → planned (view s).plan (value lines) ≡ r → Steps view (plan_effect (view s) r) s old (value (tunes n w)) back new
-        → Result (view s) (view back) n (value lines)
-    by (m, M.tuned k) e p =
-        let a = accepted p in
-        let bs : List ℕ = bytes_of (plan_messages (view s).kind m) in
-        let f : Effect Planned Tuner = record { says = tunes k (length bs); bytes = bs; next = with_plan (view s) m } in
-        let same : f ≡ a.effect = cc in
-        let says : tunes n w ≡ tunes k (length bs) = a.answer_is ∙ sym (ap (λ (x : Effect Planned Tuner). x.says) same) in
-        let next : view back ≡ with_plan (view s) m = a.next_is ∙ sym (ap (λ (x : Effect Planned Tuner). x.next) same) in
-        let count : k ≡ n = cc in
-        record {
-          lines = lines;
-          lines_is = refl;
-          answer_is = ap (λ (x : Model × M.Answer). x.1) e ∙ ap M.tuned count;
-          plan_is = ap (λ (x : Tuner). x.plan) next ∙ sym (ap (λ (x : Model × M.Answer). x.0) e);
-        }
-    by (m, M.untuned k) e p =
-        let a = accepted p in
-        let z : ◌≡◌ {A = ℕ} 0 1 = cc in
-        absurd (omega arith)
-    by (m, M.refused k) e p =
-        let a = accepted p in
-        let z : ◌≡◌ {A = ℕ} 0 1 = cc in
-        absurd (omega arith)
+result s back (refused k) call = let g = told (view s) (planned (view s).plan (refused k)) call in let e = g.planned_is in absurd (let z : ◌≡◌ {A = ℕ} 0 1 = cc in omega arith)
+result s back (value lines) call =
+    let g = told (view s) (planned (view s).plan (value lines)) call in
+    record {
+      lines = lines;
+      lines_is = refl;
+      answer_is = ap (λ (x : Model × M.Answer). x.1) g.planned_is;
+      plan_is = ap (λ (x : Tuner). x.plan) g.next_is ∙ sym (ap (λ (x : Model × M.Answer). x.0) g.planned_is);
+    }
 
 lists_accepted : (lists : Lists) (lines : List Line) → Typed lists → lines_of lists ≡ value lines → Accepted lines
 lists_accepted (notes ks ns ds) lines ok e = notes_accepted ks ns ds lines ok.0 ok.1 e

@@ -8,7 +8,7 @@ use Prim.Native.Nat.{ℕ, ◌≤◌, ◌<◌}
 use native.Mathlib.Omega.{arith}
 use lib.Dec.{ltb, leb, eqb}
 use lib.ListN.{length}
-use borrow.Author.Tests.{le-ltb, lt-ltb, lt-leb, le-leb, ltb-true, ltb-false, leb-true, leb-false}
+use borrow.Author.Tests.{le-ltb, lt-ltb, lt-leb, le-leb, ltb-true, ltb-false, leb-false}
 use mathlib.Core.Option.{Option, none}
 use lib.Ieee.{Float}
 use lib.Ieee.Positive.{positive}
@@ -112,21 +112,18 @@ pub start_refusals :
 start_refusals channels kind mode n e = let o = open_refused channels PoolGroup mode n e in (o.0, o.2)
 
 -- presses: 8, 1, 11, 10
-among_register : (s : State) (key : ℕ) (hz : Float) (n : ℕ) → register_rule s key hz ≡ refused n → has (8 ∷ 1 ∷ 11 ∷ 10 ∷ []) n ≡ true
-among_register s key hz n e =
-    elim ((register_refused s key hz n).0 e) [ inl h ↦ ap (has (8 ∷ 1 ∷ 11 ∷ 10 ∷ [])) h.1 | inr h ↦ ap (has (8 ∷ 1 ∷ 11 ∷ 10 ∷ [])) h.1.1 ]
+pub among_press : (ns : List ℕ) (t : Tuner) (key : ℕ) (hz : Float) (v : ℕ) → has ns 8 ≡ true → has ns 1 ≡ true → has ns 11 ≡ true
+    → Among ns (note_on_rule t key hz v)
+among_press ns t key hz v eight one eleven =
+    among_test ns 8 (ltb v 128) (press_effect t v (register_rule t.pool key hz)) eight (by (register_rule t.pool key hz) refl)
+  where
+    by : (o : Outcome (Press × State)) → register_rule t.pool key hz ≡ o → Among ns (press_effect t v o)
+    by (value r) e = tt
+    by (refused n) e = elim ((register_refused t.pool key hz n).0 e) [ inl h ↦ ap (has ns) h.1 ∙ one | inr h ↦ ap (has ns) h.1.1 ∙ eleven ]
 
 pub press_refusals : (t : Tuner) (key : ℕ) (hz : Float) (v room : ℕ) → Among (8 ∷ 1 ∷ 11 ∷ 10 ∷ []) (fitted room (note_on_rule t key hz v))
 press_refusals t key hz v room =
-    among_fitted ns room (note_on_rule t key hz v) refl
-    (among_test ns 8 (ltb v 128) (press_effect t v (register_rule t.pool key hz)) refl (by (register_rule t.pool key hz) refl))
-  where
-    ns : List ℕ
-    ns = 8 ∷ 1 ∷ 11 ∷ 10 ∷ []
-
-    by : (o : Outcome (Press × State)) → register_rule t.pool key hz ≡ o → Among (8 ∷ 1 ∷ 11 ∷ 10 ∷ []) (press_effect t v o)
-    by (value r) e = tt
-    by (refused n) e = among_register t.pool key hz n e
+    among_fitted (8 ∷ 1 ∷ 11 ∷ 10 ∷ []) room (note_on_rule t key hz v) refl (among_press (8 ∷ 1 ∷ 11 ∷ 10 ∷ []) t key hz v refl refl refl)
 
 -- releases: 8, 10
 pub release_refusals : (t : Tuner) (key v room : ℕ) → Among (8 ∷ 10 ∷ []) (fitted room (note_off_rule t key v))
@@ -139,7 +136,7 @@ key_refusals kind channels v o room =
     among_fitted (8 ∷ 10 ∷ []) room (key_rule kind channels v o) refl (among_test (8 ∷ 10 ∷ []) 8 (ltb v 128) _ refl tt)
 
 -- a repitch: 1, 10, and 1 only of an unknown key
-among_repitch : (ns : List ℕ) (t : Tuner) (key : ℕ) (hz : Float) → has ns 1 ≡ true → Among ns (note_pitch_rule t key hz)
+pub among_repitch : (ns : List ℕ) (t : Tuner) (key : ℕ) (hz : Float) → has ns 1 ≡ true → Among ns (note_pitch_rule t key hz)
 among_repitch ns t key hz h = by (repitch_rule t.pool key hz) refl
   where
     by : (o : Outcome (Option (Place × Float))) → repitch_rule t.pool key hz ≡ o → Among ns (repitch_effect t o)
@@ -219,9 +216,6 @@ module _ (ch : ℕ) (m : ChannelMessageType) (room : ℕ) where
   pub room_last : Valid (meant ch m) → room < length (bytes (meant ch m)) → fitted room (message_rule ch m) ≡ refused buffer_too_short
   room_last v h = rw (message_accepted ch m v) (rw (lt-leb (length (bytes (meant ch m))) room h))
 
-  pub room_enough : Valid (meant ch m) → length (bytes (meant ch m)) ≤ room → fitted room (message_rule ch m) ≡ sent (bytes (meant ch m))
-  room_enough v h = rw (message_accepted ch m v) (rw (le-leb (length (bytes (meant ch m))) room h))
-
 -- When, and with which number: 6 for a channel over 15; else what the data are refused with; else 10 for want of room. Nothing else is refused.
 module _ (ch : ℕ) (m : ChannelMessageType) (room n : ℕ) where
   abbrev pub Refused : Type 0
@@ -230,24 +224,12 @@ module _ (ch : ℕ) (m : ChannelMessageType) (room n : ℕ) where
       ⊎ ((is_channel ch ≡ true)
       × ((checked m (value (tt {0})) ≡ refused n) ⊎ (Valid (meant ch m) × (room < length (bytes (meant ch m))) × (n ≡ buffer_too_short))))
 
-  by_room :
-      (t : Bool) → leb (length (bytes (meant ch m))) room ≡ t → Valid (meant ch m) → fitted room (message_rule ch m) ≡ refused n
-      → (room < length (bytes (meant ch m))) × (n ≡ buffer_too_short)
-  by_room true e v h =
-      let s = room_enough ch m room v (leb-true (length (bytes (meant ch m))) room e) in
-      let z : ◌≡◌ {A = ℕ} 0 1 = cc in
-      absurd (omega arith)
-  by_room false e v h =
-      let l : room < length (bytes (meant ch m)) = leb-false (length (bytes (meant ch m))) room e in
-      let s = room_last ch m room v l in
-      (l, (cc))
-
   by_data :
       (o : Outcome (Unit {0})) → checked m (value tt) ≡ o → is_channel ch ≡ true → fitted room (message_rule ch m) ≡ refused n
       → (checked m (value (tt {0})) ≡ refused n) ⊎ (Valid (meant ch m) × (room < length (bytes (meant ch m))) × (n ≡ buffer_too_short))
   by_data (value u) c e h =
       let v = checked_valid m (value tt) c ch (ltb-true ch 16 e) in
-      let r = by_room (leb (length (bytes (meant ch m))) room) refl v h in
+      let r = room_refuses room _ (rw (message_accepted ch m v) at h) in
       inr (v, r.0, r.1)
   by_data (refused k) c e h =
       let s = data_next ch m room (ltb-true ch 16 e) c in
