@@ -265,7 +265,7 @@ fn stop_message(
 impl JitTuner {
     // A press.
     pub fn pressed(
-        self,
+        mut self,
         key: u8,
         pitch: Pitch,
         velocity: u8,
@@ -273,39 +273,35 @@ impl JitTuner {
     ) -> (JitTuner, Result<Option<usize>, Refusal>)
         ensures { Steps view (note_on_rule (view self) key pitch.hz velocity) self out.old (press_answer result.1) result.0 out.new }
     {
-        let mut tuner = self;
-        let answer = tuner.note_on(key, pitch, velocity, out);
-        (tuner, answer)
+        let answer = self.note_on(key, pitch, velocity, out);
+        (self, answer)
     }
 
     // A release.
     pub fn released(
-        self,
+        mut self,
         key: u8,
         velocity: u8,
         out: &mut [u8],
     ) -> (JitTuner, Result<usize, Refusal>)
         ensures { Steps view (note_off_rule (view self) key velocity) self out.old (outcome result.1) result.0 out.new }
     {
-        let mut tuner = self;
-        let answer = tuner.note_off(key, velocity, out);
-        (tuner, answer)
+        let answer = self.note_off(key, velocity, out);
+        (self, answer)
     }
 
     // A lookup.
     pub fn looked_up(self, key: u8) -> Option<Place>
         ensures { place result ≡ found (view self).pool key }
     {
-        let tuner = self;
-        tuner.access_key(key)
+        self.access_key(key)
     }
 
     // The release of every found key.
-    pub fn stopped(self, out: &mut [u8]) -> (JitTuner, Result<usize, Refusal>)
+    pub fn stopped(mut self, out: &mut [u8]) -> (JitTuner, Result<usize, Refusal>)
         ensures { Steps view (stop_rule (view self)) self out.old (outcome result.1) result.0 out.new }
     {
-        let mut tuner = self;
-        let answer = tuner.stop(out);
-        (tuner, answer)
+        let answer = self.stop(out);
+        (self, answer)
     }
 }
