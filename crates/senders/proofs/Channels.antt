@@ -1,10 +1,9 @@
 -- Messages on the channels of a tuner's list: which MIDI channel, and a message to each. Assumes nothing.
 use mathlib.Core.Path.{◌≡◌, ap, ◌∙◌}
-use mathlib.Core.Option.{Option, some, none}
+use mathlib.Core.Option.{some, none}
 use mathlib.Core.List.{List, [], ◌∷◌, ◌++◌, append-nil}
-use Prim.Native.Nat.{ℕ, zero, suc, ◌+◌, ◌≤◌, ◌<◌}
+use Prim.Native.Nat.{ℕ, zero, suc, ◌+◌, ◌<◌}
 use native.Mathlib.Omega.{arith}
-use lib.IntN.{ℤ}
 use lib.ListN.{length, take, get_or, get_elem?}
 use Rattle.channels.specs.ChannelList.{entries}
 use Rattle.channels.specs.declared.list.ChannelList.{ChannelList}
@@ -12,12 +11,10 @@ use Rattle.channels.proofs.ChannelLists.{entries_low}
 use Rattle.channels.specs.Outcome.{value}
 use Rattle.senders.specs.Message.{Valid}
 use Rattle.senders.specs.Midi.{bytes, bytes_of, meant}
-use Rattle.senders.specs.Tuner.{note_messages, each, on_entry, on_channel}
+use Rattle.senders.specs.Tuner.{each}
 use Rattle.senders.specs.declared.midi.ChannelMessageType.{ChannelMessageType}
-use Rattle.senders.specs.declared.tuner.NoteMessage.{NoteMessage}
 use Rattle.senders.proofs.Each.{bytes_more}
 use Rattle.senders.proofs.Messages.{checked_valid, valid_checked}
-use Rattle.senders.proofs.Sizes.{note_small}
 
 -- ---- entries
 

@@ -31,10 +31,10 @@ loop-i-preserved c =
     let t = (goal.at.loop-i-preserved c).After-tuning in
     let messages = tunings c.args.kind (plan_of c.args.model.now) in
     let all : c.match-tuning.bytes.items ≡ c.loop-i.bytes.items ++ more t =
-        elim c.match-tuning.branch [
-          | in-Some w ↦ grind (arith, common_steps)
-          | in_default w ↦ grind (arith, common_steps)
-        ] in
+    elim c.match-tuning.branch [
+      | in-Some w ↦ grind (arith, common_steps)
+      | in_default w ↦ grind (arith, common_steps)
+    ] in
     record {
       put = all ∙ rw (c.loop-i.invariant.put, c.channels-channels.ensures, c.detuning-detuning.ensures) (sym (first_more messages c.loop-i.i));
       size = omega (arith, room t, c.loop-i.invariant.size, ap length all, length-append c.loop-i.bytes.items (more t));

@@ -1,8 +1,11 @@
 -- `aot::tuning` meets its contract: no list has a channel past 255, and the detuning can be measured. Assumes nothing.
 use Rattle.std.proofs.Common.{◌≡◌, refl, sym, ◌∙◌, arith}
+use Rattle.std.proofs.Math.Option.{some}
+use Rattle.std.proofs.Math.ListN.{get_elem?}
 use Rattle.arithmetic.specs.Answers.{outcome_by}
 use Rattle.channels.specs.Outcome.{value}
 use Rattle.channels.specs.TuningValue.{sent_as}
+use Rattle.channels.specs.ChannelList.{entries}
 use Rattle.channels.proofs.ChannelLists.{entries_few, entry_past}
 use Rattle.senders.specs.Midi.{bytes_of}
 use Rattle.senders.specs.Mts.{tuning_messages}
@@ -32,5 +35,5 @@ pub returns : goal.returns
 returns c =
     let is = rw c.unwrap.ensures at (sent (goal.at.returns c).After-tuning_bytes-bytes) in
     let same : c.in-Ok.i ≡ c.args.i = omega (arith, c.in-Ok.ensures) in
-    let on = rw same at (sym c.in_ok-channel.ensures) in
+    let on : get_elem? (entries c.args.channels) c.args.i ≡ some c.in_ok-channel.channel.number = rw (← same) (sym c.in_ok-channel.ensures) in
     rw (c.in_ok-detuning.was, on) (cc)

@@ -1,6 +1,6 @@
 -- `tuning_bytes` meets its contract: the steps of a tuning are in their range, so that a bend is not refused and the high bits of a fine value are seven.
 -- Assumes nothing.
-use Rattle.std.proofs.Common.{◌≡◌, ℕ, ◌/◌, ◌%◌, ◌<◌, sym, subst, arith, refl, rules, to_z, of_z, w16}
+use Rattle.std.proofs.Common.{◌≡◌, ℕ, ◌/◌, ◌%◌, ◌<◌, sym, ap, ◌∙◌, subst, arith, refl, rules, to_z, of_z, w16}
 use Rattle.std.proofs.lemmas.Grind.{common_steps}
 use Rattle.std.specs.Prelude.{Float}
 use Rattle.channels.specs.Outcome.{value}
@@ -8,6 +8,8 @@ use Rattle.channels.specs.TuningValue.{InSteps, tuning_rule}
 use Rattle.channels.specs.declared.tuning_value.TuningKind.{TuningKind}
 use Rattle.channels.specs.declared.tuning_value.Tuning.{Tuning}
 use Rattle.channels.proofs.Values.{value_in_steps}
+use Rattle.senders.specs.Message.{control}
+use Rattle.senders.specs.Midi.{bytes}
 use Rattle.senders.specs.Mts.{tuning_bytes}
 use Rattle.senders.specs.declared.midi.ChannelMessageType.TheVariants.{PitchBendChange}
 use Rattle.senders.proofs.Messages.{checked_bytes}
@@ -37,7 +39,9 @@ returns c =
           let v = w.in-Fine.value in
           let h : v < 16384 = in_steps a.kind a.detuning.float_value c.in_ok-value.ensures w.in-Fine.is in
           let e = is_sent a.kind a.detuning.float_value c.in_ok-value.ensures w.in-Fine.is a.channel.number in
-          let high : v / 128 % 128 ≡ v / 128 = omega arith in
+          let small : v / 128 % 128 ≡ v / 128 = omega arith in
+          let high : w.control-in-Fine-2.result ≡ bytes (control a.channel.number 0x06 (v / 128)) =
+          w.control-in-Fine-2.ensures ∙ ap (λ (n : ℕ). bytes (control a.channel.number 0x06 n)) (w.lowest_of-msb.ensures ∙ small) in
           rw (e, w.bytes-is) (grind (arith, common_steps))
       | in-Bend+in_ok-bend-in-Bend w ↦
           let h = in_steps a.kind a.detuning.float_value c.in_ok-value.ensures w.in-Bend.is in

@@ -4,7 +4,7 @@ use Rattle.std.proofs.Common.{◌≡◌, ◌<◌, refl, sym, ap, subst, ◌∙�
 use Rattle.std.proofs.lemmas.Result.{err_from_is_err_and}
 use Rattle.channels.specs.Outcome.{Outcome, value}
 use Rattle.pools.specs.Pool.{State, Press, accepted, register_rule, replied}
-use Rattle.pools.specs.Block.{state_of, Moves}
+use Rattle.pools.specs.Block.{state_of, Moves, register_note_rule}
 use Rattle.pools.specs.PoolAnswers.{stopped_note, told}
 use Rattle.pools.specs.declared.jit.JitTuningModel.{JitTuningModel}
 use Rattle.pools.proofs.PoolPresses.{press_measurable, register_again, rejected_stays}
@@ -71,13 +71,12 @@ returns c =
     let a = c.args in
     let t = a.self.now in
     let press = c.in-Some.press in
-    let plain : to_z w32 (of_z w32 c.number-note.result) ≡ c.number-note.result = search rules in
+    let note = c.number-note.result in
+    let plain : to_z w32 (of_z w32 note) ≡ note = search rules in
+    let stored : Moves (register_note_rule (state_of t.model) a.key (to_z w32 (of_z w32 note)) press.detuning) t.model c.register_note.new.self =
+    c.register_note.ensures.moved in
     let again = register_again (state_of t.model) a.key a.pitch.hz (answered i) in
-    let moved =
-    subst
-    (λ (o : Outcome (Press × State)). Moves o t.model c.register_note.new.self)
-    again
-    (rw (plain, c.number-note.ensures) at c.register_note.ensures.moved) in
+    let moved = subst (λ (o : Outcome (Press × State)). Moves o t.model c.register_note.new.self) again (rw (plain, c.number-note.ensures) at stored) in
     ends_sounding
     {view = view}
     {s = t}
