@@ -161,6 +161,7 @@ impl AotTuningModel {
     // The detuning of a group on a channel of the plan, carried over from the channels before where it was not replaced. A note is its own group's number,
     // a letter's is 0 to 11, a whole channel's 0.
     // Example: open([0, 1], Channel); set_tuning([1, 2], [69, 69], [1, 33/32]); detuning(1, 0) is 1.03125
+    #[tactic(auto, unfolding(crate::specs::Plan::plan_of, crate::specs::Plan::detuning_in, crate::specs::Plan::highest))]
     pub fn detuning(&self, channel: u16, group: i32) -> Option<f64>
         ensures { optional result ≡ (plan_of self.now).detunings channel group }
     {
@@ -201,6 +202,7 @@ fn least_group(records: &[u16], by: GroupBy, channel: u16, from: i32) -> Option<
 }
 
 // The group of a record's key, if that is in the plan on a channel or one before it.
+#[tactic(auto, using(crate::proofs::Records::up_to_none, crate::proofs::Records::up_to_over, crate::proofs::Records::up_to_own, crate::proofs::Slots::group_note, arithmetic::proofs::Notes::note_fits))]
 fn group_up_to(cell: u16, by: GroupBy, channel: u16) -> Option<i32>
     ensures { result ≡ group_up_to by channel cell }
 {
