@@ -22,7 +22,7 @@ use Rattle.plans.specs.PlanLists.{key_count, keys}
 use Rattle.plans.specs.Walk.{count, seat, entry}
 use Rattle.plans.specs.Plan.{KeyRecord, nobody, is_in, key_in, larger, counts, highest}
 use Rattle.plans.specs.PlanInternal.{Accepted, Seats}
-use Rattle.channels.proofs.ListLaws.{Each-zip, outcome, passed, failed, T→true, true→T, not_false, or_cases, Each-map, Each-keep, Pairwise}
+use Rattle.channels.proofs.ListLaws.{Each-zip, outcome, passed, failed, T→true, true→T, not_false, or_cases, Each-keep, Pairwise}
 use mathlib.Core.Logic.{inl, inr}
 use Rattle.plans.proofs.Joins.{le_total, le_refl_positive}
 use Rattle.plans.proofs.Rising.{UpTo, others_of, rising_Each}
@@ -62,6 +62,15 @@ abbrev Under : Float → Option Float → Type 0
 Under d none = ⊥
 Under d (some e) = T (le d e)
 
+-- the larger of two is over both, and over what the second was over
+larger_over : (d : Float) (o : Option Float) → T (positive d) → Has (λ (e : Float). T (positive e)) o
+    → Under d (larger d o) × ((f : Float) → T (positive f) → Under f o → Under f (larger d o))
+larger_over d none p q = (le_refl_positive d p, λ f a u. absurd u)
+larger_over d (some e) p q = elim (outcome (le d e)) [
+  | passed u ↦ rw u (true→T u, λ f a b. b)
+  | failed u ↦ rw u (le_refl_positive d p, λ f a b. le_trans_positive f e d a q p b (le_total d e p q u))
+]
+
 module _ (by : GroupBy) (c : ℕ) (g : ℤ) where
   highest_has : (P : Float → Type 0) (rs : List KeyRecord) → Each (λ (r : KeyRecord). counts by c g r ≡ true → P r.detuning) rs → Has P (highest by c g rs)
   unfolding highest
@@ -81,32 +90,16 @@ module _ (by : GroupBy) (c : ℕ) (g : ℤ) where
   highest_over [] h = tt
   highest_over (r ∷ rs) h = elim (outcome (counts by c g r)) [
     | passed e ↦
-        let q = go (highest by c g rs) (h.0 e) (highest_has (λ (d : Float). T (positive d)) rs h.1) rs h.1 (highest_over rs h.1) in
+        let w = larger_over r.detuning (highest by c g rs) (h.0 e) (highest_has (λ (d : Float). T (positive d)) rs h.1) in
         let k : highest by c g (r ∷ rs) ≡ larger r.detuning (highest by c g rs) = rw e in
-        subst (λ (o : Option Float). Each (λ (x : KeyRecord). counts by c g x ≡ true → Under x.detuning o) (r ∷ rs)) (sym k) (λ u. q.0 e, q.1)
+        subst AllUnder (sym k) (λ u. w.0, Each-zip (λ x a b u. w.1 x.detuning (a u) (b u)) rs h.1 (highest_over rs h.1))
     | failed e ↦
         let k : highest by c g (r ∷ rs) ≡ highest by c g rs = rw e in
-        subst (λ (o : Option Float). Each (λ (x : KeyRecord). counts by c g x ≡ true → Under x.detuning o) (r ∷ rs)) (sym k)
-        (λ u. absurd (true→T (sym e ∙ u)), highest_over rs h.1)
+        subst AllUnder (sym k) (λ u. absurd (true→T (sym e ∙ u)), highest_over rs h.1)
   ]
     where
-      go : (o : Option Float) → T (positive r.detuning) → Has (λ (d : Float). T (positive d)) o → (l : List KeyRecord)
-          → Each (λ (x : KeyRecord). counts by c g x ≡ true → T (positive x.detuning)) l
-          → Each (λ (x : KeyRecord). counts by c g x ≡ true → Under x.detuning o) l
-          → Each (λ (x : KeyRecord). counts by c g x ≡ true → Under x.detuning (larger r.detuning o)) (r ∷ l)
-      go none p q l hp h = (λ u. le_refl_positive r.detuning p, Each-map (λ x k u. absurd (k u)) l h)
-      go (some d) p q l hp h = elim (outcome (le r.detuning d)) [
-        | passed e ↦
-            let k : larger r.detuning (some d) ≡ some d = rw e in
-            subst (λ (o' : Option Float). Each (λ (x : KeyRecord). counts by c g x ≡ true → Under x.detuning o') (r ∷ l)) (sym k) (λ u. true→T e, h)
-        | failed e ↦
-            let k : larger r.detuning (some d) ≡ some r.detuning = rw e in
-            subst (λ (o' : Option Float). Each (λ (x : KeyRecord). counts by c g x ≡ true → Under x.detuning o') (r ∷ l)) (sym k) (
-              λ u. le_refl_positive r.detuning p,
-              Each-zip
-                  (λ x a b u. le_trans_positive x.detuning d r.detuning (a u) q p (b u) (le_total r.detuning d p q e)) l hp h,
-            )
-      ]
+      AllUnder : Option Float → Type 0
+      AllUnder o = Each (λ (x : KeyRecord). counts by c g x ≡ true → Under x.detuning o) (r ∷ rs)
 
 -- ---- in a plan
 module _ (by : GroupBy) (all : List Line) (ok : Accepted all) (rs : List KeyRecord) (n : ℕ) (s : Seats by all rs n) (few : n ≤ 16) where

@@ -73,7 +73,8 @@ impl AotTuningModel {
         }
     }
 
-    // A model with no keys, for the channels of a list. Refuses, entry by entry, 6 a channel over 15 and 7 one that came before; the model has no channels then.
+    // A model with no keys, for the channels of a list. Refuses, entry by entry, 6 a channel over 15 and 7 one that came before;
+    // the model has no channels then.
     // Example: AotTuningModel::open([0, 1], Channel) is channels listed 2
     #[tactic(auto, unfolding(crate::specs::Plan::open_rule))]
     pub fn open(
@@ -87,8 +88,8 @@ impl AotTuningModel {
         (AotTuningModel::new(list, group_by), answer)
     }
 
-    // Plans the keys of lists: of notes and detunings, or of pitches, where each key has the nearest note. Refuses 12, then line by line 4, 3, 5 of notes and 1, 5 of
-    // pitches. A plan that needs more channels than there are leaves none.
+    // Plans the keys of lists: of notes and detunings, or of pitches, where each key has the nearest note. Refuses 12, then line by line
+    // 4, 3, 5 of notes and 1, 5 of pitches. A plan that needs more channels than there are leaves none.
     // Example: open([0, 1], Channel); set_tuning([1, 2], [69, 69], [1, 33/32]) is tuned, channels used 2
     // Example: open([0, 1], Channel); set_tuning([1, 2, 3], [69, 69, 69], [1, 33/32, 31/32]) is untuned, channels needed 3
     // Example: open([0, 1], Channel); set_tuning([1, 1], [69, 69], [1, 1]) is refused (5)
@@ -161,6 +162,7 @@ impl AotTuningModel {
     // The detuning of a group on a channel of the plan, carried over from the channels before where it was not replaced. A note is its own group's number,
     // a letter's is 0 to 11, a whole channel's 0.
     // Example: open([0, 1], Channel); set_tuning([1, 2], [69, 69], [1, 33/32]); detuning(1, 0) is 1.03125
+    #[tactic(auto, unfolding(crate::specs::Plan::plan_of, crate::specs::Plan::detuning_in, crate::specs::Plan::highest))]
     pub fn detuning(&self, channel: u16, group: i32) -> Option<f64>
         ensures { optional result ≡ (plan_of self.now).detunings channel group }
     {
@@ -201,6 +203,7 @@ fn least_group(records: &[u16], by: GroupBy, channel: u16, from: i32) -> Option<
 }
 
 // The group of a record's key, if that is in the plan on a channel or one before it.
+#[tactic(auto, using(crate::proofs::Records::up_to_none, crate::proofs::Records::up_to_over, crate::proofs::Records::up_to_own))]
 fn group_up_to(cell: u16, by: GroupBy, channel: u16) -> Option<i32>
     ensures { result ≡ group_up_to by channel cell }
 {

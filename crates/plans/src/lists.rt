@@ -72,6 +72,7 @@ impl<'a> TuningLists for NoteLists<'a> {
 
     ghost lines_are = { λ s. unfold note_lists in refl };
 
+    #[tactic(auto, using(crate::proofs::Lines::notes_counted))]
     fn len(&self) -> Result<usize, Refusal> {
         let len = self.keys.len();
         let equal = self.notes.len() == len && self.detunings.len() == len;
@@ -119,6 +120,7 @@ impl<'a> TuningLists for PitchLists<'a> {
 
     ghost lines_are = { λ s. unfold pitch_lists in refl };
 
+    #[tactic(auto, using(crate::proofs::Lines::pitches_counted))]
     fn len(&self) -> Result<usize, Refusal> {
         let len = self.keys.len();
         let equal = self.pitches.len() == len;

@@ -71,6 +71,7 @@ fn joins(before: f64, detuning: f64) -> bool
 }
 
 // The place of a note's group in a table of all groups.
+#[tactic(auto, using(crate::proofs::Slots::group_note, crate::proofs::Slots::slot_is, crate::proofs::Slots::slot_fits, crate::proofs::Slots::slot_below, arithmetic::proofs::Notes::note_fits))]
 fn slot(by: GroupBy, note: Note) -> usize
     ensures place { result ≡ slot_of (group by note.number) }
     ensures in_table { result < 801 }

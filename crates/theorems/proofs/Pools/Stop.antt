@@ -1,10 +1,11 @@
 -- After `stop` no key is found, in any model; and where no channel was lost, every channel is free. Assumes nothing.
-use Prim.Native.Nat.{ℕ, suc, ◌+◌, ◌-◌, ◌<◌, ◌≤◌}
-use mathlib.Core.Path.{◌≡◌, refl, sym, ap, subst, ◌∙◌}
+use Prim.Native.Nat.{ℕ, zero, suc, ◌+◌, ◌<◌}
+use mathlib.Core.Path.{◌≡◌, refl, ap, subst, ◌∙◌}
 use mathlib.Core.List.{List, [], ◌∷◌}
 use mathlib.Core.Option.{Option, some, none}
 use native.Mathlib.Omega.{arith}
-use native.Mathlib.Nat.{sub-zero}
+use native.Mathlib.Nat.{add-zero, zero-add}
+use Rattle.std.proofs.Math.Option.{none-ne-some}
 use lib.ListN.{length, get_or}
 use Rattle.pools.specs.declared.jit.PoolGroupBy.{PoolGroupBy}
 use Rattle.pools.specs.declared.jit.PoolingMode.{PoolingMode}
@@ -37,32 +38,17 @@ stays_gone s (h ∷ hs) k e =
     (either h.key k (λ same. rw same (released_gone s h.key)) (λ ne. released_other s h.key k ne ∙ e))
 
 -- every key that is in the table from number i on is released
-all_gone : (l : List (Option Place)) (i : ℕ) (s : State) (k : ℕ) (p : Place) → i ≤ k → get_or l (k - i) none ≡ some p → found (released_all s (held_from i l)) k ≡ none
+all_gone : (l : List (Option Place)) (i j : ℕ) (s : State) (p : Place) → get_or l j none ≡ some p → found (released_all s (held_from i l)) (i + j) ≡ none
 unfolding held_from released_all
-all_gone [] i s k p h e = absurd (let z : ◌≡◌ {A = ℕ} 0 1 = cc in omega arith)
-all_gone (x ∷ l) i s k p h e =
-    either i k
-    (λ same. here x (sym (ap (λ (n : ℕ). get_or (x ∷ l) n none) (zero_more same)) ∙ e) same)
-    (λ ne. later x (behind ne) (λ t. all_gone l (suc i) t k p (omega arith)))
-  where
-    zero_more : k ≡ i → k - i ≡ 0
-    zero_more same = omega arith
-
-    one_more : (k ≡ i → ⊥) → k - i ≡ suc (k - suc i)
-    one_more ne = omega arith
-
-    here : (x : Option Place) → x ≡ some p → k ≡ i → found (released_all s (held_from i (x ∷ l))) k ≡ none
-    here (some q) f same = stays_gone (released s i) (held_from (suc i) l) k (rw same (released_gone s i))
-    here none f same = absurd (let z : ◌≡◌ {A = ℕ} 0 1 = cc in omega arith)
-
-    behind : (k ≡ i → ⊥) → get_or l (k - suc i) none ≡ some p
-    behind ne = sym (ap (λ (n : ℕ). get_or (x ∷ l) n none) (one_more ne)) ∙ e
-
-    -- the state may have lost key i by then
-    later : (x : Option Place) → get_or l (k - suc i) none ≡ some p → ((s : State) → get_or l (k - suc i) none ≡ some p → found (released_all s (held_from (suc i) l)) k ≡ none)
-        → found (released_all s (held_from i (x ∷ l))) k ≡ none
-    later (some q) f rec = rec (released s i) f
-    later none f rec = rec s f
+all_gone [] i j s p e = absurd (none-ne-some p e)
+all_gone (some q ∷ l) i zero s p e = rw add-zero (stays_gone (released s i) (held_from (suc i) l) i (released_gone s i))
+all_gone (none ∷ l) i zero s p e = absurd (none-ne-some p e)
+all_gone (some q ∷ l) i (suc j) s p e =
+    let k : suc i + j ≡ i + suc j = omega arith in
+    subst (λ (m : ℕ). found (released_all (released s i) (held_from (suc i) l)) m ≡ none) k (all_gone l (suc i) j (released s i) p e)
+all_gone (none ∷ l) i (suc j) s p e =
+    let k : suc i + j ≡ i + suc j = omega arith in
+    subst (λ (m : ℕ). found (released_all s (held_from (suc i) l)) m ≡ none) k (all_gone l (suc i) j s p e)
 
 -- No key is found after `stop`.
 pub stop_empties : (s : State) (k : ℕ) → found (stopped s) k ≡ none
@@ -70,7 +56,7 @@ unfolding stopped held_keys found
 stop_empties s k = go (get_or s.keys k none) refl
   where
     go : (p : Option Place) → get_or s.keys k none ≡ p → found (released_all s (held_from 0 s.keys)) k ≡ none
-    go (some p) e = all_gone s.keys 0 s k p (omega arith) (rw sub-zero e)
+    go (some p) e = subst (λ (j : ℕ). found (released_all s (held_from 0 s.keys)) j ≡ none) (zero-add k) (all_gone s.keys 0 k s p e)
     go none e = stays_gone s (held_from 0 s.keys) k e
 
 -- Each channel of every pool is free then, exactly once, and no key has one, however the model was opened and played.

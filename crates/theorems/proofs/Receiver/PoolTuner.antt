@@ -3,12 +3,13 @@
 use mathlib.Core.Path.{◌≡◌, refl, sym, ap, subst, ◌∙◌}
 use mathlib.Core.Bool.{Bool, true, false, cond}
 use mathlib.Core.Option.{Option, some, none}
-use mathlib.Core.List.{List, [], ◌∷◌, ◌++◌}
+use mathlib.Core.List.{List, [], ◌∷◌}
 use Prim.Native.Nat.{ℕ, zero, suc, ◌<◌}
 use native.Mathlib.Omega.{arith}
 use lib.Dec.{ltb, eqb}
 use lib.IntN.{ℤ, pos, negsuc}
 use lib.Ieee.{Float}
+use Rattle.std.proofs.Math.Option.{none-ne-some}
 use lib.ListN.{length, take, drop, get_or, get_elem?}
 use lib.Seq.{take_at}
 use borrow.Author.Tests.{lt-ltb, ltb-true, eq-eqb}
@@ -187,42 +188,19 @@ module _ (channels : List ℕ) where
       (off_elsewhere (get_elem? channels g.place.channel) g.place.note c k r h)
 
   -- Of every key that was found, on whatever channel, the note is off afterwards.
-  pub hushed_off :
-      (before behind : List Held) (h : Held) (c k : ℕ) (r : Receiver) → get_elem? channels h.place.channel ≡ some c → h.place.note ≡ pos k → k < 128
-      → (hushed (before ++ h ∷ behind) r c).sounds k ≡ false
-  hushed_off [] behind h c k r e n low =
-      stay_off behind c k (on_listed (get_elem? channels h.place.channel) (noted false h.place.note) r)
-      (rw (e, n, eq-eqb c c refl, lt-ltb k 128 low, eq-eqb k k refl) refl)
-  hushed_off (g ∷ before) behind h c k r e n low =
-      hushed_off before behind h c k (on_listed (get_elem? channels g.place.channel) (noted false g.place.note) r) e n low
-
--- every found key is among those that `stop` goes through
-record Within (p : Place) (hs : List Held) : Type 0 where
-  before : List Held
-  held : Held
-  behind : List Held
-  place_is : held.place ≡ p
-  parts : hs ≡ before ++ held ∷ behind
-
-within : (l : List (Option Place)) (from key : ℕ) (p : Place) → get_or l key none ≡ some p → Within p (held_from from l)
-unfolding held_from
-within [] from key p e = let z : ◌≡◌ {A = ℕ} 0 1 = cc in absurd (omega arith)
-within (some q ∷ l) from zero p e =
-    record { before = []; held = record { key = from; place = q }; behind = held_from (suc from) l; place_is = (cc); parts = refl }
-within (none ∷ l) from zero p e = let z : ◌≡◌ {A = ℕ} 0 1 = cc in absurd (omega arith)
-within (some q ∷ l) from (suc key) p e =
-    let w = within l (suc from) key p e in
-    let first : Held = record { key = from; place = q } in
-    record {
-      before = first ∷ w.before;
-      held = w.held;
-      behind = w.behind;
-      place_is = w.place_is;
-      parts = ap (λ (hs : List Held). first ∷ hs) w.parts;
-    }
-within (none ∷ l) from (suc key) p e =
-    let w = within l (suc from) key p e in
-    record { before = w.before; held = w.held; behind = w.behind; place_is = w.place_is; parts = w.parts }
+  hushed_off :
+      (l : List (Option Place)) (from key : ℕ) (p : Place) (c k : ℕ) (r : Receiver) → get_or l key none ≡ some p → get_elem? channels p.channel ≡ some c
+      → p.note ≡ pos k → k < 128 → (hushed (held_from from l) r c).sounds k ≡ false
+  unfolding held_from
+  hushed_off [] from key p c k r f e n low = absurd (none-ne-some p f)
+  hushed_off (some q ∷ l) from zero p c k r f e n low =
+      let same : q ≡ p = cc in
+      stay_off (held_from (suc from) l) c k (on_listed (get_elem? channels q.channel) (noted false q.note) r)
+      (rw (same, e, n, eq-eqb c c refl, lt-ltb k 128 low, eq-eqb k k refl) refl)
+  hushed_off (none ∷ l) from zero p c k r f e n low = absurd (none-ne-some p f)
+  hushed_off (some q ∷ l) from (suc key) p c k r f e n low =
+      hushed_off l (suc from) key p c k (on_listed (get_elem? channels q.channel) (noted false q.note) r) f e n low
+  hushed_off (none ∷ l) from (suc key) p c k r f e n low = hushed_off l (suc from) key p c k r f e n low
 
 -- After `stop` the note of every key that was found is off on the key's channel.
 pub stop_silences :
@@ -231,8 +209,5 @@ pub stop_silences :
     → get_elem? (view self).pool.channels p.channel ≡ some c → p.note ≡ pos k → k < 128 → (hear_bytes other st (take n new) r c).sounds k ≡ false
 unfolding found held_keys
 stop_silences other st r self back {n = n} s key p c k f e note low =
-    let w = within (view self).pool.keys 0 key p f in
     let chs = (view self).pool.channels in
-    ap (λ (q : Receiver). (q c).sounds k) (stop_received other st r self {back = back} s)
-    ∙ ap (λ (hs : List Held). (hushed chs hs r c).sounds k) w.parts
-    ∙ hushed_off chs w.before w.behind w.held c k r (rw w.place_is e) (rw w.place_is note) low
+    ap (λ (q : Receiver). (q c).sounds k) (stop_received other st r self {back = back} s) ∙ hushed_off chs (view self).pool.keys 0 key p c k r f e note low

@@ -1,5 +1,5 @@
 -- `AotTuningModel::detuning` meets its contract: channels beyond the plan's have no entry. Assumes nothing.
-use Rattle.std.proofs.Common.{rules, ◌≡◌, ℕ, ◌+◌, ◌<◌, List, ◌++◌, ◌∷◌, [], length, get_or, take, true, false, Some, refl, sym, ap, ◌∙◌, arith}
+use Rattle.std.proofs.Common.{rules, ◌≡◌, ℕ, ◌+◌, ◌<◌, List, ◌++◌, ◌∷◌, [], length, get_or, take, true, false, Some, sym, ap, ◌∙◌, arith}
 use Rattle.std.proofs.lemmas.List.{length_push, take_all}
 use Rattle.std.proofs.lemmas.Slice.Zip.{zip_turn, zip_end}
 use Rattle.std.specs.Option.{option_eq}
@@ -7,7 +7,7 @@ use Rattle.std.specs.Ordering.{int_eq}
 use mir.Syntax.{w32}
 use mir.Val.{to_z, of_z}
 use mir.Facts.{to_z-of_z}
-use borrow.Author.Tests.{le-ltb, lt-ltb}
+use borrow.Author.Tests.{lt-ltb}
 use lib.Ieee.{Float, nan}
 use lib.IntN.{ℤ}
 use Rattle.plans.specs.PlanBlock.{detuning_of}
@@ -18,14 +18,6 @@ use Rattle.plans.proofs.PlanBlocks.{records_count}
 use Rattle.plans.proofs.Largest.{largest_counted, largest_left}
 use Rattle.plans.proofs.aot.AotTuningModel.detuning.Goals as goal
 use Rattle.plans.proofs.aot.AotTuningModel.detuning.Goals.{In-Some}
-
-pub returns-then-self-channel : goal.returns-then-self-channel
-unfolding plan_of detuning_in
-returns-then-self-channel c = rw (le-ltb c.args.channel c.args.self.now.num_channels c.if-self-channel.true)
-
-pub loop-cell-init : goal.loop-cell-init
-unfolding highest
-loop-cell-init c = refl
 
 -- ---- in a turn
 module _ (c : In-Some) where

@@ -1,13 +1,9 @@
 -- `PitchLists::line` meets its contract: a list without an entry is refused, then a number that is no pitch. Assumes nothing.
-use Rattle.std.proofs.Common.{◌≡◌, ℤ, get_or, sym, ap, ◌∙◌, arith}
+use Rattle.std.proofs.Common.{◌≡◌, ℤ, ap, ◌∙◌, arith}
 use lib.Ieee.{Float}
-use Rattle.arithmetic.specs.Outcome.{Outcome, value, refused}
+use Rattle.arithmetic.specs.Outcome.{Outcome, value}
 use Rattle.arithmetic.specs.Nearest.{nearest_rule}
-use Rattle.arithmetic.proofs.Outcomes.{hands_on_by}
-use Rattle.plans.specs.Line.{Line}
-use Rattle.plans.specs.PlanLists.{pitch_line, pitch_lines}
-use Rattle.plans.specs.KeyLine.{key_line}
-use Rattle.plans.proofs.Lines.{pitch_row, no_pitch_line, a_pitch_line, nearest_sound}
+use Rattle.plans.proofs.Lines.{nearest_sound}
 use Rattle.plans.proofs.lists.PitchListsTuningLists.line.Goals as goal
 use Rattle.plans.proofs.lists.PitchListsTuningLists.line.Goals.{In_ok-hz, In_ok-nearest}
 
