@@ -11,10 +11,10 @@ pub struct Bits(pub f64);
 impl fmt::Display for Bits {
     fn fmt<W: fmt::Write>(&self, f: &mut fmt::Formatter<W>) -> fmt::Result {
         let Bits(x) = *self;
-        if x == x {
-            write!(f, "{:016x}", x.to_bits())
-        } else {
+        if x.is_nan() {
             write!(f, "NaN")
+        } else {
+            write!(f, "{:016x}", x.to_bits())
         }
     }
 }
