@@ -4,7 +4,7 @@
 use arithmetic::note::{checked_midi_number, letter, num_semitones_before, octave, plus_semitones};
 use arithmetic::pitch::{Pitch, Ratio};
 use arithmetic::tuning::{detuning, find_by_pitch, pitch_of};
-use show::{Answer, Bits, OrDash};
+use show::{Answer, Bits, Or};
 use std::io;
 use std::io::{BufWriter, Write};
 
@@ -15,7 +15,7 @@ fn note(out: &mut impl Write, note: i32) -> io::Result<()> {
         "note {note}: {} {} {} {}",
         Answer(letter(note)),
         Answer(octave(note)),
-        Answer(checked_midi_number(note).map(OrDash)),
+        Answer(checked_midi_number(note).map(|number| Or(number, "-"))),
         Answer(pitch_of(note).map(Bits))
     )
 }

@@ -1,5 +1,5 @@
 -- A line that has begun, as more of it comes and at the end of the input. Assumes nothing.
-use Prim.Native.Nat.{ℕ, ◌+◌, ◌-◌, ◌≤◌, ◌<◌, min}
+use Prim.Native.Nat.{ℕ, ◌+◌, ◌<◌, min}
 use native.Mathlib.Omega.{arith}
 use mathlib.Core.Path.{◌≡◌, refl, sym, ◌∙◌, ap}
 use mathlib.Core.List.{List, [], ◌∷◌, ◌++◌, append-nil}
@@ -19,11 +19,7 @@ use Rattle.lines.specs.Session.{Session, clip, finish, finish_rule, line_ended}
 pub clip_more : (begun more : List ℕ) (room kept : ℕ) → room + length begun ≡ 65 → kept ≡ min room (length more)
     → begun ++ take kept more ≡ clip (begun ++ more)
 clip_more begun more room kept all is =
-    let sum : length begun + room ≡ 65 = omega arith in
-    ap (λ (k : ℕ). begun ++ take k more) is
-    ∙ ap (λ (l : List ℕ). begun ++ l) (take_min room more)
-    ∙ sym (take-append-add begun more room)
-    ∙ ap (λ (k : ℕ). take k (begun ++ more)) sum
+    let sum : length begun + room ≡ 65 = omega arith in rw (is, take_min room more, ← take-append-add begun more room, sum)
 
 -- an empty line is malformed
 next_none : (t : Tuner) → next t [] ≡ t

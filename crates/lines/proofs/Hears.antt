@@ -1,19 +1,18 @@
 -- A line answered, from what the tuner's call did and what was shown. Assumes nothing.
 use Prim.Native.Nat.{ℕ, ◌/◌, ◌≤◌, ◌<◌, min}
 use native.Mathlib.Omega.{arith}
-use mathlib.Core.Path.{◌≡◌, refl, sym, ◌∙◌, ap, subst}
+use mathlib.Core.Path.{◌≡◌, refl, sym, ◌∙◌, ap}
 use mathlib.Core.Bool.{Bool, true, false, not}
 use mathlib.Core.Option.{Option, some, none}
 use mathlib.Core.List.{List, [], ◌∷◌, ◌++◌}
-use lib.Dec.{leb}
+use lib.Dec.{leb, eqb}
 use lib.Ieee.{Float}
 use lib.ListN.{length, take, drop, length-append}
 use lib.Seq.{take_at, take-append-le}
-use borrow.Author.Tests.{le-leb, leb-false}
-use Rattle.std.specs.Prelude.{Some, None, Result, Ok, Err, unwrap_or}
+use borrow.Author.Tests.{le-leb}
+use Rattle.std.specs.Prelude.{Some, None, unwrap_or}
 use Rattle.std.specs.Prelude.{Option as Optional}
-use Rattle.std.specs.Result.{IsErrAnd}
-use Rattle.arithmetic.specs.Answers.{outcome}
+use Rattle.arithmetic.proofs.Outcomes.{no_value}
 use Rattle.arithmetic.specs.Refusal.{number}
 use Rattle.arithmetic.specs.declared.refusal.Refusal.{Refusal}
 use Rattle.arithmetic.specs.declared.refusal.Refusal.TheVariants.{PitchOutOfRange, NotMeasurable, DetuningOutOfRange, NoteOutOfRange, KeyTwice, ChannelOver15, ChannelTwice}
@@ -25,7 +24,6 @@ use Rattle.arithmetic.specs.Nearest.{nearest_note}
 use Rattle.channels.specs.Places.{Place, is_held}
 use Rattle.pools.specs.Pool.{State, Press, found, released, pressed, unless_held, register_rule, tuning, repitch_rule}
 use Rattle.senders.specs.Lent.{Effect, sends, sent, Answer, Steps, Answers}
-use Rattle.senders.specs.Answers.{press_answer}
 use Rattle.senders.specs.Answers.{pressed as told}
 use Rattle.senders.specs.Jit.{Tuner, with_pool, Pressed, sounds, rejects, press_effect, repitch_effect, note_on_rule, note_off_rule, note_pitch_rule}
 use Rattle.senders.specs.Message.{is_data}
@@ -41,14 +39,10 @@ use Rattle.lines.specs.Line.{number as digits_number}
 use Rattle.lines.specs.Show.{bytes_line, refusal_line}
 use Rattle.lines.specs.Console.{heard, keeping, pitch_of, event_rule, shown, after, answer, next, line_rule}
 use Rattle.lines.proofs.Shows.{shown_length}
+use Rattle.lines.proofs.Puts.{sent_all, sent_none}
 use Rattle.lines.specs.declared.line.Event.{Event as ParsedEvent}
 use Rattle.lines.specs.declared.line.Kind.{Kind}
 use Rattle.lines.specs.declared.line.Kind.TheVariants.{On, Off, Bend}
-
--- a refusal that is handed on
-pub handed_on : {A : Type 0} (r : Result A Refusal) (e : Refusal) → IsErrAnd r (λ d. d ≡ e) → outcome r ≡ refused (number e)
-handed_on (Ok x) e h = absurd h
-handed_on (Err d) e h = ap (λ (e : Refusal). refused (number e)) h
 
 -- ---- the calls in the words of `event_rule`
 
@@ -57,18 +51,13 @@ abbrev pub count : Pressed → ℕ
 count (sounds n) = n
 count rejects = 0
 
-unfoldable pub counted : Outcome Pressed → Outcome ℕ
+abbrev pub counted : Outcome Pressed → Outcome ℕ
 counted (value p) = value (count p)
 counted (refused n) = refused n
 
 pub counted_sent : (o : Optional ℕ) → value (unwrap_or o 0) ≡ counted (value (told o))
-unfolding counted
 counted_sent (Some n) = refl
 counted_sent None = refl
-
-pub counted_refused : (n : ℕ) → refused n ≡ counted (refused n)
-unfolding counted
-counted_refused n = refl
 
 pressed_counts : (t : Tuner) (key : ℕ) (hz : Float) (v : ℕ) → Counts count (note_on_rule t key hz v)
 pressed_counts t key hz v = press_counts count (λ n. refl) refl t key hz v
@@ -76,7 +65,7 @@ pressed_counts t key hz v = press_counts count (λ n. refl) refl t key hz v
 -- a press, by the bytes it sends
 press_heard : {T : Type 0} {view : T → Tuner} {t back : T} {old new : List ℕ} {a : Outcome Pressed} (rule : Outcome (Effect Pressed Tuner)) → Counts count rule
     → Steps view rule t old a back new → Steps view (heard rule) t old (counted a) back new
-unfolding heard counted
+unfolding heard
 press_heard {view = view} {t = t} {back = back} {old = old} {new = new} {a = a} (value e) n s = go (leb (length e.bytes) (length old)) refl
   where
     go : (b : Bool) → leb (length e.bytes) (length old) ≡ b → Steps view (sends e.bytes e.next) t old (counted a) back new
@@ -108,25 +97,17 @@ module _ {T : Type 0} {view : T → Tuner} (u : Tuner) {t : T} {old new : List �
   pub on_heard : {back : T} {hz : Float} {a : Outcome Pressed} {r : Outcome ℕ} → e.kind ≡ On → hz ≡ pitch_of e.millihertz
       → Steps view (note_on_rule u e.key hz e.velocity) t old a back new → r ≡ counted a → Steps view (event_rule u o) t old r back new
   unfolding event_rule
-  on_heard {back = back} {a = a} k h s q =
-      let p : Steps view (note_on_rule u e.key (pitch_of e.millihertz) e.velocity) t old a back new =
-      subst (λ (x : Float). Steps view (note_on_rule u e.key x e.velocity) t old a back new) h s in
-      subst (λ (x : Outcome ℕ). Steps view (event_rule u o) t old x back new) (sym q)
-      (subst (λ (x : Outcome Event). Steps view (event_rule u x) t old (counted a) back new) (sym (event_is w k))
-      (press_heard (note_on_rule u e.key (pitch_of e.millihertz) e.velocity) (pressed_counts u e.key (pitch_of e.millihertz) e.velocity) p))
+  on_heard {hz = hz} k h s q = rw (q, event_is w k, ← h) (press_heard (note_on_rule u e.key hz e.velocity) (pressed_counts u e.key hz e.velocity) s)
 
   pub off_heard : {back : T} {a : Outcome ℕ} → e.kind ≡ Off → Steps view (note_off_rule u e.key e.velocity) t old a back new
       → Steps view (event_rule u o) t old a back new
   unfolding event_rule
-  off_heard {back = back} {a = a} k s = subst (λ (x : Outcome Event). Steps view (event_rule u x) t old a back new) (sym (event_is w k)) s
+  off_heard k s = rw (event_is w k) s
 
   pub bend_heard : {hz : Float} {a : Outcome ℕ} → view t ≡ u → e.kind ≡ Bend → hz ≡ pitch_of e.millihertz
       → Answers (note_pitch_rule u e.key hz) old a new → Steps view (event_rule u o) t old a t new
   unfolding event_rule
-  bend_heard {a = a} v k h s =
-      let p : Answers (note_pitch_rule u e.key (pitch_of e.millihertz)) old a new = subst (λ (x : Float). Answers (note_pitch_rule u e.key x) old a new) h s in
-      subst (λ (x : Outcome Event). Steps view (event_rule u x) t old a t new) (sym (event_is w k))
-      (repitch_heard {view = view} {t = t} u (note_pitch_rule u e.key (pitch_of e.millihertz)) v (repitch_counts u e.key (pitch_of e.millihertz)) p)
+  bend_heard {hz = hz} v k h s = rw (event_is w k, ← h) (repitch_heard {view = view} {t = t} u (note_pitch_rule u e.key hz) v (repitch_counts u e.key hz) s)
 
 -- no event
 pub malformed_heard : {T : Type 0} {view : T → Tuner} (u : Tuner) {t : T} {old : List ℕ} {o : Outcome Event} {n : ℕ} {a : Outcome ℕ} → refused n ≡ o → a ≡ refused n
@@ -182,117 +163,90 @@ pub data Unsent (o : Outcome (Effect ℕ Tuner)) (room n : ℕ) : Type 0 where
   by_rule : o ≡ refused n → Unsent o room n
   by_room : (bs : List ℕ) (t : Tuner) → o ≡ sends bs t → length bs ≤ 18 → room < length bs → n ≡ 10 → Unsent o room n
 
-clash : {A B : Type 0} {n : ℕ} {b : B} → value b ≡ refused n → A
-clash e = let z : ◌≡◌ {A = ℕ} 0 1 = cc e in absurd (omega arith)
+module _ {T : Type 0} {view : T → Tuner} {o : Outcome (Effect ℕ Tuner)} {t back : T} {old new : List ℕ} {n : ℕ} where
+  pub sent_here : Effected o → Steps view o t old (value n) back new → SentHere o n (view back) new
+  sent_here (refusing k e) s = no_value n k (rw e at s.told_is)
+  sent_here (sending bs u e l) s =
+      let a = sent_all (rw e at s) in
+      let k : take n new ≡ bs = ap (take n) a.left_is ∙ take_at bs (drop (length bs) old) n (sym a.count_is) in
+      record { effect_is = rw (k, a.next_is) e; within = rw (a.left_is, length-append) (omega (arith, a.count_is)) }
 
-module _ {T : Type 0} {view : T → Tuner} {o : Outcome (Effect ℕ Tuner)} {t back : T} {old new : List ℕ} (x : Effected o) where
-  pub sent_some : {n : ℕ} → Steps view o t old (value n) back new → SentHere o n (view back) new
-  sent_some {n} s = go x
-    where
-      by : (bs : List ℕ) (u : Tuner) → o ≡ sends bs u → (b : Bool) → leb (length bs) (length old) ≡ b → SentHere o n (view back) new
-      by bs u e true h =
-          let v : value n ≡ value (length bs) = rw (e, h) at s.told_is in
-          let i : n ≡ length bs = cc v in
-          let m : view back ≡ u = rw (e, h) at s.moved_is in
-          let w : new ≡ bs ++ drop (length bs) old = rw (e, h) at s.left_is in
-          let k : take n new ≡ bs = ap (take n) w ∙ take_at bs (drop (length bs) old) n (sym i) in
-          record { effect_is = rw (k, m) e; within = rw (w, length-append) (omega arith) }
-      by bs u e false h = clash (rw (e, h) at s.told_is)
-
-      go : Effected o → SentHere o n (view back) new
-      go (refusing k e) = clash (rw e at s.told_is)
-      go (sending bs u e l) = by bs u e (leb (length bs) (length old)) refl
-
-  pub sent_none : {n : ℕ} → Steps view o t old (refused n) back new → Unsent o (length old) n × (back ≡ t)
-  sent_none {n} s = go x
-    where
-      by : (bs : List ℕ) (u : Tuner) → o ≡ sends bs u → length bs ≤ 18 → (b : Bool) → leb (length bs) (length old) ≡ b → Unsent o (length old) n × (back ≡ t)
-      by bs u e l true h = clash (sym (rw (e, h) at s.told_is))
-      by bs u e l false h =
-          let v : refused n ≡ refused 10 = rw (e, h) at s.told_is in
-          let i : n ≡ 10 = cc v in
-          (by_room bs u e l (leb-false (length bs) (length old) h) i, rw (e, h) at s.moved_is)
-
-      go : Effected o → Unsent o (length old) n × (back ≡ t)
-      go (refusing k e) =
-          let v : refused n ≡ refused k = rw e at s.told_is in
-          let i : k ≡ n = cc v in
-          (by_rule (e ∙ ap refused i), rw e at s.moved_is)
-      go (sending bs u e l) = by bs u e l (leb (length bs) (length old)) refl
+  pub unsent : Effected o → Steps view o t old (refused n) back new → Unsent o (length old) n × (back ≡ t)
+  unsent (refusing k e) s =
+      let v : refused n ≡ refused k = rw e at s.told_is in
+      let i : k ≡ n = cc v in
+      (by_rule (e ∙ ap refused i), rw e at s.moved_is)
+  unsent (sending bs u e l) s = let a = sent_none (rw e at s) in (by_room bs u e l a.short a.number_is, a.back_is)
 
 -- ---- no line's event is refused for want of room by its rule
 
-abbrev Roomy : {A : Type 0} → Outcome A → Type 0
-Roomy (value a) = Unit {0}
-Roomy (refused n) = n ≡ 10 → ⊥
+abbrev roomy : {A : Type 0} → Outcome A → Bool
+roomy (value a) = true
+roomy (refused n) = not (eqb n buffer_too_short)
 
-roomy_unless : {A : Type 0} (k : ℕ) (b : Bool) (o : Outcome A) → (k ≡ 10 → ⊥) → Roomy o → Roomy (refuse k unless b then o)
+roomy_unless : {A : Type 0} (k : ℕ) (b : Bool) (o : Outcome A) → not (eqb k buffer_too_short) ≡ true → roomy o ≡ true → roomy (refuse k unless b then o) ≡ true
 roomy_unless k true o h p = p
 roomy_unless k false o h p = h
 
-register_roomy : (s : State) (key : ℕ) (hz : Float) → Roomy (register_rule s key hz)
+register_roomy : (s : State) (key : ℕ) (hz : Float) → roomy (register_rule s key hz) ≡ true
 unfolding register_rule unless_held
 register_roomy s key hz =
     let note = nearest_note hz in
-    roomy_unless 1 (is_pitch hz) (unless_held s key note (detuning_of hz note)) (λ e. let z : ⊥ = omega arith in z)
-    (roomy_unless 11 (not (is_held (found s key))) (value (pressed s key note (detuning_of hz note))) (λ e. let z : ⊥ = omega arith in z) tt)
+    roomy_unless 1 (is_pitch hz) (unless_held s key note (detuning_of hz note)) refl
+    (roomy_unless 11 (not (is_held (found s key))) (value (pressed s key note (detuning_of hz note))) refl refl)
 
-repitch_roomy : (s : State) (key : ℕ) (hz : Float) → Roomy (repitch_rule s key hz)
+repitch_roomy : (s : State) (key : ℕ) (hz : Float) → roomy (repitch_rule s key hz) ≡ true
 unfolding repitch_rule
-repitch_roomy s key hz = roomy_unless 1 (is_pitch hz) (value (tuning hz (found s key))) (λ e. let z : ⊥ = omega arith in z) tt
+repitch_roomy s key hz = roomy_unless 1 (is_pitch hz) (value (tuning hz (found s key))) refl refl
 
-effect_roomy : (t : Tuner) (v : ℕ) (o : Outcome (Press × State)) → Roomy o → Roomy (press_effect t v o)
-effect_roomy t v (value r) p = tt
+effect_roomy : (t : Tuner) (v : ℕ) (o : Outcome (Press × State)) → roomy o ≡ true → roomy (press_effect t v o) ≡ true
+effect_roomy t v (value r) p = refl
 effect_roomy t v (refused n) p = p
 
-heard_roomy : {R : Type 0} (o : Outcome (Effect R Tuner)) → Roomy o → Roomy (heard o)
+heard_roomy : {R : Type 0} (o : Outcome (Effect R Tuner)) → roomy o ≡ true → roomy (heard o) ≡ true
 unfolding heard
-heard_roomy (value e) p = tt
+heard_roomy (value e) p = refl
 heard_roomy (refused n) p = p
 
-keeping_roomy : (t : Tuner) (o : Outcome (Option (Place × Float))) → Roomy o → Roomy (keeping t (repitch_effect t o))
+keeping_roomy : (t : Tuner) (o : Outcome (Option (Place × Float))) → roomy o ≡ true → roomy (keeping t (repitch_effect t o)) ≡ true
 unfolding keeping
-keeping_roomy t (value e) p = tt
+keeping_roomy t (value e) p = refl
 keeping_roomy t (refused n) p = p
 
-event_roomy : (t : Tuner) (o : Outcome Event) → Roomy o → Roomy (event_rule t o)
+event_roomy : (t : Tuner) (o : Outcome Event) → roomy o ≡ true → roomy (event_rule t o) ≡ true
 unfolding event_rule
 event_roomy t (value (event On key m v)) p =
     heard_roomy (note_on_rule t key (pitch_of m) v)
-    (roomy_unless 8 (is_data v) (press_effect t v (register_rule t.pool key (pitch_of m))) (λ e. let z : ⊥ = omega arith in z)
+    (roomy_unless 8 (is_data v) (press_effect t v (register_rule t.pool key (pitch_of m))) refl
     (effect_roomy t v (register_rule t.pool key (pitch_of m)) (register_roomy t.pool key (pitch_of m))))
 event_roomy t (value (event Off key m v)) p =
-    roomy_unless 8 (is_data v) (sends (bytes_of (key_messages Silent t.pool.channels v (found t.pool key))) (with_pool t (released t.pool key)))
-    (λ e. let z : ⊥ = omega arith in z) tt
+    roomy_unless 8 (is_data v) (sends (bytes_of (key_messages Silent t.pool.channels v (found t.pool key))) (with_pool t (released t.pool key))) refl refl
 event_roomy t (value (event Bend key m v)) p = keeping_roomy t (repitch_rule t.pool key (pitch_of m)) (repitch_roomy t.pool key (pitch_of m))
 event_roomy t (refused n) p = p
 
-thirteen : ◌≡◌ {A = ℕ} 13 10 → ⊥
-thirteen e = let z : ⊥ = omega arith in z
-
-four_roomy : (k : Option Kind) (a m v : Option ℕ) → Roomy (event_of k a m v)
+four_roomy : (k : Option Kind) (a m v : Option ℕ) → roomy (event_of k a m v) ≡ true
 unfolding event_of
-four_roomy none a m v = thirteen
-four_roomy (some k) none m v = thirteen
-four_roomy (some k) (some a) none v = thirteen
-four_roomy (some k) (some a) (some m) none = thirteen
-four_roomy (some k) (some a) (some m) (some v) = roomy_unless 13 (allowed k a m v) (value (event k a m v)) thirteen tt
+four_roomy none a m v = refl
+four_roomy (some k) none m v = refl
+four_roomy (some k) (some a) none v = refl
+four_roomy (some k) (some a) (some m) none = refl
+four_roomy (some k) (some a) (some m) (some v) = roomy_unless 13 (allowed k a m v) (value (event k a m v)) refl refl
 
-fields_roomy : (fs : List (List ℕ)) → Roomy (of_fields fs)
+fields_roomy : (fs : List (List ℕ)) → roomy (of_fields fs) ≡ true
 unfolding of_fields
-fields_roomy [] = thirteen
-fields_roomy (k ∷ []) = thirteen
-fields_roomy (k ∷ a ∷ []) = thirteen
-fields_roomy (k ∷ a ∷ m ∷ []) = thirteen
+fields_roomy [] = refl
+fields_roomy (k ∷ []) = refl
+fields_roomy (k ∷ a ∷ []) = refl
+fields_roomy (k ∷ a ∷ m ∷ []) = refl
 fields_roomy (k ∷ a ∷ m ∷ v ∷ []) = four_roomy (kind_of k) (digits_number 3 a) (digits_number 9 m) (digits_number 3 v)
-fields_roomy (k ∷ a ∷ m ∷ v ∷ f ∷ fs) = thirteen
+fields_roomy (k ∷ a ∷ m ∷ v ∷ f ∷ fs) = refl
 
-line_roomy : (line : List ℕ) → Roomy (meaning line)
+line_roomy : (line : List ℕ) → roomy (meaning line) ≡ true
 unfolding meaning
-line_roomy line = roomy_unless 13 (leb (length line) 64) (of_fields (split 44 line)) thirteen (fields_roomy (split 44 line))
+line_roomy line = roomy_unless 13 (leb (length line) 64) (of_fields (split 44 line)) refl (fields_roomy (split 44 line))
 
 not_short : (t : Tuner) (line : List ℕ) {n : ℕ} → event_rule t (meaning line) ≡ refused n → n ≡ 10 → ⊥
-not_short t line {n} e = subst Roomy e (event_roomy t (meaning line) (line_roomy line))
+not_short t line {n} e i = absurd (let z : true ≡ not (eqb 10 10) = sym (rw (e, i) at (event_roomy t (meaning line) (line_roomy line))) in cc z)
 
 -- 10 is the number of one refusal
 pub the_short : (r : Refusal) → number r ≡ 10 → r ≡ BufferTooShort

@@ -1,67 +1,32 @@
 -- Laws of the line's definitions. Assumes nothing.
-use Prim.Native.Nat.{ℕ, suc, ◌+◌, ◌*◌, ◌^◌, ◌-◌, ◌≤◌, ◌<◌}
-use native.Mathlib.Nat.{pow-suc, pow-le-pow_right, lt_of_lt_of_le, le_of_eq}
+use Prim.Native.Nat.{ℕ, ◌+◌, ◌*◌, ◌^◌, ◌≤◌, ◌<◌}
+use native.Mathlib.Nat.{pow-suc, pow-le-pow_right, lt_of_lt_of_le}
 use native.Mathlib.Numerals.{add-one}
 use native.Mathlib.Omega.{arith}
 use mathlib.Core.Path.{◌≡◌, refl, sym, ◌∙◌, ap}
 use mathlib.Core.Bool.{Bool, true, false, cond, and-false}
-use mathlib.Core.List.{List, [], ◌∷◌}
-use mathlib.Core.Option.{Option, some, none}
+use mathlib.Core.List.{List}
+use mathlib.Core.Option.{Option, some}
 use mathlib.Core.Logic.{◌⊎◌, inl, inr}
-use lib.ListN.{length, take, drop, get_or, drop_of_length-le, length-take}
+use lib.ListN.{length, take, length-take}
 use lib.Seq.{take_all}
-use lib.Dec.{eqb, leb, lit<}
-use borrow.Author.Tests.{eq-eqb, ne_eqb, eqb-true, eqb-false, le-leb, lt-leb, leb-true, leb-false}
+use lib.Dec.{lit<}
+use borrow.Author.Tests.{le-leb, lt-leb}
 use Rattle.channels.specs.Outcome.{value, refused}
-use Rattle.std.specs.Prelude.{Some, None, Result, Ok, Err, IfNone}
+use Rattle.std.specs.Prelude.{Some, None, Result, Ok, Err}
 use Rattle.std.specs.Bool.{then_some}
 use Rattle.std.specs.Result.{OkIff, result_ok}
-use Rattle.std.specs.Prelude.{Option as Optional}
-use Rattle.std.specs.Char.{is_ascii_digit}
-use Rattle.std.proofs.lemmas.List.{at_drop_more}
+use Rattle.std.proofs.lemmas.Bool.{cases_lt}
 use Rattle.lines.specs.Grammar.{digits, decimal, allowed, zeros}
-use Rattle.lines.specs.Line.{kind_of, number, event, event_of, of_fields, meaning}
-use Rattle.lines.specs.Split.{into, split}
+use Rattle.lines.specs.Line.{number, event, event_of, of_fields, meaning}
+use Rattle.lines.specs.Split.{split}
 use Rattle.lines.specs.Inner.{meant_by}
 use Rattle.lines.specs.declared.line.Kind.{Kind}
-use Rattle.lines.proofs.Splits.{into_none, split_sep, split_other}
-
--- what holds in any case holds of an answer that is none
-pub where_none : {A P : Type 0} (r : Optional A) → P → IfNone r P
-where_none None p = p
-where_none (Some x) p = tt
 
 -- a number needs 1 to `places` bytes, all digits
-pub number_none : (places : ℕ) (s : List ℕ) → length s ≡ 0 → number places s ≡ none
-unfolding number
-number_none places s h = rw h
-
-pub number_long : (places : ℕ) (s : List ℕ) → places < length s → number places s ≡ none
-unfolding number
-number_long places s h = simp (lt-leb _ _ h, and-false)
-
-pub number_other : (places : ℕ) (s : List ℕ) → digits s ≡ false → number places s ≡ none
-unfolding number
-number_other places s h = rw (h, and-false)
-
 pub number_some : (places : ℕ) (s : List ℕ) → 0 < length s → length s ≤ places → digits s ≡ true → number places s ≡ some (decimal 0 s)
 unfolding number
 number_some places s h l d = rw (le-leb 1 (length s) h, le-leb (length s) places l, d)
-
-module _ (s : List ℕ) (i : ℕ) (h : i < length s) where
-  -- the byte at i is no digit
-  pub digits_stop : is_ascii_digit (get_or s i 0) ≡ false → digits (drop i s) ≡ false
-  unfolding digits
-  digits_stop e = at_drop_more digits s i 0 h ∙ rw e
-
-  -- it is one
-  pub digits_more : is_ascii_digit (get_or s i 0) ≡ true → digits (drop i s) ≡ digits (drop (i + 1) s)
-  unfolding digits
-  digits_more e = at_drop_more digits s i 0 h ∙ rw e
-
-  pub decimal_more : (n : ℕ) → decimal n (drop i s) ≡ decimal (n * 10 + (get_or s i 0 - 48)) (drop (i + 1) s)
-  unfolding decimal
-  decimal_more n = at_drop_more (decimal n) s i 0 h
 
 -- i digits spell a number below 10 ^ i
 pub more_digits : (n i d : ℕ) → n < 10 ^ i → d ≤ 9 → n * 10 + d < 10 ^ (i + 1)
@@ -84,40 +49,12 @@ pub meaning_fields : (s : List ℕ) (fs : List (List ℕ)) → length s ≤ 64 �
 unfolding meaning
 meaning_fields s fs h e = rw (le-leb (length s) 64 h, e)
 
--- a short line of four fields
-pub meaning_four : (line k a m v : List ℕ) → length line ≤ 64 → split 44 line ≡ k ∷ a ∷ m ∷ v ∷ []
-    → meaning line ≡ event_of (kind_of k) (number 3 a) (number 9 m) (number 3 v)
-unfolding of_fields
-meaning_four line k a m v h e = meaning_fields line (k ∷ a ∷ m ∷ v ∷ []) h e
-
--- a field that can't be read
-unread_kind : (a m v : Option ℕ) → event_of none a m v ≡ refused 13
-unfolding event_of
-unread_kind a m v = refl
-
-unread_key : (k : Option Kind) (m v : Option ℕ) → event_of k none m v ≡ refused 13
-unfolding event_of
-unread_key none m v = refl
-unread_key (some k) m v = refl
-
-unread_pitch : (k : Option Kind) (a v : Option ℕ) → event_of k a none v ≡ refused 13
-unfolding event_of
-unread_pitch none a v = refl
-unread_pitch (some k) none v = refl
-unread_pitch (some k) (some a) v = refl
-
-unread_velocity : (k : Option Kind) (a m : Option ℕ) → event_of k a m none ≡ refused 13
-unfolding event_of
-unread_velocity none a m = refl
-unread_velocity (some k) none m = refl
-unread_velocity (some k) (some a) none = refl
-unread_velocity (some k) (some a) (some m) = refl
-
-pub unread : (k : Option Kind) (a m v : Option ℕ) → ((k ≡ none) ⊎ ((a ≡ none) ⊎ ((m ≡ none) ⊎ (v ≡ none)))) → event_of k a m v ≡ refused 13
-unread k a m v (inl e) = ap (λ (x : Option Kind). event_of x a m v) e ∙ unread_kind a m v
-unread k a m v (inr (inl e)) = ap (λ (x : Option ℕ). event_of k x m v) e ∙ unread_key k m v
-unread k a m v (inr (inr (inl e))) = ap (λ (x : Option ℕ). event_of k a x v) e ∙ unread_pitch k a v
-unread k a m v (inr (inr (inr e))) = ap (λ (x : Option ℕ). event_of k a m x) e ∙ unread_velocity k a m
+-- the meaning of a short line whose four fields can be read
+pub meaning_read : (line : List ℕ) {kind : Option Kind} {key millihertz velocity : Option ℕ} {k : Kind} {a m v : ℕ} → length line ≤ 64
+    → of_fields (split 44 line) ≡ event_of kind key millihertz velocity → some k ≡ kind → some a ≡ key → some m ≡ millihertz → some v ≡ velocity
+    → meaning line ≡ event_of (some k) (some a) (some m) (some v)
+unfolding meaning
+meaning_read line h four k a m v = rw (le-leb (length line) 64 h, four, ← k, ← a, ← m, ← v)
 
 -- a number that is to be a byte
 pub no_byte : {E : Type 0} (r : Result ℕ E) {n : ℕ} → OkIff r (n < 256) n → None ≡ result_ok r → 255 < n
@@ -146,12 +83,8 @@ module _ (k : Kind) (a m v : ℕ) where
 
 -- 65 bytes of a line decide what it means
 pub meaning_clip : (s : List ℕ) → meaning (take 65 s) ≡ meaning s
-meaning_clip s = go (leb (length s) 64) refl
-  where
-    go : (t : Bool) → leb (length s) 64 ≡ t → meaning (take 65 s) ≡ meaning s
-    go true e =
-        let h : length s ≤ 64 = leb-true (length s) 64 e in
-        ap meaning (take_all 65 s (omega arith))
-    go false e =
-        let h : 64 < length s = leb-false (length s) 64 e in
-        meaning_long (take 65 s) (omega (arith, length-take 65 s)) ∙ sym (meaning_long s h)
+meaning_clip s =
+    elim (cases_lt 64 (length s)) [
+      | inl h ↦ meaning_long (take 65 s) (omega (arith, length-take 65 s)) ∙ sym (meaning_long s h)
+      | inr h ↦ ap meaning (take_all 65 s (omega arith))
+    ]

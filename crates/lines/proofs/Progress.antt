@@ -1,19 +1,20 @@
 -- The loop of `step`: how far a piece has been taken, a line more, and the ways out. Assumes nothing.
 use Prim.Native.Nat.{ℕ, ◌+◌, ◌-◌, ◌≤◌, ◌<◌}
-use native.Mathlib.Nat.{zero-add, add-zero, sub-zero}
+use native.Mathlib.Nat.{zero-add, sub-zero}
 use native.Mathlib.Omega.{arith}
 use mathlib.Core.Path.{◌≡◌, refl, sym, ◌∙◌, ap, subst}
 use mathlib.Core.List.{List, [], ◌++◌, append_assoc, append-nil}
-use lib.ListN.{length, take, drop, get_or, length-append, length-drop, drop_of_length-le, take-append-drop}
+use lib.ListN.{length, take, drop, length-append, length-drop, take-append-drop}
 use lib.Seq.{drop-drop, take_at, drop_at}
 use borrow.Rule.Slice.PartMut.{put_mid}
-use Rattle.std.proofs.lemmas.List.{take_rest}
-use Rattle.senders.specs.Lent.{written}
+use Rattle.std.specs.Prelude.{Some, None}
+use Rattle.memchr.specs.Find.{IsFirstByte, is_byte}
+use Rattle.senders.proofs.Lent.{tail_back}
 use Rattle.lines.specs.Split.{feed}
 use Rattle.lines.specs.Console.{answer}
-use Rattle.lines.specs.Session.{Session, line_ended, Taken, nothing, step_rule, Stepped}
+use Rattle.lines.specs.Session.{Session, line_ended, nothing, step_rule, Stepped}
 use Rattle.lines.specs.Inner.{longer_by}
-use Rattle.lines.proofs.Puts.{SentAll, SentNone}
+use Rattle.lines.proofs.Puts.{SentAll}
 use Rattle.lines.proofs.Stepping.{behind, behind_behind, Small, no_feed, no_room, line_ends}
 
 -- `used` bytes of the piece are taken and w bytes written: what a call does is that, and then what it does with the rest
@@ -27,16 +28,13 @@ pub record Progress (s₀ : Session) (piece old : List ℕ) (s : Session) (used 
 
 pub starting : (s : Session) (piece out : List ℕ) → Progress s piece out s 0 0 out
 starting s piece out =
-    let r = step_rule (length out) s piece in
     record {
       output = [];
       within = omega arith;
       count_is = refl;
       room = omega arith;
       out_is = refl;
-      result =
-          ap (λ (k : ℕ). record { session = r.session; used = k; output = r.output }) (sym (zero-add r.used))
-          ∙ ap (λ (k : ℕ). behind 0 [] (step_rule k s piece)) (sym (sub-zero (length out)));
+      result = simp (sub-zero, zero-add);
     }
 
 module _ {s₀ s : Session} {piece old out : List ℕ} {used w : ℕ} (p : Progress s₀ piece old s used w out) where
@@ -44,45 +42,35 @@ module _ {s₀ s : Session} {piece old out : List ℕ} {used w : ℕ} (p : Progr
   closing : {s' t : Session} {end : ℕ} (k : ℕ) → step_rule (length old - w) s (drop used piece) ≡ behind k [] (nothing s') → t ≡ s' → end ≡ used + k
       → Stepped s₀ piece old out t (record { used = end; written = w })
   closing {s'} {t} {end} k e h i =
-      let o = p.output in
-      let all : step_rule (length old) s₀ piece ≡ record { session = s'; used = used + k; output = o } =
-      p.result
-      ∙ ap (behind used o) e
-      ∙ behind_behind used k o [] (nothing s')
-      ∙ ap (λ (j : ℕ). record { session = s'; used = j; output = (o ++ []) ++ [] }) (add-zero (used + k))
-      ∙ ap (λ (l : List ℕ). record { session = s'; used = used + k; output = l }) (append-nil (o ++ []) ∙ append-nil o) in
+      let all : step_rule (length old) s₀ piece ≡ behind used p.output (behind k [] (nothing s')) = p.result ∙ ap (behind used p.output) e in
       record {
-        session_is = h ∙ sym (ap (λ (r : Taken). r.session) all);
-        used_is = i ∙ sym (ap (λ (r : Taken). r.used) all);
-        written_is = p.count_is ∙ sym (ap (λ (r : Taken). length r.output) all);
-        left_is = p.out_is ∙ ap (λ (k : ℕ). o ++ drop k old) p.count_is ∙ sym (ap (λ (r : Taken). written r.output old) all);
+        session_is = rw all h;
+        used_is = rw all (omega arith);
+        written_is = rw (all, append-nil) p.count_is;
+        left_is = rw (all, append-nil, ← p.count_is) p.out_is;
       }
 
   -- no line ends in the rest
-  pub stopped : {t : Session} → Small s → ((k : ℕ) → k < length (drop used piece) → get_or (drop used piece) k 0 ≡ feed → ⊥) → t ≡ longer_by s (drop used piece)
+  pub stopped : {t : Session} → Small s → IsFirstByte (is_byte feed) (drop used piece) None → t ≡ longer_by s (drop used piece)
       → Stepped s₀ piece old out t (record { used = length piece; written = w })
   stopped small f h =
       closing (length (drop used piece)) (no_feed (length old - w) s (drop used piece) small f) h (omega (arith, length-drop used piece, p.within))
 
   -- one ends at place n of it, of which s' is what is kept
-  module _ {s' : Session} {n : ℕ} (small : Small s) (h : n < length (drop used piece)) (e : get_or (drop used piece) n 0 ≡ feed)
-      (f : (k : ℕ) → k < n → get_or (drop used piece) k 0 ≡ feed → ⊥) (is : s' ≡ longer_by s (take n (drop used piece))) where
+  module _ {s' : Session} {n : ℕ} (small : Small s) (first : IsFirstByte (is_byte feed) (drop used piece) (Some n))
+      (is : s' ≡ longer_by s (take n (drop used piece))) where
     -- there is no room for its answer
     pub held_up : {t : Session} {lent ys : List ℕ} {j : ℕ} → lent ≡ drop w out → j ≡ length out - w → length lent < length (answer s'.tuner s'.begun) → ys ≡ lent → t ≡ s'
         → Stepped s₀ piece old (put_mid w j out ys) t (record { used = used + n; written = w })
     held_up {t} {lent} {ys} {j} l i q y is' =
         subst (λ (m : List ℕ). Stepped s₀ piece old m t (record { used = used + n; written = w })) (sym same)
-        (closing n (no_room (length old - w) s s' (drop used piece) n small h e f is (omega (arith, ap length l, length-drop w out, size))) is' refl)
+        (closing n (no_room (length old - w) s s' (drop used piece) n small first is (omega (arith, ap length l, length-drop w out, size))) is' refl)
       where
         size : length out ≡ length old
         size = ap length p.out_is ∙ length-append p.output (drop w old) ∙ omega (arith, p.count_is, length-drop w old, p.room)
 
         same : put_mid w j out ys ≡ out
-        same =
-            ap (λ (m : List ℕ). take w out ++ (m ++ drop j (drop w out))) (y ∙ l)
-            ∙ ap (λ (m : List ℕ). take w out ++ (drop w out ++ m)) (drop_of_length-le (drop w out) (omega (arith, length-drop w out)))
-            ∙ ap (λ (m : List ℕ). take w out ++ m) (append-nil (drop w out))
-            ∙ take-append-drop w out
+        same = rw (i, y, l) (tail_back out (drop w out) w ∙ take-append-drop w out)
 
     -- it was answered
     pub answered : {t : Session} {lent ys : List ℕ} {k j : ℕ} → lent ≡ drop w out → j ≡ length out - w → SentAll (answer s'.tuner s'.begun) (line_ended s') t lent ys k
@@ -92,7 +80,6 @@ module _ {s₀ s : Session} {piece old out : List ℕ} {used w : ℕ} (p : Progr
         let text = answer s'.tuner s'.begun in
         let front : take w out ≡ o = ap (take w) p.out_is ∙ take_at o (drop w old) w (sym p.count_is) in
         let rest : drop w out ≡ drop w old = ap (drop w) p.out_is ∙ drop_at o (drop w old) w (sym p.count_is) in
-        let none : drop j (drop w out) ≡ [] = drop_of_length-le (drop w out) (omega (arith, length-drop w out)) in
         let over : ys ≡ text ++ drop (w + k) old =
         a.left_is ∙ ap (λ (m : List ℕ). text ++ drop (length text) m) (l ∙ rest) ∙ ap (λ (m : List ℕ). text ++ m) (drop-drop (length text) w old)
         ∙ ap (λ (m : ℕ). text ++ drop (w + m) old) (sym a.count_is) in
@@ -100,19 +87,11 @@ module _ {s₀ s : Session} {piece old out : List ℕ} {used w : ℕ} (p : Progr
         let left : length old - w - length text ≡ length old - (w + k) = omega (arith, a.count_is) in
         record {
           output = o ++ text;
-          within = omega (arith, h, length-drop used piece, p.within);
+          within = omega (arith, first.0.high, length-drop used piece, p.within);
           count_is = sym (length-append o text ∙ omega (arith, p.count_is, a.count_is));
           room = omega (arith, fits, a.count_is, p.room);
-          out_is =
-              ap (λ (m : List ℕ). m ++ (ys ++ drop j (drop w out))) front
-              ∙ ap (λ (m : List ℕ). o ++ (ys ++ m)) none
-              ∙ ap (λ (m : List ℕ). o ++ m) (append-nil ys ∙ over)
-              ∙ sym (append_assoc o text (drop (w + k) old));
+          out_is = rw (i, tail_back out ys w, front, over) (sym (append_assoc o text (drop (w + k) old)));
           result =
-              p.result
-              ∙ ap (behind used o) (line_ends (length old - w) s s' (drop used piece) n small h e f is fits)
-              ∙ behind_behind used (n + 1) o text (step_rule (length old - w - length text) (line_ended s') (drop (n + 1) (drop used piece)))
-              ∙ ap (λ (m : List ℕ). behind (used + (n + 1)) (o ++ text) (step_rule (length old - w - length text) (line_ended s') m)) (drop-drop (n + 1) used piece)
-              ∙ ap (λ (m : ℕ). behind (used + (n + 1)) (o ++ text) (step_rule m (line_ended s') (drop (used + (n + 1)) piece))) left
-              ∙ ap (λ (u : Session). behind (used + (n + 1)) (o ++ text) (step_rule (length old - (w + k)) u (drop (used + (n + 1)) piece))) (sym a.next_is);
+              rw (p.result, line_ends (length old - w) s s' (drop used piece) n small first is fits, left, drop-drop (n + 1) used piece, a.next_is)
+              (behind_behind used (n + 1) o text (step_rule (length old - (w + k)) (line_ended s') (drop (used + (n + 1)) piece)));
         }

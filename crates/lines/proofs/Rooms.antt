@@ -18,60 +18,42 @@ use Rattle.lines.specs.declared.step.Step.{Step}
 use Rattle.lines.proofs.Shows.{shown_length}
 use Rattle.lines.proofs.Hears.{Effected, sending, refusing, effected}
 
-refusal_room : (n : ℕ) → length (refusal_line n) ≤ 54
+refusal_size : (n : ℕ) → (2 ≤ length (refusal_line n)) × (length (refusal_line n) ≤ 54)
 unfolding refusal_line decimal_of
-refusal_room n = go (ltb n 10) (ltb n 100)
+refusal_size n = go (ltb n 10) (ltb n 100)
   where
-    go : (x y : Bool) → length (82 ∷ cond x ((48 + n) ∷ []) (cond y ((48 + n / 10) ∷ (48 + n % 10) ∷ [])
-        ((48 + n / 100) ∷ (48 + n / 10 % 10) ∷ (48 + n % 10) ∷ [])) ++ (10 ∷ [])) ≤ 54
-    go true y = omega arith
-    go false true = omega arith
-    go false false = omega arith
+    text : Bool → Bool → List ℕ
+    text x y = 82 ∷ cond x ((48 + n) ∷ []) (cond y ((48 + n / 10) ∷ (48 + n % 10) ∷ []) ((48 + n / 100) ∷ (48 + n / 10 % 10) ∷ (48 + n % 10) ∷ [])) ++ (10 ∷ [])
 
-bytes_room : (bs : List ℕ) → length bs ≤ 18 → length (bytes_line bs) ≤ 54
+    go : (x y : Bool) → (2 ≤ length (text x y)) × (length (text x y) ≤ 54)
+    go true y = (omega arith, omega arith)
+    go false true = (omega arith, omega arith)
+    go false false = (omega arith, omega arith)
+
+-- three for each byte that is shown, and two for none
+bytes_size : (bs : List ℕ) (room : ℕ) → 2 ≤ room → 3 * length bs ≤ room → (2 ≤ length (bytes_line bs)) × (length (bytes_line bs) ≤ room)
 unfolding bytes_line
-bytes_room [] h = omega arith
-bytes_room (b ∷ bs) h = omega (arith, shown_length (b ∷ bs) (omega arith))
+bytes_size [] room h k = (omega arith, omega arith)
+bytes_size (b ∷ bs) room h k = let l = shown_length (b ∷ bs) (omega arith) in (omega arith, omega arith)
 
-shown_room : (o : Outcome (Effect ℕ Tuner)) → Effected o → length (shown o) ≤ 54
-unfolding shown
-shown_room o (sending bs t e h) = rw e (bytes_room bs h)
-shown_room o (refusing n e) = rw e (refusal_room n)
-
-pub answer_room : (t : Tuner) (line : List ℕ) → length (answer t line) ≤ 54
-unfolding answer
-answer_room t line = shown_room (event_rule t (meaning line)) (effected t (meaning line))
-
--- no answer has fewer than two
-refusal_least : (n : ℕ) → 2 ≤ length (refusal_line n)
-unfolding refusal_line decimal_of
-refusal_least n = go (ltb n 10) (ltb n 100)
-  where
-    go : (x y : Bool) → 2 ≤ length (82 ∷ cond x ((48 + n) ∷ []) (cond y ((48 + n / 10) ∷ (48 + n % 10) ∷ [])
-        ((48 + n / 100) ∷ (48 + n / 10 % 10) ∷ (48 + n % 10) ∷ [])) ++ (10 ∷ []))
-    go true y = omega arith
-    go false true = omega arith
-    go false false = omega arith
-
--- three for each byte that is shown
 pub bytes_fit : (bs : List ℕ) (room : ℕ) → 2 ≤ room → 3 * length bs ≤ room → length (bytes_line bs) ≤ room
-unfolding bytes_line
-bytes_fit [] room h k = omega arith
-bytes_fit (b ∷ bs) room h k = omega (arith, shown_length (b ∷ bs) (omega arith))
+bytes_fit bs room h k = (bytes_size bs room h k).1
 
-bytes_least : (bs : List ℕ) → 2 ≤ length (bytes_line bs)
-unfolding bytes_line
-bytes_least [] = omega arith
-bytes_least (b ∷ bs) = omega (arith, shown_length (b ∷ bs) (omega arith))
-
-shown_least : (o : Outcome (Effect ℕ Tuner)) → Effected o → 2 ≤ length (shown o)
+shown_size : (o : Outcome (Effect ℕ Tuner)) → Effected o → (2 ≤ length (shown o)) × (length (shown o) ≤ 54)
 unfolding shown
-shown_least o (sending bs t e h) = rw e (bytes_least bs)
-shown_least o (refusing n e) = rw e (refusal_least n)
+shown_size o (sending bs t e h) = rw e (bytes_size bs 54 (omega arith) (omega arith))
+shown_size o (refusing n e) = rw e (refusal_size n)
 
-pub answer_least : (t : Tuner) (line : List ℕ) → 2 ≤ length (answer t line)
-unfolding answer
-answer_least t line = shown_least (event_rule t (meaning line)) (effected t (meaning line))
+module _ (t : Tuner) (line : List ℕ) where
+  answer_size : (2 ≤ length (answer t line)) × (length (answer t line) ≤ 54)
+  unfolding answer
+  answer_size = shown_size (event_rule t (meaning line)) (effected t (meaning line))
+
+  pub answer_least : 2 ≤ length (answer t line)
+  answer_least = answer_size.0
+
+  pub answer_room : length (answer t line) ≤ 54
+  answer_room = answer_size.1
 
 text_room : (s : Session) (b : ℕ) → length (text s b) ≤ 54
 unfolding text

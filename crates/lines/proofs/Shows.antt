@@ -1,9 +1,9 @@
 -- Laws of the answer lines. Assumes nothing.
 use Prim.Native.Nat.{ℕ, suc, ◌+◌, ◌-◌, ◌*◌, ◌/◌, ◌%◌, ◌≤◌, ◌<◌}
 use native.Mathlib.Omega.{arith}
-use mathlib.Core.Path.{◌≡◌, refl, sym, ◌∙◌, ap}
-use mathlib.Core.List.{List, [], ◌∷◌, ◌++◌, append_assoc, append-nil}
-use lib.ListN.{length, take, drop, get_or, set, length-append}
+use mathlib.Core.Path.{◌≡◌, refl, ◌∙◌, ap}
+use mathlib.Core.List.{List, [], ◌∷◌, ◌++◌, append_assoc}
+use lib.ListN.{length, take, drop, get_or, set}
 use lib.Seq.{take_at, drop_at, drop-drop, length-take-le, take-length}
 use lib.Dec.{lit<}
 use borrow.Author.Tests.{lt-ltb, le-ltb}
@@ -74,20 +74,9 @@ spaced_more {bs} {old} {out} {i} {end} k r h three =
     let more = spaced (get_or bs i 0 ∷ []) in
     let size : length front ≡ end = length-spaced (take i bs) ∙ omega (arith, length-take-le i bs (omega arith)) in
     let before : take end out ≡ front = ap (take end) r.out_is ∙ take_at front (drop end old) end size in
-    let behind : drop k (drop end out) ≡ drop (end + 3) old =
-    ap (λ (l : List ℕ). drop k (drop end l)) r.out_is
-    ∙ ap (drop k) (drop_at front (drop end old) end size)
-    ∙ drop-drop k end old
-    ∙ ap (λ (j : ℕ). drop (end + j) old) three in
+    let behind : drop k (drop end out) ≡ drop (end + 3) old = rw (r.out_is, drop_at front (drop end old) end size, drop-drop k end old, three) in
     let all : spaced (take (i + 1) bs) ≡ front ++ more = ap spaced (take_more bs i 0 h) ∙ spaced-append (take i bs) (get_or bs i 0 ∷ []) in
-    record {
-      end_is = omega arith;
-      out_is =
-          ap (λ (l : List ℕ). l ++ (more ++ drop k (drop end out))) before
-          ∙ ap (λ (l : List ℕ). front ++ (more ++ l)) behind
-          ∙ sym (append_assoc front more (drop (end + 3) old))
-          ∙ ap (λ (l : List ℕ). l ++ drop (end + 3) old) (sym all);
-    }
+    record { end_is = omega arith; out_is = rw (before, behind, all, append_assoc front more (drop (end + 3) old)) }
 
 -- the feed in the place of the last space
 pub spaced_end : (bs rest : List ℕ) → 0 < length bs → set (spaced bs ++ rest) (3 * length bs - 1) 10 ≡ bytes_line bs ++ rest

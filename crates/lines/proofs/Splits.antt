@@ -1,13 +1,18 @@
 -- Laws of `split`. Assumes nothing.
 use Prim.Native.Nat.{ℕ}
-use mathlib.Core.Path.{◌≡◌, refl, sym, ◌∙◌, ap, subst}
+use mathlib.Core.Path.{◌≡◌, refl, sym, ◌∙◌, ap}
 use mathlib.Core.Bool.{Bool, true, false, cond}
 use mathlib.Core.List.{List, [], ◌∷◌, ◌++◌, append_assoc, append-nil}
 use lib.Dec.{eqb}
+use denote.Ref.{Bor}
+use denote.Param.Members.{Mut}
 use borrow.Author.Tests.{eq-eqb, ne_eqb}
 use Rattle.std.specs.Prelude.{Option, Some, None}
 use Rattle.std.specs.List.{slice_split, onto_first}
+use Rattle.std.specs.Fn.{CalledAt}
+use Rattle.std.specs.Slice.Iter as slice
 use Rattle.std.proofs.lemmas.Iterator.{YieldsList}
+use Rattle.std.proofs.lemmas.Iterator.Splits.{YieldsList-from_slice_split}
 use Rattle.lines.specs.Split.{into, split}
 
 pub into_into : (p q : List ℕ) (x : List (List ℕ)) → into (p ++ q) x ≡ into p (into q x)
@@ -47,19 +52,39 @@ parts_are sep (b ∷ s) =
     go false [] = refl
     go false (f ∷ fs) = refl
 
--- ---- calls of `next`, of an iterator that yields a list
+-- ---- calls of `next`, of an iterator that yields a list: `front` is what it has given of it
 
-pub onwards : {B : Type 0} {y : B} {ys zs ws : List B} → ys ≡ y ∷ zs → zs ≡ ws → ys ≡ y ∷ ws
-onwards {y = y} e f = e ∙ ap (λ (l : List _). y ∷ l) f
+pub record Gave {S A B : Type 0} (steps : S → Option A → S → Type 0) (v : A → B) (all front : List B) (s : S) : Type 0 where
+  pub rest : List B
+  pub all_is : all ≡ front ++ rest
+  pub yields : YieldsList steps v s rest
 
-module _ {S A B : Type 0} {steps : S → Option A → S → Type 0} {v : A → B} {s : S} {r : Option A} where
-  pub next_some : {ys : List B} {x : A} {t : S} → steps s r t → r ≡ Some x → YieldsList steps v s ys
-      → (zs : List B) × (ys ≡ v x ∷ zs) × YieldsList steps v t zs
-  next_some {ys = []} {x = x} {t = t} n e y = absurd (y.runs x t (subst (λ (o : Option A). steps s o t) e n))
-  next_some {ys = z ∷ zs} {x = x} {t = t} n e y =
-      let h = y.runs.1 x t (subst (λ (o : Option A). steps s o t) e n) in
-      (zs, ap (λ (w : B). w ∷ zs) (sym h.0), record { runs = h.1 })
+module _ {S A B : Type 0} {steps : S → Option A → S → Type 0} {v : A → B} {all front : List B} {s t : S} {r : Option A} where
+  -- one part more
+  pub gave_some : {x : A} → Gave steps v all front s → steps s r t → r ≡ Some x → Gave steps v all (front ++ (v x ∷ [])) t
+  gave_some {x} g n e = go g.rest g.all_is g.yields
+    where
+      go : (ys : List B) → all ≡ front ++ ys → YieldsList steps v s ys → Gave steps v all (front ++ (v x ∷ [])) t
+      go [] i y = absurd (y.runs x t (rw e at n))
+      go (z ∷ zs) i y =
+          let h = y.runs.1 x t (rw e at n) in
+          record { rest = zs; all_is = i ∙ ap (λ (w : B). front ++ (w ∷ zs)) (sym h.0) ∙ sym (append_assoc front (v x ∷ []) zs); yields = record { runs = h.1 } }
 
-  pub next_none : {ys : List B} (t : S) → steps s r t → r ≡ None → YieldsList steps v s ys → ys ≡ []
-  next_none {ys = []} t n e y = refl
-  next_none {ys = z ∷ zs} t n e y = absurd (y.runs.0 t (subst (λ (o : Option A). steps s o t) e n))
+  -- no more
+  pub gave_all : Gave steps v all front s → steps s r t → r ≡ None → all ≡ front
+  gave_all g n e = go g.rest g.all_is g.yields
+    where
+      go : (ys : List B) → all ≡ front ++ ys → YieldsList steps v s ys → all ≡ front
+      go [] i y = i ∙ append-nil front
+      go (z ∷ zs) i y = absurd (y.runs.0 t (rw e at n))
+
+-- the library's `split`, before the first
+pub gave_none : {F : Type 0} {s : _} (g : Mut F (Bor ℕ × Unit {0}) Bool) (sep : ℕ) {f : F} (xs : List ℕ) → slice.split_rest s ≡ xs → slice.split_done s ≡ false
+    → slice.split_callee s ≡ f → ((x : ℕ) (b : Bool) (q : F) → CalledAt g f x b q → (q ≡ f) × (b ≡ eqb x sep))
+    → Gave (slice.split_steps g) (λ x. x.now) (split sep xs) [] s
+gave_none g sep xs rest more is closure =
+    record {
+      rest = split sep xs;
+      all_is = refl;
+      yields = rw (← parts_are sep xs) (YieldsList-from_slice_split g (λ x. eqb x sep) xs rest more is closure);
+    }

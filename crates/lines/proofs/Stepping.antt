@@ -7,7 +7,12 @@ use mathlib.Core.List.{List, [], ◌∷◌, ◌++◌, append_assoc, append-nil}
 use lib.ListN.{length, take, drop, get_or, length-take}
 use lib.Seq.{take_all, take-length, drop-length}
 use Rattle.std.proofs.lemmas.List.{drop_more}
-use borrow.Author.Tests.{le-leb, lt-leb, eq-eqb, ne_eqb}
+use borrow.Author.Tests.{le-leb, lt-leb}
+use lib.Dec.{eqb}
+use mathlib.Core.Bool.{true}
+use Rattle.std.specs.Prelude.{Some, None}
+use Rattle.std.proofs.lemmas.Bool.{false_from_ne_true}
+use Rattle.memchr.specs.Find.{IsFirstByte, Nowhere, Passes, is_byte}
 use Rattle.lines.specs.Split.{feed}
 use Rattle.lines.specs.Console.{answer}
 use Rattle.lines.specs.Session.{Session, clip, then, text, line_ended, Taken, nothing, byte_then, step_rule}
@@ -41,69 +46,58 @@ longer_longer s b l =
     ap (λ (x : List ℕ). record { tuner = s.tuner; begun = x }) (clip_append (s.begun ++ (b ∷ [])) l ∙ ap clip (append_assoc s.begun (b ∷ []) l))
 
 -- a byte that is no feed
-other_byte : (room : ℕ) (s : Session) (b : ℕ) (bs : List ℕ) → (b ≡ feed → ⊥) → step_rule room s (b ∷ bs) ≡ behind 1 [] (step_rule room (longer_by s (b ∷ [])) bs)
+other_byte : (room : ℕ) (s : Session) (b : ℕ) (bs : List ℕ) → (eqb b feed ≡ true → ⊥) → step_rule room s (b ∷ bs) ≡ behind 1 [] (step_rule room (longer_by s (b ∷ [])) bs)
 unfolding step_rule text then
-other_byte room s b bs n = rw (ne_eqb b feed n, le-leb 0 room (omega arith), sub-zero) (byte_behind [] (step_rule room (longer_by s (b ∷ [])) bs))
+other_byte room s b bs n = rw (false_from_ne_true (eqb b feed) n, le-leb 0 room (omega arith), sub-zero) (byte_behind [] (step_rule room (longer_by s (b ∷ [])) bs))
 
 -- bytes before the first feed
-pub before_feed : (room : ℕ) (s : Session) (n : ℕ) (l : List ℕ) → Small s → n ≤ length l → ((k : ℕ) → k < n → get_or l k 0 ≡ feed → ⊥)
+pub before_feed : (room : ℕ) (s : Session) (n : ℕ) (l : List ℕ) → Small s → n ≤ length l → Nowhere (Passes (is_byte feed) l) 0 n
     → step_rule room s l ≡ behind n [] (step_rule room (longer_by s (take n l)) (drop n l))
-before_feed room s zero l m h f =
-    ap (λ (x : Session). step_rule room x l) (sym (longer_none s m))
-    ∙ ap (λ (k : ℕ). record { session = (step_rule room (longer_by s []) l).session; used = k; output = (step_rule room (longer_by s []) l).output }) (sym (zero-add (step_rule room (longer_by s []) l).used))
+before_feed room s zero l m h f = rw (longer_none s m, zero-add)
 before_feed room s (suc n) [] m h f = absurd (omega arith)
 before_feed room s (suc n) (b ∷ l) m h f =
     let s' = longer_by s (b ∷ []) in
     let r = step_rule room (longer_by s (b ∷ take n l)) (drop n l) in
     let one : 1 + n ≡ suc n = omega arith in
-    other_byte room s b l (f 0 (omega arith))
-    ∙ ap (behind 1 []) (before_feed room s' n l (longer_small s (b ∷ [])) (omega arith) (λ k i. f (suc k) (omega arith)))
-    ∙ ap (λ (x : Session). behind 1 [] (behind n [] (step_rule room x (drop n l)))) (longer_longer s b (take n l))
-    ∙ behind_behind 1 n [] [] r
-    ∙ ap (λ (k : ℕ). behind k [] r) one
+    let later = before_feed room s' n l (longer_small s (b ∷ [])) (omega arith) (λ k i j. f (suc k) (omega arith) (omega arith)) in
+    rw (other_byte room s b l (f 0 (omega arith) (omega arith)), later, longer_longer s b (take n l))
+    (behind_behind 1 n [] [] r ∙ ap (λ (k : ℕ). behind k [] r) one)
 
 -- a feed, with room for the answer and without
-pub feed_byte : (room : ℕ) (s : Session) (b : ℕ) (bs : List ℕ) → b ≡ feed → length (answer s.tuner s.begun) ≤ room
+pub feed_byte : (room : ℕ) (s : Session) (b : ℕ) (bs : List ℕ) → eqb b feed ≡ true → length (answer s.tuner s.begun) ≤ room
     → step_rule room s (b ∷ bs)
     ≡ behind 1 (answer s.tuner s.begun) (step_rule (room - length (answer s.tuner s.begun)) (line_ended s) bs)
 unfolding step_rule text then
 feed_byte room s b bs e h =
-    rw (eq-eqb b feed e, le-leb (length (answer s.tuner s.begun)) room h)
+    rw (e, le-leb (length (answer s.tuner s.begun)) room h)
     (byte_behind (answer s.tuner s.begun) (step_rule (room - length (answer s.tuner s.begun)) (line_ended s) bs))
 
-pub no_room_byte : (room : ℕ) (s : Session) (b : ℕ) (bs : List ℕ) → b ≡ feed → room < length (answer s.tuner s.begun) → step_rule room s (b ∷ bs) ≡ nothing s
+pub no_room_byte : (room : ℕ) (s : Session) (b : ℕ) (bs : List ℕ) → eqb b feed ≡ true → room < length (answer s.tuner s.begun) → step_rule room s (b ∷ bs) ≡ nothing s
 unfolding step_rule text then
-no_room_byte room s b bs e h = rw (eq-eqb b feed e, lt-leb (length (answer s.tuner s.begun)) room h)
+no_room_byte room s b bs e h = rw (e, lt-leb (length (answer s.tuner s.begun)) room h)
 
 -- ---- a piece by the place of its first feed
 
 -- no line ends in the piece
-pub no_feed : (room : ℕ) (s : Session) (l : List ℕ) → Small s → ((k : ℕ) → k < length l → get_or l k 0 ≡ feed → ⊥)
+pub no_feed : (room : ℕ) (s : Session) (l : List ℕ) → Small s → IsFirstByte (is_byte feed) l None
     → step_rule room s l ≡ behind (length l) [] (nothing (longer_by s l))
 unfolding step_rule
-no_feed room s l m f =
-    before_feed room s (length l) l m (omega arith) f
-    ∙ ap (λ (x : List ℕ). behind (length l) [] (step_rule room (longer_by s x) (drop (length l) l))) (take-length l)
-    ∙ ap (λ (x : List ℕ). behind (length l) [] (step_rule room (longer_by s l) x)) (drop-length l)
+no_feed room s l m f = rw (before_feed room s (length l) l m (omega arith) f, take-length l, drop-length l)
 
 -- one ends at the feed, of which s' is what is kept
-module _ (room : ℕ) (s s' : Session) (l : List ℕ) (n : ℕ) (m : Small s) (h : n < length l) (e : get_or l n 0 ≡ feed)
-    (f : (k : ℕ) → k < n → get_or l k 0 ≡ feed → ⊥) (is : s' ≡ longer_by s (take n l)) where
+module _ (room : ℕ) (s s' : Session) (l : List ℕ) (n : ℕ) (m : Small s) (first : IsFirstByte (is_byte feed) l (Some n))
+    (is : s' ≡ longer_by s (take n l)) where
   up_to_feed : step_rule room s l ≡ behind n [] (step_rule room s' (get_or l n 0 ∷ drop (n + 1) l))
-  up_to_feed =
-      before_feed room s n l m (omega arith) f
-      ∙ ap (λ (x : Session). behind n [] (step_rule room x (drop n l))) (sym is)
-      ∙ ap (λ (x : List ℕ). behind n [] (step_rule room s' x)) (drop_more l n 0 h)
+  up_to_feed = rw (before_feed room s n l m (omega (arith, first.0.high)) first.0.before, is, drop_more l n 0 first.0.high)
 
   -- there is no room for its answer
   pub no_room : room < length (answer s'.tuner s'.begun) → step_rule room s l ≡ behind n [] (nothing s')
-  no_room q = up_to_feed ∙ ap (behind n []) (no_room_byte room s' (get_or l n 0) (drop (n + 1) l) e q)
+  no_room q = up_to_feed ∙ ap (behind n []) (no_room_byte room s' (get_or l n 0) (drop (n + 1) l) first.1 q)
 
   -- it is answered
   pub line_ends : length (answer s'.tuner s'.begun) ≤ room
       → step_rule room s l ≡ behind (n + 1) (answer s'.tuner s'.begun) (step_rule (room - length (answer s'.tuner s'.begun)) (line_ended s') (drop (n + 1) l))
   line_ends q =
       let a = answer s'.tuner s'.begun in
-      up_to_feed
-      ∙ ap (behind n []) (feed_byte room s' (get_or l n 0) (drop (n + 1) l) e q)
-      ∙ behind_behind n 1 [] a (step_rule (room - length a) (line_ended s') (drop (n + 1) l))
+      rw (up_to_feed, feed_byte room s' (get_or l n 0) (drop (n + 1) l) first.1 q)
+      (behind_behind n 1 [] a (step_rule (room - length a) (line_ended s') (drop (n + 1) l)))

@@ -39,7 +39,7 @@ of_fields (k ∷ a ∷ m ∷ []) = refused line_malformed
 of_fields (k ∷ a ∷ m ∷ v ∷ []) = event_of (kind_of k) (number 3 a) (number 9 m) (number 3 v)
 of_fields (k ∷ a ∷ m ∷ v ∷ f ∷ fs) = refused line_malformed
 
--- the meaning of a line: at most 64 bytes, its fields parted by commas
+-- the meaning of a line: at most 64 bytes, its fields separated by commas
 unfoldable pub meaning : List ℕ → Outcome Event
 meaning line = refuse line_malformed unless leb (length line) 64 then of_fields (split comma line)
 

@@ -1,4 +1,4 @@
--- The answer lines, each with its line feed: bytes in upper-case hexadecimal parted by a space; `-` for none; `R` and the number joined, as `R13`, for a
+-- The answer lines, each with its line feed: bytes in upper-case hexadecimal separated by a space; `-` for none; `R` and the number joined, as `R13`, for a
 -- refusal. Assumes nothing.
 use Rattle.std.specs.Prelude.{ℕ, ◌+◌, ◌-◌, ◌/◌, ◌%◌, cond, List, [], ◌∷◌, ◌++◌, ltb}
 use Rattle.lines.specs.Split.{feed}

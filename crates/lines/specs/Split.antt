@@ -1,4 +1,4 @@
--- Lists of bytes parted by a separator: a line into its fields, the input into its lines. Assumes nothing.
+-- Lists of bytes separated by a separator: a line into its fields, the input into its lines. Assumes nothing.
 use Rattle.std.specs.Prelude.{ℕ, cond, List, [], ◌∷◌, ◌++◌, eqb}
 
 abbrev pub comma : ℕ

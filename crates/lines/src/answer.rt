@@ -21,6 +21,7 @@ const MOST_BYTES: usize = 18;
 const LEAST_ANSWER: usize = 2;
 
 // The tuner of the console: fine tuning, channels 0 and 1, Stop.
+#[tactic(auto, unfolding(crate::specs::Console::opened))]
 pub fn opened() -> JitTuner
     ensures { view result ≡ opened }
 {
@@ -40,12 +41,8 @@ pub fn answer(tuner: &mut JitTuner, line: &[u8], out: &mut [u8]) -> Result<usize
     let mut bytes = [0; MOST_BYTES];
     match hear(tuner, line, &mut bytes[..room]) {
         Ok(sent) => show_bytes(&bytes[..sent], out),
-        Err(refusal) => {
-            if refusal == Refusal::BufferTooShort {
-                return Err(refusal);
-            }
-            show_refusal(refusal, out)
-        }
+        Err(Refusal::BufferTooShort) => Err(Refusal::BufferTooShort),
+        Err(refusal) => show_refusal(refusal, out),
     }
 }
 

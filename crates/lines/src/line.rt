@@ -5,7 +5,7 @@ ghost use Rattle.arithmetic.specs.Answers.{optional, outcome_by};
 ghost use Rattle.arithmetic.specs.Outcome.{refused};
 ghost use Rattle.arithmetic.specs.Refusal.{line_malformed};
 ghost use Rattle.lines.specs.Split.{comma, split};
-ghost use Rattle.lines.specs.Line.{meaning, meant, kind_of, number, of_fields};
+ghost use Rattle.lines.specs.Line.{meaning, meant, kind_of, number, event_of, of_fields};
 ghost use Rattle.lines.specs.Inner.{meant_by};
 
 use channels::Refusal;
@@ -34,7 +34,7 @@ pub struct Event {
     pub velocity: u8,
 }
 
-// What a line means, which is given without its feed. Refuses 13 every line that does not have the four fields, parted by commas.
+// What a line means, which is given without its feed. Refuses 13 every line that does not have the four fields, separated by commas.
 pub fn parse(line: &[u8]) -> Result<Event, Refusal>
     ensures { outcome_by meant result ≡ meaning line.now }
 {
@@ -42,6 +42,7 @@ pub fn parse(line: &[u8]) -> Result<Event, Refusal>
 }
 
 // The event of a line that has one.
+#[tactic(auto, unfolding(crate::specs::Line::meaning, crate::specs::Line::event_of))]
 fn event_of(line: &[u8]) -> Option<Event>
     ensures { meant_by result ≡ meaning line.now }
 {
@@ -69,7 +70,7 @@ fn event_of(line: &[u8]) -> Option<Event>
 
 // The four fields of a line that has four.
 fn fields(line: &[u8]) -> Option<(&[u8], &[u8], &[u8], &[u8])>
-    ensures four { IfSome result (λ f. split comma line.now ≡ f.0.now ∷ f.1.now ∷ f.2.now ∷ f.3.now ∷ []) }
+    ensures four { IfSome result (λ f. of_fields (split comma line.now) ≡ event_of (kind_of f.0.now) (number 3 f.1.now) (number 9 f.2.now) (number 3 f.3.now)) }
     ensures others { IfNone result (of_fields (split comma line.now) ≡ refused line_malformed) }
 {
     let mut fields = line.split(|&byte| byte == b',');
@@ -87,6 +88,7 @@ fn fields(line: &[u8]) -> Option<(&[u8], &[u8], &[u8], &[u8])>
 
 impl Kind {
     // The kind that a field names.
+    #[tactic(auto, unfolding(crate::specs::Line::kind_of, crate::specs::Grammar::word))]
     fn named(field: &[u8]) -> Option<Kind>
         ensures { optional result ≡ kind_of field.now }
     {
@@ -103,6 +105,7 @@ impl Kind {
 }
 
 // The number that 1 to `places` digits spell.
+#[tactic(auto, unfolding(crate::specs::Line::number))]
 fn number(field: &[u8], places: usize) -> Option<u32>
     requires { places ≤ 9 }
     ensures { optional result ≡ number places field.now }

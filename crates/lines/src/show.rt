@@ -8,7 +8,7 @@ ghost use Rattle.lines.specs.Show.{bytes_line, refusal_line, hex_digit};
 
 use channels::Refusal;
 
-// The line of bytes that are sent, each shown by two digits and what parts it from the next, or the feed. Refuses 10.
+// The line of bytes that are sent, each shown by two digits and what separates it from the next, or the feed. Refuses 10.
 pub(crate) fn show_bytes(bytes: &[u8], out: &mut [u8]) -> Result<usize, Refusal>
     ensures { Answers (sent (bytes_line bytes.now)) out.old (outcome result) out.new }
 {

@@ -9,6 +9,7 @@ ghost use Rattle.lines.specs.Inner.{longer_by, line_end_rule};
 use crate::answer::{answer, opened};
 use arrayvec::ArrayVec;
 use channels::Refusal;
+use memchr::memchr;
 use senders::jit::JitTuner;
 
 // One byte more than the longest line, which says that a line is longer.
@@ -46,7 +47,7 @@ impl Console {
     {
         let mut used = 0;
         let mut written = 0;
-        while let Some(n) = piece[used..].iter().position(|&byte| byte == b'\n') {
+        while let Some(n) = memchr(b'\n', &piece[used..]) {
             self.lengthen(&piece[used..used + n]);
             let Ok(answered) = self.end_line(&mut out[written..]) else {
                 return Step {

@@ -4,7 +4,6 @@ use mathlib.Core.Path.{◌≡◌, refl, sym, subst}
 use mathlib.Core.Bool.{Bool, true, false, ◌&&◌}
 use mathlib.Core.List.{List, [], ◌∷◌, ◌++◌}
 use Prim.Native.Nat.{ℕ, ◌<◌}
-use native.Mathlib.Omega.{arith}
 use lib.Dec.{T, eqb}
 use lib.IntN.{ℤ}
 use lib.Ieee.{Float, binary64, fits}
@@ -12,27 +11,28 @@ use lib.ListN.{length}
 use Rattle.arithmetic.specs.Outcome.{Outcome, value, refused, refuse◌unless◌then◌}
 use Rattle.arithmetic.specs.Note.{is_note}
 use Rattle.arithmetic.specs.Nearest.{nearest_rule}
+use Rattle.arithmetic.proofs.Outcomes.{no_value}
 use Rattle.channels.specs.Lists.{Each, member}
 use Rattle.plans.specs.Line.{Line}
 use Rattle.plans.specs.PlanLists.{key_count, is_planned, keys, with_key, note_line, note_lines, pitch_line, pitch_lines, line_by_line, note_lists, pitch_lists}
 use Rattle.plans.specs.PlanInternal.{Accepted}
 use Rattle.channels.proofs.ListLaws.{outcome, passed, failed}
 use Rattle.plans.proofs.SortedKeys.{accepted_snoc, accepted_nil}
-use Rattle.plans.proofs.Lines.{Sound, planned_positive, nearest_sound}
+use Rattle.plans.proofs.Lines.{Sound, note_lines_each, pitch_lines_each, planned_positive, nearest_sound}
 
--- no refusal is a value
-pub never : {A : Type 0} {X : Type 0} (n : ℕ) (a : A) → refused n ≡ value a → X
-never n a e = absurd (let z : ◌≡◌ {A = ℕ} 0 1 = cc in omega arith)
+-- a line that passes by itself is sound
+abbrev SoundIfValue : Outcome Line → Type 0
+SoundIfValue o = (l : Line) → o ≡ value l → Sound l
 
 -- the lines that are accepted, where each that passes by itself is sound
 lines_accepted : (before : List Line) (rest : List (Outcome Line)) (lines : List Line) → Accepted before
-    → Each (λ (o : Outcome Line). (l : Line) → o ≡ value l → Sound l) rest
+    → Each SoundIfValue rest
     → line_by_line before rest ≡ value lines → Accepted lines
 unfolding line_by_line
 lines_accepted before [] lines ok h e = let q : before ≡ lines = cc in subst Accepted q ok
-lines_accepted before (refused n ∷ rest) lines ok h e = never n lines e
+lines_accepted before (refused n ∷ rest) lines ok h e = no_value lines n (sym e)
 lines_accepted before (value l ∷ rest) lines ok h e = elim (outcome (member l.key (keys before))) [
-  | passed m ↦ never 5 lines (rw m at e)
+  | passed m ↦ no_value lines 5 (sym (rw m at e))
   | failed m ↦
       let s = h.0 l refl in
       lines_accepted (before ++ (l ∷ [])) rest lines (accepted_snoc before l ok m s.byte s.note s.above s.fitting) h.1 (rw m at e)
@@ -41,16 +41,16 @@ lines_accepted before (value l ∷ rest) lines ok h e = elim (outcome (member l.
 -- a list's own refusal, 12, stands before its lines
 pub of_equal : (n : ℕ) (test : Bool) (o : Outcome (List Line)) (lines : List Line) → (refuse n unless test then o) ≡ value lines → o ≡ value lines
 of_equal n true o lines e = e
-of_equal n false o lines e = never n lines e
+of_equal n false o lines e = no_value lines n (sym e)
 
 -- ---- lists of notes
 
 note_sound : (k : ℕ) (z : ℤ) (d : Float) → k < key_count → T (fits binary64 d) → (l : Line) → note_line k z d ≡ value l → Sound l
 unfolding note_line
 note_sound k z d b f l e = elim (outcome (is_note z)) [
-  | failed u ↦ never 4 l (rw u at e)
+  | failed u ↦ no_value l 4 (sym (rw u at e))
   | passed u ↦ elim (outcome (is_planned d)) [
-    | failed v ↦ never 3 l (rw (u, v) at e)
+    | failed v ↦ no_value l 3 (sym (rw (u, v) at e))
     | passed v ↦
         let x : Line = record { key = k; note = z; detuning = d } in
         let q : value x ≡ value l = rw (u, v) at e in
@@ -59,21 +59,13 @@ note_sound k z d b f l e = elim (outcome (is_note z)) [
   ]
 ]
 
-note_lines_sound : (ks : List ℕ) (ns : List ℤ) (ds : List Float) → Each (λ (k : ℕ). k < key_count) ks → Each (λ (d : Float). T (fits binary64 d)) ds
-    → Each (λ (o : Outcome Line). (l : Line) → o ≡ value l → Sound l) (note_lines ks ns ds)
-unfolding note_lines
-note_lines_sound [] ns ds b f = tt
-note_lines_sound (k ∷ ks) [] ds b f = tt
-note_lines_sound (k ∷ ks) (z ∷ ns) [] b f = tt
-note_lines_sound (k ∷ ks) (z ∷ ns) (d ∷ ds) b f = (note_sound k z d b.0 f.0, note_lines_sound ks ns ds b.1 f.1)
-
 -- Lists of keys that are bytes, notes, and detunings that are f64s.
 pub notes_accepted : (ks : List ℕ) (ns : List ℤ) (ds : List Float) (lines : List Line) → Each (λ (k : ℕ). k < key_count) ks
     → Each (λ (d : Float). T (fits binary64 d)) ds
     → note_lists ks ns ds ≡ value lines → Accepted lines
 unfolding note_lists
 notes_accepted ks ns ds lines b f e =
-    lines_accepted [] (note_lines ks ns ds) lines accepted_nil (note_lines_sound ks ns ds b f)
+    lines_accepted [] (note_lines ks ns ds) lines accepted_nil (note_lines_each SoundIfValue note_sound ks ns ds b f)
     (of_equal 12 (eqb (length ns) (length ks) && eqb (length ds) (length ks)) (line_by_line [] (note_lines ks ns ds)) lines e)
 
 -- ---- lists of pitches
@@ -83,24 +75,17 @@ unfolding pitch_line
 pitch_sound k hz b l e = go (nearest_rule hz) refl e
   where
     go : (o : Outcome (ℤ × Float)) → nearest_rule hz ≡ o → with_key k o ≡ value l → Sound l
-    go (refused n) p e = never n l e
+    go (refused n) p e = no_value l n (sym e)
     go (value x) p e =
         let y : Line = record { key = k; note = x.0; detuning = x.1 } in
         let q : value y ≡ value l = e in
         let r : y ≡ l = cc in
         subst Sound r (nearest_sound k hz x.0 x.1 b (sym p))
 
-pitch_lines_sound : (ks : List ℕ) (hzs : List Float) → Each (λ (k : ℕ). k < key_count) ks
-    → Each (λ (o : Outcome Line). (l : Line) → o ≡ value l → Sound l) (pitch_lines ks hzs)
-unfolding pitch_lines
-pitch_lines_sound [] hzs b = tt
-pitch_lines_sound (k ∷ ks) [] b = tt
-pitch_lines_sound (k ∷ ks) (hz ∷ hzs) b = (pitch_sound k hz b.0, pitch_lines_sound ks hzs b.1)
-
 -- Lists of keys that are bytes and pitches, any f64s.
 pub pitches_accepted : (ks : List ℕ) (hzs : List Float) (lines : List Line) → Each (λ (k : ℕ). k < key_count) ks → pitch_lists ks hzs ≡ value lines
     → Accepted lines
 unfolding pitch_lists
 pitches_accepted ks hzs lines b e =
-    lines_accepted [] (pitch_lines ks hzs) lines accepted_nil (pitch_lines_sound ks hzs b)
+    lines_accepted [] (pitch_lines ks hzs) lines accepted_nil (pitch_lines_each SoundIfValue pitch_sound ks hzs b)
     (of_equal 12 (eqb (length hzs) (length ks)) (line_by_line [] (pitch_lines ks hzs)) lines e)

@@ -9,8 +9,7 @@ use native.Mathlib.Omega.{arith}
 use lib.Dec.{T, leb, leb-suc-suc, leb-suc-zero, leb-zero}
 use lib.IntN.{ℤ}
 use lib.Ieee.{Float, le}
-use native.Mathlib.Nat.{le_of_eq}
-use lib.Ieee.Positive.{positive, le_trans_positive, cross→le}
+use lib.Ieee.Positive.{positive, le_trans_positive}
 use lib.ListN.{length}
 use Rattle.plans.specs.declared.aot.GroupBy.{GroupBy}
 use Rattle.channels.specs.Lists.{Each, keep, member}
@@ -20,6 +19,7 @@ use Rattle.plans.specs.Walk.{latest, accepts, takes, next, here, later, channels
 use Rattle.plans.specs.PlanInternal.{Accepted}
 use Rattle.channels.proofs.ListLaws.{outcome, passed, failed, T→true, true→T, T→false, Each-map, Each-keep, Pairwise, keep_no, keep_same, keep_swap}
 use Rattle.channels.proofs.ListLaws.{own_image}
+use Rattle.plans.proofs.Joins.{le_refl_positive}
 use Rattle.plans.proofs.Rising.{UpTo, Sorted, Other}
 use Rattle.plans.proofs.Sweep.{number_of, beyond, takes_is, latest_other, latest_taken, latest_left, here_yes, here_no, here_is, all_left, later_other}
 use Rattle.plans.proofs.Sweep.{fewer, Pairwise-later}
@@ -181,13 +181,10 @@ module _ (kind : GroupBy) (lines : List Line) (ok : Accepted lines) (c : ℕ) (g
   no_entry h = entry_beyond kind g (channels kind (length lines) (rising lines)) c none h
 
 -- ---- the last of a sorted list is its largest
-le_self : (x : Float) → T (positive x) → T (le x x)
-le_self x p = cross→le x x p p (le_of_eq refl)
-
 pub largest : (P : Line → Type 0) (x : Line) (l : List Line) → Each P (x ∷ l) → Each (λ (y : Line). T (positive y.detuning)) (x ∷ l) → Sorted (x ∷ l)
     → (z : Line) × P z × T (positive z.detuning) × (last_of none (x ∷ l) ≡ some z.detuning)
     × Each (λ (y : Line). T (le y.detuning z.detuning)) (x ∷ l)
-largest P x [] h p s = (x, h.0, p.0, refl, (le_self x.detuning p.0, tt))
+largest P x [] h p s = (x, h.0, p.0, refl, (le_refl_positive x.detuning p.0, tt))
 largest P x (y ∷ l) h p s =
     let r = largest P y l h.1 p.1 s.1 in
     (r.0, r.1, r.2, r.3, (le_trans_positive x.detuning y.detuning r.0.detuning p.0 p.1.0 r.2 s.0.0.ordered r.4.0, r.4))

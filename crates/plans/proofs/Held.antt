@@ -1,18 +1,18 @@
 -- The records of a plan hold what the walk says: a lookup finds the walk's seat, and the largest detuning of a group up to a channel is the walk's entry.
 -- Assumes nothing.
 use mathlib.Core.Path.{◌≡◌, refl, sym, ap, ◌∙◌, subst}
-use mathlib.Core.Bool.{Bool, true, false, ◌&&◌, cond}
+use mathlib.Core.Bool.{Bool, true, ◌&&◌, cond}
+use Rattle.std.proofs.Math.Bool.{and-true}
 use mathlib.Core.List.{List, [], ◌∷◌}
 use mathlib.Core.Option.{Option, none, some}
 use Prim.Native.Nat.{ℕ, ◌<◌, ◌≤◌}
-use native.Mathlib.Nat.{le_of_eq}
 use native.Mathlib.Omega.{arith}
 use borrow.Author.Tests.{ltb-true, ltb-false}
 use lib.Dec.{T, eqb, eqb→eq, leb, ltb}
 use lib.IntN.{ℤ}
 use lib.Ieee.{Float, binary64, fits, le}
 use lib.Ieee.Fits.{and_l, and_r}
-use lib.Ieee.Positive.{positive, le_trans_positive, cross→le}
+use lib.Ieee.Positive.{positive, le_trans_positive}
 use lib.ListN.{length, get_or}
 use Rattle.arithmetic.specs.Note.{is_note}
 use Rattle.plans.specs.declared.aot.GroupBy.{GroupBy}
@@ -22,16 +22,16 @@ use Rattle.plans.specs.PlanLists.{key_count, keys}
 use Rattle.plans.specs.Walk.{count, seat, entry}
 use Rattle.plans.specs.Plan.{KeyRecord, nobody, is_in, key_in, larger, counts, highest}
 use Rattle.plans.specs.PlanInternal.{Accepted, Seats}
-use Rattle.channels.proofs.ListLaws.{outcome, passed, failed, T→true, true→T, not_false, or_cases, Each-map, Each-keep, Pairwise, Pairwise-keep}
+use Rattle.channels.proofs.ListLaws.{outcome, passed, failed, T→true, true→T, not_false, or_cases, Each-map, Each-keep, Pairwise}
 use mathlib.Core.Logic.{inl, inr}
-use Rattle.plans.proofs.Joins.{le_total}
-use Rattle.plans.proofs.Rising.{UpTo, Each-rising, rising_Each}
-use Rattle.plans.proofs.Plan.{channel, sorted, below_count}
+use Rattle.plans.proofs.Joins.{le_total, le_refl_positive}
+use Rattle.plans.proofs.Rising.{UpTo, others_of, rising_Each}
+use Rattle.plans.proofs.Plan.{channel, below_count}
 use Rattle.plans.proofs.Seats.{kept, seated_lines, unseated}
-use Rattle.plans.proofs.SortedKeys.{others_of}
 use Rattle.plans.proofs.Records.{each_at, at_each}
 use Rattle.plans.proofs.Models.{out_counts}
 use Rattle.plans.proofs.Unique.{le_antisym}
+use Rattle.plans.proofs.PlanEntries.{heard_each, heard_sorted}
 use Rattle.plans.proofs.Carried.{last_of, heard, entry_is, no_entry, largest}
 
 -- ---- lists
@@ -99,7 +99,7 @@ module _ (by : GroupBy) (c : ℕ) (g : ℤ) where
           → Each (λ (x : KeyRecord). counts by c g x ≡ true → T (positive x.detuning)) l
           → Each (λ (x : KeyRecord). counts by c g x ≡ true → Under x.detuning o) l
           → Each (λ (x : KeyRecord). counts by c g x ≡ true → Under x.detuning (larger r.detuning o)) (r ∷ l)
-      go none p q l hp h = (λ u. cross→le r.detuning r.detuning p p (le_of_eq refl), Each-map (λ x k u. absurd (k u)) l h)
+      go none p q l hp h = (λ u. le_refl_positive r.detuning p, Each-map (λ x k u. absurd (k u)) l h)
       go (some d) p q l hp h = elim (outcome (le r.detuning d)) [
         | passed e ↦
             let k : larger r.detuning (some d) ≡ some d = rw e in
@@ -107,7 +107,7 @@ module _ (by : GroupBy) (c : ℕ) (g : ℤ) where
         | failed e ↦
             let k : larger r.detuning (some d) ≡ some r.detuning = rw e in
             subst (λ (o' : Option Float). Each (λ (x : KeyRecord). counts by c g x ≡ true → Under x.detuning o') (r ∷ l)) (sym k) (
-              λ u. cross→le r.detuning r.detuning p p (le_of_eq refl),
+              λ u. le_refl_positive r.detuning p,
               zip
                   (λ x a b u. le_trans_positive x.detuning d r.detuning (a u) q p (b u) (le_total r.detuning d p q e)) l hp h,
             )
@@ -180,11 +180,7 @@ module _ (by : GroupBy) (all : List Line) (ok : Accepted all) (rs : List KeyReco
 
     counts_is : (l : Line) → Fact l → counts by c g (rec l.key) ≡ (up_to l && of_group by g l)
     unfolding counts of_group
-    counts_is l f = rw (f.is_in_lem, f.channel_is, f.note_is) (ap (λ (b : Bool). b && same (group by l.note) g) (and_true (leb (channel by all l.key) c)))
-      where
-        and_true : (b : Bool) → (b && true) ≡ b
-        and_true true = refl
-        and_true false = refl
+    counts_is l f = rw (f.is_in_lem, f.channel_is, f.note_is) (ap (λ (b : Bool). b && same (group by l.note) g) (and-true (leb (channel by all l.key) c)))
 
     -- what holds of the heard lines' detunings holds of those of the records that count
     over_records : (P : Float → Type 0) → Each (λ (l : Line). P l.detuning) (heard by all c g)
@@ -224,14 +220,11 @@ module _ (by : GroupBy) (all : List Line) (ok : Accepted all) (rs : List KeyReco
     all_heard : Each Heard (heard by all c g)
     all_heard =
         let k = keep (of_group by g) (rising all) in
-        zip3 hear (keep up_to k) (Each-keep Fact up_to k (Each-keep Fact (of_group by g) (rising all) (Each-rising Fact all facts)))
+        zip3 hear (keep up_to k) (heard_each by all ok Fact facts c g)
         (Each-keep (λ (l : Line). of_group by g l ≡ true) up_to k (kept (of_group by g) (rising all))) (kept up_to k)
 
     all_positive : Each (λ (l : Line). T (positive l.detuning)) (heard by all c g)
-    all_positive = Each-map (λ l h. h.fact_of.above) (heard by all c g) all_heard
-
-    in_order_lem : Pairwise UpTo (heard by all c g)
-    in_order_lem = Pairwise-keep UpTo up_to (keep (of_group by g) (rising all)) (Pairwise-keep UpTo (of_group by g) (rising all) (sorted by all ok))
+    all_positive = heard_each by all ok (λ (l : Line). T (positive l.detuning)) ok.detunings c g
 
     none_counts : heard by all c g ≡ [] → highest by c g rs ≡ none
     none_counts e = none_of (highest by c g rs)
@@ -268,7 +261,7 @@ module _ (by : GroupBy) (all : List Line) (ok : Accepted all) (rs : List KeyReco
         go [] e = none_counts e
         go (x ∷ l) e =
             let z = largest Heard x l (subst (Each Heard) e all_heard) (subst (Each (λ (y : Line). T (positive y.detuning))) e all_positive)
-            (subst (Pairwise UpTo) e in_order_lem) in
+            (subst (Pairwise UpTo) e (heard_sorted by all ok c g)) in
             largest_counts z.0 z.1 (subst (Each (λ (y : Line). T (le y.detuning z.0.detuning))) (sym e) z.4) ∙ sym z.3
 
     -- the detunings of the model are the walk's entries

@@ -1,16 +1,14 @@
--- A key put in at its place: where the place is among keys in order, and the shift that makes room there. Assumes nothing.
-use Rattle.std.proofs.Common.{◌≡◌, ℕ, zero, suc, ◌+◌, ◌-◌, ◌<◌, ◌≤◌, Bool, true, false, List, [], ◌∷◌, ◌++◌, length, get_or, take, drop, set, refl, sym, ap, ◌∙◌, arith, append_assoc, length-take, length-drop}
-use Rattle.std.proofs.Math.Seq.{paste, take-set-lt, set-append_seam}
-use Rattle.std.proofs.lemmas.List.{take_more, take-take, drop-take}
-use Rattle.std.proofs.lemmas.List.Edits.{take-paste}
+-- A key put in at its place: where the place is among keys in order. Assumes nothing.
+use Rattle.std.proofs.Common.{◌≡◌, ℕ, zero, suc, ◌<◌, ◌≤◌, Bool, true, false, List, [], ◌∷◌, length, get_or, ap, arith}
+use Rattle.std.proofs.lemmas.List.{get_or_default}
 use Rattle.std.specs.List.Sorted.{IsPartitionedBy, IsPartitionPoint}
-use native.Mathlib.Nat.{le_of_eq}
 use lib.Dec.{T}
 use lib.Ieee.{Float, nan, le}
-use lib.Ieee.Positive.{positive, le_trans_positive, cross→le}
+use lib.Ieee.Positive.{positive, le_trans_positive}
 use Rattle.channels.specs.Lists.{Each}
-use Rattle.plans.specs.PlanInternal.{Rises, before, put_in}
+use Rattle.plans.specs.PlanInternal.{Rises, before}
 use Rattle.channels.proofs.ListLaws.{outcome, passed, failed, T→true, true→T}
+use Rattle.plans.proofs.Joins.{le_refl_positive}
 use Rattle.plans.proofs.Records.{at_each}
 
 -- ---- the place
@@ -49,7 +47,7 @@ module _ (ds : List Float) (d : Float) where
 
   rises_up : (l : List ℕ) → Rises ds l → (i j : ℕ) → i ≤ j → j < length l → T (le (get_or ds (get_or l i 0) nan) (get_or ds (get_or l j 0) nan))
   rises_up [] r i j h k = absurd (let z : ⊥ = omega arith in z)
-  rises_up (x ∷ l) r zero zero h k = cross→le (get_or ds x nan) (get_or ds x nan) r.0 r.0 (le_of_eq refl)
+  rises_up (x ∷ l) r zero zero h k = le_refl_positive (get_or ds x nan) r.0
   rises_up (x ∷ l) r zero (suc j) h k = at_each (λ (y : ℕ). T (le (get_or ds x nan) (get_or ds y nan))) l 0 r.1 j (omega arith)
   rises_up (x ∷ l) r (suc i) zero h k = absurd (let z : ⊥ = omega arith in z)
   rises_up (x ∷ l) r (suc i) (suc j) h k = rises_up l r.2 i j (omega arith) (omega arith)
@@ -62,40 +60,5 @@ module _ (ds : List Float) (d : Float) where
       let each = rises_positive l r in
       let py : T (positive y) = at_each (λ (i : ℕ). T (positive (get_or ds i nan))) l 0 each i (omega arith) in
       let pz : T (positive z) = at_each (λ (i : ℕ). T (positive (get_or ds i nan))) l 0 each j k in
-      rw (own l i x (omega arith))
-      (T→true (le y d) (le_trans_positive y z d py pz p (rises_up l r i j h k) (true→T (rw (own l j x k) at e))))
-    where
-      own : (l : List ℕ) (i x : ℕ) → i < length l → get_or l i x ≡ get_or l i 0
-      own [] i x h = absurd (let z : ⊥ = omega arith in z)
-      own (y ∷ l) zero x h = refl
-      own (y ∷ l) (suc i) x h = own l i x (omega arith)
-
--- ---- the shift: the keys from b on move up by one, and one is put in there
-
-shifted : (xs : List ℕ) (b m k : ℕ) → b + m < length xs
-    → take (b + 1 + m) (set (paste xs (b + 1) (drop b xs) m) b k) ≡ take b xs ++ (k ∷ take m (drop b xs))
-shifted xs b m k h =
-    let ys = paste xs (b + 1) (drop b xs) m in
-    let zs = take m (drop b xs) in
-    let x = get_or xs b 0 in
-    let few : m ≤ length (drop b xs) = omega (arith, length-drop b xs) in
-    let here : length (take b xs) ≡ b = omega (arith, length-take b xs) in
-    take-set-lt (b + 1 + m) ys b k (omega arith)
-    ∙ ap (λ (l : List ℕ). set l b k) (take-paste xs (b + 1) (drop b xs) m (omega arith) few ∙ ap (λ (l : List ℕ). l ++ zs) (take_more xs b 0 (omega arith))
-    ∙ append_assoc (take b xs) (x ∷ []) zs)
-    ∙ ap (λ (j : ℕ). set (take b xs ++ (x ∷ zs)) j k) (sym here)
-    ∙ set-append_seam (take b xs) x zs k
-
--- the keys in order with one more, at its place
-pub inserted : (ds : List Float) (d : Float) (n k : ℕ) (xs : List ℕ) → n < length xs → (b : ℕ) → b ≡ before ds d (take n xs)
-    → take (n + 1) (set (paste xs (b + 1) (drop b xs) (n - b)) b k) ≡ put_in ds d k (take n xs)
-unfolding put_in
-inserted ds d n k xs h b e =
-    let fits : b ≤ n = omega (arith, e, before_fits ds d (take n xs), length-take n xs) in
-    let up : n + 1 ≡ b + 1 + (n - b) = omega arith in
-    let whole : b + (n - b) ≡ n = omega arith in
-    ap (λ (j : ℕ). take j (set (paste xs (b + 1) (drop b xs) (n - b)) b k)) up
-    ∙ shifted xs b (n - b) k (omega arith)
-    ∙ ap (λ (l : List ℕ). take b xs ++ (k ∷ l)) (sym (drop-take b (n - b) xs) ∙ ap (λ (j : ℕ). drop b (take j xs)) whole)
-    ∙ ap (λ (l : List ℕ). l ++ (k ∷ drop b (take n xs))) (sym (take-take b n xs fits))
-    ∙ ap (λ (j : ℕ). take j (take n xs) ++ (k ∷ drop j (take n xs))) e
+      rw (get_or_default l i x 0 (omega arith))
+      (T→true (le y d) (le_trans_positive y z d py pz p (rises_up l r i j h k) (true→T (rw (get_or_default l j x 0 k) at e))))

@@ -30,7 +30,7 @@ positive_below lo y hi p q h k = go y hi q (above_of_le lo y p h) k
     go (fin true m e) hi q a k = absurd a
     go (fin false m e) hi q a k = a
 
-le_refl_positive : (x : Float) → T (positive x) → T (le x x)
+pub le_refl_positive : (x : Float) → T (positive x) → T (le x x)
 le_refl_positive x p = cross→le x x p p (le_of_eq refl)
 
 -- a ≤ b ≤ c: where c joins a, so does b

@@ -3,8 +3,7 @@
 use Rattle.std.proofs.Common.{◌≡◌, ℕ, zero, suc, ◌+◌, ◌<◌, Bool, true, false, not, cond, List, [], ◌∷◌, ◌++◌, length, get_or, take, arith, refl, sym, ap, subst, ◌∙◌}
 use Rattle.std.proofs.Math.Option.{Option, none, some}
 use Rattle.std.specs.Float.{NotNan}
-use Rattle.std.proofs.lemmas.Float.{le_trans, lt_of_not-le, lt_of_le_of_lt, lt_irrefl, le_of_lt, T_from_false, T_from_true}
-use lib.Dec.{T}
+use Rattle.std.proofs.lemmas.Float.{le_trans, lt_of_not-le, lt_of_le_of_lt, lt_irrefl, le_of_lt, T_from_false}
 use Rattle.std.proofs.lemmas.List.{take_more}
 use lib.Ieee.{Float, nan, le, lt}
 use lib.IntN.{ℤ}

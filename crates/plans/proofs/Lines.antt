@@ -1,13 +1,13 @@
 -- The check of a plan's lists, line by line, at the line where a loop stands. Assumes nothing.
 use mathlib.Core.Path.{◌≡◌, refl, sym, ap, ◌∙◌}
-use mathlib.Core.Bool.{Bool, true, false, ◌&&◌}
+use mathlib.Core.Bool.{true, false, ◌&&◌}
 use mathlib.Core.List.{List, [], ◌∷◌, ◌++◌}
 use Prim.Native.Nat.{ℕ, zero, suc, ◌<◌, ◌≤◌}
 use native.Mathlib.Omega.{arith}
 use borrow.Author.Tests.{eq-eqb, ltb-true, ltb-false}
 use lib.Dec.{T, eqb, ltb}
 use lib.IntN.{ℤ, pos, negsuc}
-use lib.Ieee.{Float, nan, fin, binary64, fits, le}
+use lib.Ieee.{Float, fin, binary64, fits, le}
 use lib.Ieee.Fits.{and_l, and_r, div-fits}
 use lib.Ieee.Positive.{positive}
 use lib.ListN.{length, get_or, drop, drop_of_length-le}
@@ -26,7 +26,7 @@ use Rattle.arithmetic.specs.Pitch.{is_pitch, detuning_of}
 use Rattle.arithmetic.specs.Nearest.{nearest_rule, nearest_note}
 use Rattle.arithmetic.proofs.Bounds.{detuning_is, planned_is}
 use Rattle.arithmetic.proofs.Nearest.{nearest_is_note, nearest_detuning}
-use Rattle.channels.specs.Lists.{member}
+use Rattle.channels.specs.Lists.{Each, member}
 use Rattle.plans.specs.Line.{Line}
 use Rattle.plans.specs.Entries.{entry_of}
 use Rattle.plans.specs.PlanLists.{key_count, is_planned, note_line, pitch_line, note_lines, pitch_lines, keys, line_by_line}
@@ -35,25 +35,6 @@ use Rattle.plans.specs.declared.sorted_keys.SortedKeys.{SortedKeys}
 use Rattle.plans.specs.PlanInternal.{Accepted, Adds, Checked, Holds}
 use Rattle.channels.proofs.ListLaws.{true→T, outcome, passed, failed}
 use Rattle.plans.proofs.SortedKeys.{accepted_snoc, accepted_nil}
-
--- ---- the lists' lengths
-
-module _ {A : Type 0} (n : ℕ) (b : Bool) (o : Outcome A) where
-  -- of what is refused unless the test holds, a value says that it does
-  pub tested : (x : A) → value x ≡ (refuse n unless b then o) → (b ≡ true) × (value x ≡ o)
-  tested x e = go b e
-    where
-      go : (t : Bool) → value x ≡ (refuse n unless t then o) → (t ≡ true) × (value x ≡ o)
-      go true e = (refl, e)
-      go false e = absurd (let z : ◌≡◌ {A = ℕ} 0 1 = cc in omega arith)
-
-  -- and a refusal that it does not, where nothing else is refused
-  pub not_tested : (x : A) (k : ℕ) → o ≡ value x → refused k ≡ (refuse n unless b then o) → (b ≡ false) × (k ≡ n)
-  not_tested x k v e = go b e
-    where
-      go : (t : Bool) → refused k ≡ (refuse n unless t then o) → (t ≡ false) × (k ≡ n)
-      go true e = absurd (let f : refused k ≡ value x = e ∙ v in let z : ◌≡◌ {A = ℕ} 0 1 = cc in omega arith)
-      go false e = (refl, cc)
 
 -- ---- a turn of a check: the lines so far are held and were accepted, and the lines that are left decide
 pub record Turn (o : Outcome (List Line)) (s : SortedKeys) (rest : List (Outcome Line)) : Type 0 where
@@ -134,22 +115,6 @@ module _ (s : SortedKeys) (x : Line) (sound : Sound x) (lines : List Line) (ok :
 
 -- ---- the line at i, by the entries there
 
-module _ {A : Type 0} where
-  pub no_entry : (l : List A) (i m : ℕ) → refused m ≡ entry_of l i → (m ≡ 12) × (length l ≤ i)
-  no_entry [] i m e = (cc, omega arith)
-  no_entry (x ∷ l) zero m e = absurd (let z : ◌≡◌ {A = ℕ} 0 1 = cc in omega arith)
-  no_entry (x ∷ l) (suc i) m e = let r = no_entry l i m e in (r.0, omega (arith, r.1))
-
-  pub an_entry : (l : List A) (i : ℕ) (x d : A) → value x ≡ entry_of l i → (i < length l) × (get_or l i d ≡ x)
-  an_entry [] i x d e = absurd (let z : ◌≡◌ {A = ℕ} 0 1 = cc in omega arith)
-  an_entry (y ∷ l) zero x d e = (omega arith, cc)
-  an_entry (y ∷ l) (suc i) x d e = let r = an_entry l i x d e in (omega (arith, r.0), r.1)
-
-  past : (l : List A) (i : ℕ) (d : A) → length l ≤ i → get_or l i d ≡ d
-  past [] i d h = refl
-  past (x ∷ l) zero d h = absurd (let z : ⊥ = omega arith in z)
-  past (x ∷ l) (suc i) d h = past l i d (omega arith)
-
 -- what `get` finds
 pub entry_got : {A : Type 0} (l : List A) (i : ℕ) (o : Option (Bor A)) → is_some o ≡ ltb i (length l) → IfSome o (λ x. x.now ≡ get_or l i x.now)
     → answered (ok_or (option_copied o) ListsUnequal) ≡ entry_of l i
@@ -166,76 +131,53 @@ entry_got l i (Some x) e h = found l i x.now (ltb-true i (length l) (sym e)) h
     found (y ∷ l) zero x b e = ap (λ (z : _). value z) e
     found (y ∷ l) (suc i) x b e = found l i x (omega arith) e
 
--- lines of notes
-note_row : (ks : List ℕ) (ns : List ℤ) (ds : List Float) (i : ℕ) (d : Outcome Line) → i < length ks → i < length ns → i < length ds
-    → get_or (note_lines ks ns ds) i d ≡ note_line (get_or ks i 0) (get_or ns i (pos 0)) (get_or ds i nan)
+-- what a value goes on to; a refusal stays
+abbrev pub onward : {A B : Type 0} → Outcome A → (A → Outcome B) → Outcome B
+onward (value x) f = f x
+onward (refused n) f = refused n
+
+-- a list without an entry is short, whatever another one is
+short : {A B : Type 0} (l : List A) (i : ℕ) → ◌≡◌ {A = Outcome B} (onward (entry_of l i) (λ x. refused lists_unequal)) (refused lists_unequal)
+short [] i = refl
+short (x ∷ l) zero = refl
+short (x ∷ l) (suc i) = short l i
+
+-- a line is that of its entries, of which the first that is missing is refused
+pub note_row : (ks : List ℕ) (ns : List ℤ) (ds : List Float) (i : ℕ) → get_or (note_lines ks ns ds) i (refused lists_unequal)
+    ≡ onward (entry_of ks i) (λ k. onward (entry_of ns i) (λ n. onward (entry_of ds i) (note_line k n)))
 unfolding note_lines
-note_row [] ns ds i d hk hn hd = absurd (let z : ⊥ = omega arith in z)
-note_row (k ∷ ks) [] ds i d hk hn hd = absurd (let z : ⊥ = omega arith in z)
-note_row (k ∷ ks) (n ∷ ns) [] i d hk hn hd = absurd (let z : ⊥ = omega arith in z)
-note_row (k ∷ ks) (n ∷ ns) (x ∷ ds) zero d hk hn hd = refl
-note_row (k ∷ ks) (n ∷ ns) (x ∷ ds) (suc i) d hk hn hd = note_row ks ns ds i d (omega arith) (omega arith) (omega arith)
+note_row [] ns ds i = refl
+note_row (k ∷ ks) [] ds zero = refl
+note_row (k ∷ ks) [] ds (suc i) = sym (short ks i)
+note_row (k ∷ ks) (n ∷ ns) [] zero = refl
+note_row (k ∷ ks) (n ∷ ns) [] (suc i) = sym ((λ j. onward (entry_of ks i) (λ k. short ns i j)) ∙ short ks i)
+note_row (k ∷ ks) (n ∷ ns) (d ∷ ds) zero = refl
+note_row (k ∷ ks) (n ∷ ns) (d ∷ ds) (suc i) = note_row ks ns ds i
 
-note_rows : (ks : List ℕ) (ns : List ℤ) (ds : List Float)
-    → (length (note_lines ks ns ds) ≤ length ks) × (length (note_lines ks ns ds) ≤ length ns) × (length (note_lines ks ns ds) ≤ length ds)
+pub pitch_row : (ks : List ℕ) (hzs : List Float) (i : ℕ) → get_or (pitch_lines ks hzs) i (refused lists_unequal)
+    ≡ onward (entry_of ks i) (λ k. onward (entry_of hzs i) (pitch_line k))
+unfolding pitch_lines
+pitch_row [] hzs i = refl
+pitch_row (k ∷ ks) [] zero = refl
+pitch_row (k ∷ ks) [] (suc i) = sym (short ks i)
+pitch_row (k ∷ ks) (hz ∷ hzs) zero = refl
+pitch_row (k ∷ ks) (hz ∷ hzs) (suc i) = pitch_row ks hzs i
+
+-- what holds of each line by itself
+pub note_lines_each : (P : Outcome Line → Type 0) {B : ℕ → Type 0} {F : Float → Type 0} → ((k : ℕ) (z : ℤ) (d : Float) → B k → F d → P (note_line k z d))
+    → (ks : List ℕ) (ns : List ℤ) (ds : List Float) → Each B ks → Each F ds → Each P (note_lines ks ns ds)
 unfolding note_lines
-note_rows [] ns ds = (omega arith, omega arith, omega arith)
-note_rows (k ∷ ks) [] ds = (omega arith, omega arith, omega arith)
-note_rows (k ∷ ks) (n ∷ ns) [] = (omega arith, omega arith, omega arith)
-note_rows (k ∷ ks) (n ∷ ns) (x ∷ ds) = let r = note_rows ks ns ds in (omega (arith, r.0), omega (arith, r.1), omega (arith, r.2))
+note_lines_each P h [] ns ds b f = tt
+note_lines_each P h (k ∷ ks) [] ds b f = tt
+note_lines_each P h (k ∷ ks) (z ∷ ns) [] b f = tt
+note_lines_each P h (k ∷ ks) (z ∷ ns) (d ∷ ds) b f = (h k z d b.0 f.0, note_lines_each P h ks ns ds b.1 f.1)
 
-module _ (ks : List ℕ) (ns : List ℤ) (ds : List Float) (i : ℕ) where
-  no_row : (m : ℕ) → m ≡ 12 → length (note_lines ks ns ds) ≤ i → refused m ≡ get_or (note_lines ks ns ds) i (refused 12)
-  no_row m e h = ap (λ (n : ℕ). refused n) e ∙ sym (past (note_lines ks ns ds) i (refused 12) h)
-
-  pub no_key : (m : ℕ) → refused m ≡ entry_of ks i → refused m ≡ get_or (note_lines ks ns ds) i (refused 12)
-  no_key m e = let r = no_entry ks i m e in no_row m r.0 (omega (arith, r.1, (note_rows ks ns ds).0))
-
-  pub no_note : (m : ℕ) → refused m ≡ entry_of ns i → refused m ≡ get_or (note_lines ks ns ds) i (refused 12)
-  no_note m e = let r = no_entry ns i m e in no_row m r.0 (omega (arith, r.1, (note_rows ks ns ds).1))
-
-  pub no_detuning : (m : ℕ) → refused m ≡ entry_of ds i → refused m ≡ get_or (note_lines ks ns ds) i (refused 12)
-  no_detuning m e = let r = no_entry ds i m e in no_row m r.0 (omega (arith, r.1, (note_rows ks ns ds).2))
-
-  pub the_note_line : (k : ℕ) (n : ℤ) (d : Float) → value k ≡ entry_of ks i → value n ≡ entry_of ns i → value d ≡ entry_of ds i
-      → get_or (note_lines ks ns ds) i (refused 12) ≡ note_line k n d
-  the_note_line k n d ek en ed =
-      let a = an_entry ks i k 0 ek in
-      let b = an_entry ns i n (pos 0) en in
-      let c = an_entry ds i d nan ed in
-      note_row ks ns ds i (refused 12) a.0 b.0 c.0 ∙ (λ j. note_line (a.1 j) (b.1 j) (c.1 j))
-
--- lines of pitches
-pitch_row : (ks : List ℕ) (hzs : List Float) (i : ℕ) (d : Outcome Line) → i < length ks → i < length hzs
-    → get_or (pitch_lines ks hzs) i d ≡ pitch_line (get_or ks i 0) (get_or hzs i nan)
+pub pitch_lines_each : (P : Outcome Line → Type 0) {B : ℕ → Type 0} → ((k : ℕ) (hz : Float) → B k → P (pitch_line k hz))
+    → (ks : List ℕ) (hzs : List Float) → Each B ks → Each P (pitch_lines ks hzs)
 unfolding pitch_lines
-pitch_row [] hzs i d hk hz = absurd (let z : ⊥ = omega arith in z)
-pitch_row (k ∷ ks) [] i d hk hz = absurd (let z : ⊥ = omega arith in z)
-pitch_row (k ∷ ks) (x ∷ hzs) zero d hk hz = refl
-pitch_row (k ∷ ks) (x ∷ hzs) (suc i) d hk hz = pitch_row ks hzs i d (omega arith) (omega arith)
-
-pitch_rows : (ks : List ℕ) (hzs : List Float) → (length (pitch_lines ks hzs) ≤ length ks) × (length (pitch_lines ks hzs) ≤ length hzs)
-unfolding pitch_lines
-pitch_rows [] hzs = (omega arith, omega arith)
-pitch_rows (k ∷ ks) [] = (omega arith, omega arith)
-pitch_rows (k ∷ ks) (x ∷ hzs) = let r = pitch_rows ks hzs in (omega (arith, r.0), omega (arith, r.1))
-
-module _ (ks : List ℕ) (hzs : List Float) (i : ℕ) where
-  no_pitch_row : (m : ℕ) → m ≡ 12 → length (pitch_lines ks hzs) ≤ i → refused m ≡ get_or (pitch_lines ks hzs) i (refused 12)
-  no_pitch_row m e h = ap (λ (n : ℕ). refused n) e ∙ sym (past (pitch_lines ks hzs) i (refused 12) h)
-
-  pub no_pitched_key : (m : ℕ) → refused m ≡ entry_of ks i → refused m ≡ get_or (pitch_lines ks hzs) i (refused 12)
-  no_pitched_key m e = let r = no_entry ks i m e in no_pitch_row m r.0 (omega (arith, r.1, (pitch_rows ks hzs).0))
-
-  pub no_pitch : (m : ℕ) → refused m ≡ entry_of hzs i → refused m ≡ get_or (pitch_lines ks hzs) i (refused 12)
-  no_pitch m e = let r = no_entry hzs i m e in no_pitch_row m r.0 (omega (arith, r.1, (pitch_rows ks hzs).1))
-
-  pub the_pitch_line : (k : ℕ) (hz : Float) → value k ≡ entry_of ks i → value hz ≡ entry_of hzs i
-      → get_or (pitch_lines ks hzs) i (refused 12) ≡ pitch_line k hz
-  the_pitch_line k hz ek eh =
-      let a = an_entry ks i k 0 ek in
-      let b = an_entry hzs i hz nan eh in
-      pitch_row ks hzs i (refused 12) a.0 b.0 ∙ (λ j. pitch_line (a.1 j) (b.1 j))
+pitch_lines_each P h [] hzs b = tt
+pitch_lines_each P h (k ∷ ks) [] b = tt
+pitch_lines_each P h (k ∷ ks) (hz ∷ hzs) b = (h k hz b.0, pitch_lines_each P h ks hzs b.1)
 
 -- equally long lists have a line for each key
 note_lines_long : (ks : List ℕ) (ns : List ℤ) (ds : List Float) → length ns ≡ length ks → length ds ≡ length ks → length (note_lines ks ns ds) ≡ length ks

@@ -1,122 +1,81 @@
 -- The next entry: the least group from a number on that has a detuning on a channel is the first that the list of all groups shows. Assumes nothing.
 use mathlib.Core.Path.{◌≡◌, refl, sym, ap, ◌∙◌, subst}
-use mathlib.Core.Logic.{◌⊎◌, inl, inr}
+use mathlib.Core.Logic.{inl, inr}
 use mathlib.Core.Bool.{Bool, true, false, ◌&&◌, cond}
 use mathlib.Core.List.{List, [], ◌∷◌}
 use mathlib.Core.Option.{Option, none, some}
-use Prim.Native.Nat.{ℕ, zero, suc, ◌+◌, ◌<◌, ◌≤◌}
+use Prim.Native.Nat.{ℕ, zero, suc, ◌≤◌}
 use native.Mathlib.Omega.{arith}
-use native.Mathlib.Numerals.{add-one}
-use borrow.Author.Tests.{ltb-true, ltb-false, leb-true, leb-false}
 use lib.Dec.{leb}
-use lib.IntN.{ℤ, pos, negsuc, ◌+ℤ◌}
-use lib.ListN.{length, get_or, drop, drop_of_length-le}
-use lib.Seq.{drop-cons}
-use lib.Signed.{le_z, lt_z}
-use lib.Ieee.{Float, nan, le}
+use lib.IntN.{ℤ, pos, ◌+ℤ◌}
+use lib.ListN.{length}
+use lib.Signed.{le_z, lt_z, ◌≤ℤ◌, ◌<ℤ◌, le_z_yes}
+use lib.Ieee.{Float, le}
 use lib.Ieee.Fits.{and_l, and_r}
-use Rattle.std.specs.Prelude.{Some, None}
+use Rattle.std.specs.Prelude.{Some, None, int_lt, filter, All, Contains}
 use Rattle.std.specs.Prelude.{Option as Optional}
+use Rattle.std.specs.List.{filter_map, cons_option, reduce, fold}
+use Rattle.std.specs.Int.{int_min}
+use Rattle.std.specs.Ordering.{int_cmp, min_by_ordering}
+use Rattle.std.proofs.Common.{Less, Equal, Greater}
+use Rattle.std.proofs.lemmas.Int.{ints, fold-int_min_bounds, fold-int_min_reached}
+use Rattle.std.proofs.lemmas.List.Elements.{All-nil, All-cons, All-head, All-tail, All-weaker, All-contains, filter_passes}
 use Rattle.arithmetic.specs.Note.{is_note, lowest_note, letter_of}
-use Rattle.arithmetic.proofs.Integers.{plus, less, add_parts, same as same_parts}
-use Rattle.arithmetic.proofs.Notes.{bounds, letter_below}
+use Rattle.arithmetic.proofs.Notes.{letter_below}
 use Rattle.plans.specs.declared.aot.GroupBy.{GroupBy}
 use Rattle.plans.specs.declared.aot.GroupBy.TheVariants.{Note, NoteLetter, Channel}
 use Rattle.channels.specs.Lists.{Each}
 use Rattle.plans.specs.Line.{group, same}
 use Rattle.plans.specs.Plan.{KeyRecord, is_in, counts, highest, larger, record_of, records_of, numbers_from, groups, first_entry}
-use Rattle.plans.specs.PlanInternal.{group_up_to, lower, least_from}
-use Rattle.channels.proofs.ListLaws.{outcome, passed, failed, T→true, true→T, not_false}
+use Rattle.plans.specs.PlanInternal.{IsLeast, group_up_to, groups_from}
+use Rattle.channels.proofs.ListLaws.{outcome, passed, failed, T→true, true→T}
 use Rattle.plans.proofs.Sweep.{same_eq}
 use Rattle.plans.proofs.Records.{counts_up, counts_up_none, counts_up_other, in_note}
 
--- ---- orders of integers, by their parts
-lt_parts : (a b : ℤ) → lt_z a b ≡ true → plus a + less b < plus b + less a
-lt_parts (pos a) (pos b) e = omega (arith, ltb-true a b e)
-lt_parts (pos a) (negsuc b) e = absurd (true→T e)
-lt_parts (negsuc a) (pos b) e = omega arith
-lt_parts (negsuc a) (negsuc b) e = omega (arith, ltb-true b a e)
+-- ---- the least of a list
+pub least_reduced : (gs : List ℤ) (r : Optional ℤ) → r ≡ reduce (λ x y. min_by_ordering (int_cmp x y) x y) gs
+    → IsLeast gs r
+least_reduced gs r e = go gs (e ∙ ap (λ f. reduce f gs) (λ i x y. same x y i))
+  where
+    same : (x y : ℤ) → min_by_ordering (int_cmp x y) x y ≡ int_min x y
+    same x y = go (int_lt x y) refl (int_lt y x) refl
+      where
+        go : (b : Bool) → int_lt x y ≡ b → (d : Bool) → int_lt y x ≡ d → min_by_ordering (cond b Less (cond d Greater Equal)) x y ≡ cond d y x
+        go true e true f = absurd (let z : ⊥ = grind (arith, ints) in z)
+        go true e false f = refl
+        go false e true f = refl
+        go false e false f = refl
 
-nlt_parts : (a b : ℤ) → lt_z a b ≡ false → plus b + less a ≤ plus a + less b
-nlt_parts (pos a) (pos b) e = omega (arith, ltb-false a b e)
-nlt_parts (pos a) (negsuc b) e = omega arith
-nlt_parts (negsuc a) (pos b) e = absurd (not_false e tt)
-nlt_parts (negsuc a) (negsuc b) e = omega (arith, ltb-false b a e)
+    go : (gs : List ℤ) {r : Optional ℤ} → r ≡ reduce int_min gs → IsLeast gs r
+    go [] e = rw e refl
+    go (x ∷ gs) e =
+        let g = fold int_min x gs in
+        let low = fold-int_min_bounds x gs g refl in
+        let one : Contains (x ∷ gs) g = elim (fold-int_min_reached x gs g refl) [
+          | inl q ↦ (0, omega arith, sym q)
+          | inr m ↦ (suc m.0, omega (arith, m.1), m.2)
+        ] in
+        rw e (one, All-cons (λ h. g ≤ℤ h) x gs low.0 low.1)
 
-le_parts : (a b : ℤ) → le_z a b ≡ true → plus a + less b ≤ plus b + less a
-le_parts (pos a) (pos b) e = omega (arith, leb-true a b e)
-le_parts (pos a) (negsuc b) e = absurd (true→T e)
-le_parts (negsuc a) (pos b) e = omega arith
-le_parts (negsuc a) (negsuc b) e = omega (arith, leb-true b a e)
-
-nle_parts : (a b : ℤ) → le_z a b ≡ false → plus b + less a < plus a + less b
-nle_parts (pos a) (pos b) e = omega (arith, leb-false a b e)
-nle_parts (pos a) (negsuc b) e = omega arith
-nle_parts (negsuc a) (pos b) e = absurd (not_false e tt)
-nle_parts (negsuc a) (negsuc b) e = omega (arith, leb-false b a e)
-
-parts_le : (a b : ℤ) → plus a + less b ≤ plus b + less a → le_z a b ≡ true
-parts_le a b h = elim (outcome (le_z a b)) [
-  | passed e ↦ e
-  | failed e ↦ absurd (let z : ⊥ = omega (arith, nle_parts a b e) in z)
-]
-
--- ---- the scan
-
--- a step of it, at an index
-module _ (by : GroupBy) (c : ℕ) (from : ℤ) (least : Optional ℤ) (cells : List ℕ) (i : ℕ) where
-  pub least_next : i < length cells
-      → least_from by c from least (drop i cells) ≡ least_from by c from (lower from (group_up_to by c (get_or cells i 0)) least) (drop (i + 1) cells)
-  unfolding least_from
-  least_next h = rw (add-one, drop-cons cells i 0 h)
-
-  pub least_end : length cells ≤ i → least_from by c from least (drop i cells) ≡ least
-  unfolding least_from
-  least_end h = rw (drop_of_length-le cells {i = i} h)
-
--- h is below the least group, if there is one
-abbrev pub Below : ℤ → Optional ℤ → Type 0
-Below h None = Unit {0}
-Below h (Some g) = plus h + less g < plus g + less h
-
--- what is below the least group counts nowhere
+-- ---- the listed groups: each counts, and no other one from `from` on does
 module _ (by : GroupBy) (c : ℕ) (from : ℤ) where
-  -- of a group from `from` on: it is not h, and h is below the least so far
-  passed_by : (h g : ℤ) (least : Optional ℤ) → plus from + less h ≤ plus h + less from → Below h (lower from (Some g) least) → (g ≡ h → ⊥) × Below h least
-  passed_by h g None f b = go (le_z from g) refl b
+  none_counts : (P : ℤ → Type 0) (h : ℤ) → from ≤ℤ h → (P h → ⊥) → (cells : List ℕ) (ds : List Float) → All P (groups_from by c from cells)
+      → Each (λ (r : KeyRecord). counts by c h r ≡ false) (records_of cells ds)
+  unfolding records_of
+  none_counts P h f differs [] ds a = tt
+  none_counts P h f differs (cell ∷ cells) [] a = tt
+  none_counts P h f differs (cell ∷ cells) (d ∷ ds) a = go (none_counts P h f differs cells ds) (group_up_to by c cell) refl a
     where
-      go : (t : Bool) → le_z from g ≡ t → Below h (cond t (Some g) None) → (g ≡ h → ⊥) × Unit {0}
-      go true e b = (λ u. let z : ⊥ = omega (arith, ap plus u, ap less u) in z, tt)
-      go false e b = (λ u. let k = nle_parts from g e in let z : ⊥ = omega (arith, ap plus u, ap less u) in z, tt)
-  passed_by h g (Some l) f b = go (le_z from g) refl (lt_z g l) refl b
-    where
-      go : (t : Bool) → le_z from g ≡ t → (u : Bool) → lt_z g l ≡ u → Below h (cond (t && u) (Some g) (Some l))
-          → (g ≡ h → ⊥) × (plus h + less l < plus l + less h)
-      go true e true i b = (λ q. let z : ⊥ = omega (arith, ap plus q, ap less q) in z, omega (arith, lt_parts g l i))
-      go true e false i b = (λ q. let k = nlt_parts g l i in let z : ⊥ = omega (arith, ap plus q, ap less q) in z, b)
-      go false e u i b = (λ q. let k = nle_parts from g e in let z : ⊥ = omega (arith, ap plus q, ap less q) in z, b)
-
-  none_below_step : (least : Optional ℤ) (cell : ℕ) (d : Float) (h : ℤ) → plus from + less h ≤ plus h + less from
-      → Below h (lower from (group_up_to by c cell) least)
-      → (counts by c h (record_of cell d) ≡ false) × Below h least
-  none_below_step least cell d h f b = go (group_up_to by c cell) refl b
-    where
-      go : (o : Optional ℤ) → group_up_to by c cell ≡ o → Below h (lower from o least) → (counts by c h (record_of cell d) ≡ false) × Below h least
-      go None e b = (counts_up_none by c cell d h e, b)
-      go (Some g) e b = let p = passed_by h g least f b in (counts_up_other by c cell d h g e p.0, p.1)
-
-  pub none_below : (least : Optional ℤ) (cells : List ℕ) (ds : List Float) (h : ℤ) → plus from + less h ≤ plus h + less from
-      → Below h (least_from by c from least cells)
-      → Each (λ (r : KeyRecord). counts by c h r ≡ false) (records_of cells ds) × Below h least
-  unfolding least_from records_of
-  none_below least [] ds h f b = (tt, b)
-  none_below least (cell ∷ cells) [] h f b =
-      let i = none_below (lower from (group_up_to by c cell) least) cells [] h f b in
-      (tt, (none_below_step least cell nan h f i.1).1)
-  none_below least (cell ∷ cells) (d ∷ ds) h f b =
-      let i = none_below (lower from (group_up_to by c cell) least) cells ds h f b in
-      let k = none_below_step least cell d h f i.1 in
-      ((k.0, i.0), k.1)
+      go : (All P (groups_from by c from cells) → Each (λ (r : KeyRecord). counts by c h r ≡ false) (records_of cells ds))
+          → (o : Optional ℤ) → group_up_to by c cell ≡ o → All P (filter (le_z from) (cons_option o (filter_map (group_up_to by c) cells)))
+          → (counts by c h (record_of cell d) ≡ false) × Each (λ (r : KeyRecord). counts by c h r ≡ false) (records_of cells ds)
+      go rest None e a = (counts_up_none by c cell d h e, rest a)
+      go rest (Some g) e a = elim (outcome (le_z from g)) [
+        | passed u ↦
+            let b = rw u at a in
+            (counts_up_other by c cell d h g e (λ q. differs (subst P q (All-head P g _ b))), rest (All-tail P g _ b))
+        | failed u ↦ (counts_up_other by c cell d h g e (λ q. grind (arith, ints)), rest (rw u at a))
+      ]
 
   pub none_highest : (g : ℤ) (rs : List KeyRecord) → Each (λ (r : KeyRecord). counts by c g r ≡ false) rs → highest by c g rs ≡ none
   unfolding highest
@@ -141,84 +100,64 @@ module _ (by : GroupBy) (c : ℕ) (from : ℤ) where
   unfolding highest
   own_some cell d g rs u e = larger_some d (highest by c g rs) (rw (counts_up by c cell d g u) at e)
 
-  -- the least group is the one at the start, or one that counts
-  abbrev Attained : Optional ℤ → List KeyRecord → Optional ℤ → Type 0
-  Attained least rs o = (o ≡ least) ⊎ ((g : ℤ) × (o ≡ Some g) × (plus from + less g ≤ plus g + less from) × (highest by c g rs ≡ none → ⊥))
-
-  lower_attained : (least : Optional ℤ) (cell : ℕ) (d : Float) (rs : List KeyRecord)
-      → Attained least (record_of cell d ∷ rs) (lower from (group_up_to by c cell) least)
-  lower_attained least cell d rs = go (group_up_to by c cell) refl least
+  listed_seen : (cells : List ℕ) (ds : List Float) → length cells ≤ length ds
+      → All (λ g. highest by c g (records_of cells ds) ≡ none → ⊥) (groups_from by c from cells)
+  unfolding records_of
+  listed_seen [] ds l = All-nil _
+  listed_seen (cell ∷ cells) [] l = absurd (let z : ⊥ = omega arith in z)
+  listed_seen (cell ∷ cells) (d ∷ ds) l =
+      go (All-weaker (λ g. highest by c g (records_of cells ds) ≡ none → ⊥) Seen (λ g. more_some g (record_of cell d) (records_of cells ds))
+      (groups_from by c from cells) (listed_seen cells ds (omega arith))) (group_up_to by c cell) refl
     where
-      go : (o : Optional ℤ) → group_up_to by c cell ≡ o → (least : Optional ℤ) → Attained least (record_of cell d ∷ rs) (lower from o least)
-      go None e least = inl refl
-      go (Some g) e None = elim (outcome (le_z from g)) [
-        | passed u ↦ rw u (inr (g, refl, le_parts from g u, own_some cell d g rs e))
-        | failed u ↦ rw u (inl refl)
-      ]
-      go (Some g) e (Some l) = elim (outcome (le_z from g)) [
-        | failed u ↦ rw u (inl refl)
-        | passed u ↦ elim (outcome (lt_z g l)) [
-          | passed v ↦ rw (u, v) (inr (g, refl, le_parts from g u, own_some cell d g rs e))
-          | failed v ↦ rw (u, v) (inl refl)
-        ]
-      ]
+      Seen : ℤ → Type 0
+      Seen g = highest by c g (record_of cell d ∷ records_of cells ds) ≡ none → ⊥
 
-  pub attained : (least : Optional ℤ) (cells : List ℕ) (ds : List Float) → length cells ≤ length ds
-      → Attained least (records_of cells ds) (least_from by c from least cells)
-  unfolding least_from records_of
-  attained least [] ds l = inl refl
-  attained least (cell ∷ cells) [] l = absurd (let z : ⊥ = omega arith in z)
-  attained least (cell ∷ cells) (d ∷ ds) l =
-      let rs = records_of cells ds in
-      elim (attained (lower from (group_up_to by c cell) least) cells ds (omega arith)) [
-        | inl e ↦ subst (Attained least (record_of cell d ∷ rs)) (sym e) (lower_attained least cell d rs)
-        | inr h ↦ inr (h.0, h.1, h.2, more_some h.0 (record_of cell d) rs h.3)
+      go : All Seen (groups_from by c from cells) → (o : Optional ℤ) → group_up_to by c cell ≡ o → All Seen (filter (le_z from) (cons_option o (filter_map (group_up_to by c) cells)))
+      go rest None e = rest
+      go rest (Some g) e = elim (outcome (le_z from g)) [
+        | passed u ↦ rw u (All-cons Seen g _ (own_some cell d g (records_of cells ds) e) rest)
+        | failed u ↦ rw u rest
       ]
 
 -- ---- the list of all groups
-next_parts : (z : ℤ) → plus (z +ℤ pos 1) + less z ≡ less (z +ℤ pos 1) + plus z + 1
-next_parts z = omega (arith, add_parts z (pos 1))
-
 module _ (from : ℤ) (f : ℤ → Option Float) where
-  first_found : (g : ℤ) (d : Float) → f g ≡ some d → plus from + less g ≤ plus g + less from
-      → ((h : ℤ) → plus from + less h ≤ plus h + less from → plus h + less g < plus g + less h → f h ≡ none)
-      → (n : ℕ) (z : ℤ) → plus z + less g ≤ plus g + less z → plus g + less z < plus z + less g + n → some (g, d) ≡ first_entry from f (numbers_from n z)
+  first_found : (g : ℤ) (d : Float) → f g ≡ some d → from ≤ℤ g → ((h : ℤ) → from ≤ℤ h → h <ℤ g → f h ≡ none)
+      → (n : ℕ) (z : ℤ) → z ≤ℤ g → g <ℤ (z +ℤ pos n) → some (g, d) ≡ first_entry from f (numbers_from n z)
   unfolding first_entry numbers_from
-  first_found g d e l none_before zero z a b = absurd (let k : ⊥ = omega arith in k)
+  first_found g d e l none_before zero z a b = absurd (let k : ⊥ = grind (arith, ints) in k)
   first_found g d e l none_before (suc n) z a b = elim (outcome (lt_z z g)) [
     | passed u ↦
-        let i = first_found g d e l none_before n (z +ℤ pos 1) (omega (arith, next_parts z, lt_parts z g u)) (omega (arith, next_parts z)) in
+        let i = first_found g d e l none_before n (z +ℤ pos 1) (grind (arith, ints)) (grind (arith, ints)) in
         elim (outcome (le_z from z)) [
-          | passed v ↦ rw (v, none_before z (le_parts from z v) (lt_parts z g u)) i
+          | passed v ↦ rw (v, none_before z (grind (arith, ints)) (grind (arith, ints))) i
           | failed v ↦ rw v i
         ]
     | failed u ↦
-        let q : z ≡ g = same_parts z g (omega (arith, nlt_parts z g u)) in
-        rw (q, parts_le from g l, e)
+        let q : z ≡ g = grind (arith, ints) in
+        let k : le_z from g ≡ true = grind (arith, ints) in
+        rw (q, k, e)
   ]
 
-  first_none : (n : ℕ) (z : ℤ) → ((h : ℤ) → plus from + less h ≤ plus h + less from → f h ≡ none) → none ≡ first_entry from f (numbers_from n z)
+  first_none : (n : ℕ) (z : ℤ) → ((h : ℤ) → from ≤ℤ h → f h ≡ none) → none ≡ first_entry from f (numbers_from n z)
   unfolding first_entry numbers_from
   first_none zero z h = refl
   first_none (suc n) z h =
       let i = first_none n (z +ℤ pos 1) h in
       elim (outcome (le_z from z)) [
-        | passed v ↦ rw (v, h z (le_parts from z v)) i
+        | passed v ↦ rw (v, h z (grind (arith, ints))) i
         | failed v ↦ rw v i
       ]
 
 -- every group of a note is one of the list
 module _ (from : ℤ) (f : ℤ → Option Float) where
-  next_found : (by : GroupBy) (n : ℤ) → is_note n ≡ true → (d : Float) → f (group by n) ≡ some d
-      → plus from + less (group by n) ≤ plus (group by n) + less from
-      → ((h : ℤ) → plus from + less h ≤ plus h + less from → plus h + less (group by n) < plus (group by n) + less h → f h ≡ none)
-      → some (group by n, d) ≡ first_entry from f (groups by)
+  next_found : (by : GroupBy) (n : ℤ) → is_note n ≡ true → (d : Float) → f (group by n) ≡ some d → from ≤ℤ group by n
+      → ((h : ℤ) → from ≤ℤ h → h <ℤ group by n → f h ≡ none) → some (group by n, d) ≡ first_entry from f (groups by)
   unfolding groups group
-  next_found Note n i d e l k = first_found from f n d e l k 801 lowest_note (omega (arith, bounds n i)) (omega (arith, bounds n i))
-  next_found NoteLetter n i d e l k = first_found from f (pos (letter_of n)) d e l k 12 (pos 0) (omega arith) (omega (arith, letter_below n))
-  next_found Channel n i d e l k = first_found from f (pos 0) d e l k 1 (pos 0) (omega arith) (omega arith)
+  next_found Note n i d e l k = first_found from f n d e l k 801 lowest_note (grind (arith, ints)) (grind (arith, ints))
+  next_found NoteLetter n i d e l k = first_found from f (pos (letter_of n)) d e l k 12 (pos 0) (omega (arith, ints)) (omega (arith, ints, letter_below n))
+  next_found Channel n i d e l k = first_found from f (pos 0) d e l k 1 (pos 0) (omega (arith, ints)) (omega (arith, ints))
 
-  next_none : (by : GroupBy) → ((h : ℤ) → plus from + less h ≤ plus h + less from → f h ≡ none) → none ≡ first_entry from f (groups by)
+  next_none : (by : GroupBy) → ((h : ℤ) → from ≤ℤ h → f h ≡ none) → none ≡ first_entry from f (groups by)
   unfolding groups
   next_none Note k = first_none from f 801 lowest_note k
   next_none NoteLetter k = first_none from f 12 (pos 0) k
@@ -245,36 +184,31 @@ module _ (by : GroupBy) (c : ℕ) (from : ℤ) (cells : List ℕ) (ds : List Flo
   abbrev entries : ℤ → Option Float
   entries h = cond b (highest by c h (records_of cells ds)) none
 
-  abbrev least : Optional ℤ
-  least = least_from by c from None cells
+  abbrev listed : List ℤ
+  listed = groups_from by c from cells
 
-  none_before : (h : ℤ) → plus from + less h ≤ plus h + less from → Below h least → entries h ≡ none
-  none_before h a k = go b (none_highest by c from h (records_of cells ds) (none_below by c from None cells ds h a k).0)
+  no_entry : (P : ℤ → Type 0) → All P listed → (h : ℤ) → from ≤ℤ h → (P h → ⊥) → entries h ≡ none
+  no_entry P a h f differs = go b (none_highest by c from h (records_of cells ds) (none_counts by c from P h f differs cells ds a))
     where
       go : (t : Bool) {o : Option Float} → o ≡ none → cond t o none ≡ none
       go true e = e
       go false e = refl
 
   -- no key has such a group
-  pub no_group : None ≡ least → none ≡ first_entry from entries (groups by)
-  no_group e = next_none from entries by (λ h a. none_before h a (subst (Below h) e tt))
+  pub no_group : listed ≡ [] → none ≡ first_entry from entries (groups by)
+  no_group e = next_none from entries by (λ h f. no_entry (λ _. ⊥) (rw e (All-nil _)) h f (λ z. z))
 
-  module _ (g : ℤ) (e : least ≡ Some g) where
-    own : (plus from + less g ≤ plus g + less from) × (highest by c g (records_of cells ds) ≡ none → ⊥)
-    own = elim (attained by c from None cells ds (omega (arith, long))) [
-      | inl k ↦ absurd (let u : None ≡ Some g = sym k ∙ e in let z : ◌≡◌ {A = ℕ} 0 1 = cc in omega arith)
-      | inr h ↦ let q : h.0 ≡ g = let u : Some h.0 ≡ Some g = sym h.1 ∙ e in cc in
-          subst (λ (z : ℤ). (plus from + less z ≤ plus z + less from) × (highest by c z (records_of cells ds) ≡ none → ⊥)) q (h.2, h.3)
-    ]
+  module _ (g : ℤ) (one : Contains listed g) (least : All (λ h. g ≤ℤ h) listed) where
+    above : from ≤ℤ g
+    above = le_z_yes (true→T (All-contains (λ x. le_z from x ≡ true) listed g (filter_passes (le_z from) _) one))
 
     -- the least group has its detuning
     pub entry_found : (d : Float) → entries g ≡ some d → some (g, d) ≡ first_entry from entries (groups by)
     entry_found d u =
         let n = noted by c g d (records_of cells ds) (shown b u) in
         subst (λ (z : ℤ). some (z, d) ≡ first_entry from entries (groups by)) n.2
-        (next_found from entries by n.0 n.1 d (subst (λ (z : ℤ). entries z ≡ some d) (sym n.2) u)
-        (subst (λ (z : ℤ). plus from + less z ≤ plus z + less from) (sym n.2) own.0)
-        (λ h a k. none_before h a (subst (Below h) (sym e) (subst (λ (z : ℤ). plus h + less z < plus z + less h) n.2 k))))
+        (next_found from entries by n.0 n.1 d (subst (λ (z : ℤ). entries z ≡ some d) (sym n.2) u) (rw n.2 above)
+        (λ h f k. no_entry (λ x. g ≤ℤ x) least h f (λ a. let l = rw n.2 at k in grind (arith, ints))))
       where
         shown : (t : Bool) {o : Option Float} → cond t o none ≡ some d → o ≡ some d
         shown true u = u
@@ -282,8 +216,8 @@ module _ (by : GroupBy) (c : ℕ) (from : ℤ) (cells : List ℕ) (ds : List Flo
 
     -- or the channel has none
     pub entry_lost : entries g ≡ none → none ≡ first_entry from entries (groups by)
-    entry_lost u = next_none from entries by (λ h a. lost b u h)
+    entry_lost u = next_none from entries by (λ h f. lost b u h)
       where
         lost : (t : Bool) → cond t (highest by c g (records_of cells ds)) none ≡ none → (h : ℤ) → cond t (highest by c h (records_of cells ds)) none ≡ none
-        lost true u h = absurd (own.1 u)
+        lost true u h = absurd (All-contains (λ x. highest by c x (records_of cells ds) ≡ none → ⊥) listed g (listed_seen by c from cells ds (omega (arith, long))) one u)
         lost false u h = refl

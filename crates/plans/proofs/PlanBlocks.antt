@@ -1,18 +1,15 @@
 -- A plan model as it lies in memory: what its detunings are read as, and the model of a plan that was made. Assumes nothing.
-use mathlib.Core.Path.{◌≡◌, refl, sym, ap, ◌∙◌, subst}
+use mathlib.Core.Path.{◌≡◌, refl, sym, ap, ◌∙◌}
 use mathlib.Core.Bool.{Bool, true, false, cond}
 use mathlib.Core.List.{List, [], ◌∷◌, map}
 use mathlib.Core.Option.{Option, none}
-use Prim.Native.Nat.{ℕ, zero, suc, ◌<◌, ◌≤◌, ◌*◌}
-use native.Mathlib.Nat.{mul-pos, zero-mul}
-use native.Mathlib.Omega.{arith}
-use borrow.Author.Tests.{lt-ltb}
-use lib.Dec.{T, ltb, ltb→lt}
-use lib.Ieee.{Float, nan, inf, fin, binary64, is_nan, of_bits, lt, up, down}
-use lib.Ieee.Fits.{up_pos}
+use Prim.Native.Nat.{ℕ, ◌<◌, ◌≤◌}
+use lib.Dec.{T, ltb}
+use lib.Ieee.{Float, nan, inf, fin, is_nan, of_bits}
 use lib.Ieee.Positive.{positive}
 use lib.ListN.{length, get_or, length-map}
 use Rattle.std.specs.Float.{NotNan}
+use Rattle.std.proofs.lemmas.List.{get_or-map}
 use Rattle.channels.specs.Lists.{Each}
 use Rattle.arithmetic.specs.Outcome.{value}
 use Rattle.plans.specs.declared.aot.GroupBy.{GroupBy}
@@ -25,16 +22,6 @@ use Rattle.plans.proofs.Records.{records_at_lem, records_long}
 use Rattle.plans.proofs.Models.{same_model, AllOut, no_keys, no_detunings, planned_tuned}
 use Rattle.plans.proofs.Held.{found, detuning_entry}
 
--- zero is below what is above zero
-pub zero_below : (d : Float) → T (positive d) → lt (of_bits binary64 0) d ≡ true
-unfolding of_bits lt
-zero_below nan p = absurd p
-zero_below (inf s) p = absurd p
-zero_below (fin true m e) p = absurd p
-zero_below (fin false m e) p =
-    lt-ltb (0 * down e) (m * up e * 1)
-    (subst (λ (n : ℕ). n < m * up e * 1) (sym (zero-mul (down e))) (mul-pos (mul-pos (ltb→lt 0 m p) (up_pos e)) (omega arith)))
-
 -- ---- detunings as they are read
 
 pub detuning_kept : (d : Float) → T (positive d) → detuning_of d ≡ d
@@ -42,11 +29,6 @@ unfolding detuning_of is_nan
 detuning_kept nan p = absurd p
 detuning_kept (inf s) p = absurd p
 detuning_kept (fin s m e) p = refl
-
-get_or-map : {A B : Type 0} (f : A → B) (l : List A) (i : ℕ) (a : A) (b : B) → i < length l → get_or (map f l) i b ≡ f (get_or l i a)
-get_or-map f [] i a b h = absurd (let z : ⊥ = omega arith in z)
-get_or-map f (x ∷ l) zero a b h = refl
-get_or-map f (x ∷ l) (suc i) a b h = get_or-map f l i a b (omega arith)
 
 -- those of lines are read as they are
 pub lines_kept : (ds : List Float) (l : List Line) → Each (λ (x : Line). x.key < length ds) l → Each (λ (x : Line). T (positive x.detuning)) l

@@ -22,15 +22,17 @@ use Rattle.plans.specs.PlanInternal.{Accepted}
 use Rattle.channels.proofs.ListLaws.{outcome, passed, failed, Each-keep, Pairwise, Pairwise-keep}
 use Rattle.plans.proofs.Rising.{UpTo, Each-rising}
 use Rattle.plans.proofs.Plan.{channel, sorted}
+use Rattle.std.proofs.Math.Option.{none-ne-some}
+use Rattle.plans.proofs.Models.{planned_by}
 use Rattle.plans.proofs.Carried.{last_of, heard, entry_is, no_entry, largest}
 
 module _ (kind : GroupBy) (lines : List Line) (ok : Accepted lines) where
-  heard_each : (P : Line → Type 0) → Each P lines → (c : ℕ) (g : ℤ) → Each P (heard kind lines c g)
+  pub heard_each : (P : Line → Type 0) → Each P lines → (c : ℕ) (g : ℤ) → Each P (heard kind lines c g)
   heard_each P h c g =
       Each-keep P (λ (l : Line). leb (channel kind lines l.key) c) (keep (of_group kind g) (rising lines))
       (Each-keep P (of_group kind g) (rising lines) (Each-rising P lines h))
 
-  heard_sorted : (c : ℕ) (g : ℤ) → Pairwise UpTo (heard kind lines c g)
+  pub heard_sorted : (c : ℕ) (g : ℤ) → Pairwise UpTo (heard kind lines c g)
   heard_sorted c g =
       Pairwise-keep UpTo (λ (l : Line). leb (channel kind lines l.key) c) (keep (of_group kind g) (rising lines))
       (Pairwise-keep UpTo (of_group kind g) (rising lines) (sorted kind lines ok))
@@ -58,13 +60,8 @@ module _ (kind : GroupBy) (lines : List Line) (ok : Accepted lines) where
 pub planned_each : (m : Model) (lines : List Line) → Accepted lines → (P : Float → Type 0) → Each (λ (l : Line). P l.detuning) lines
     → (c : ℕ) (g : ℤ) (d : Float)
     → (planned m (value lines)).0.detunings c g ≡ some d → P d
-unfolding planned
-planned_each m lines ok P h c g d e = go (leb (count m.group_by lines) (length m.channels)) e
-  where
-    go : (t : Bool) → (cond {A = Model × Answer} t (holding m lines, tuned (count m.group_by lines))
-        (empty m.channels m.group_by, untuned (count m.group_by lines))).0.detunings c g ≡ some d → P d
-    go true e = entry_each m.group_by lines ok P h c g d e
-    go false e = absurd (let z : ◌≡◌ {A = ℕ} 0 1 = cc in omega arith)
+planned_each m lines ok P h c g d =
+    planned_by m lines (λ r. r.0.detunings c g ≡ some d → P d) (λ l e. entry_each m.group_by lines ok P h c g d e) (λ l e. absurd (none-ne-some d e))
 
 pub planned_positive : (m : Model) (lines : List Line) → Accepted lines → (c : ℕ) (g : ℤ) (d : Float) → (planned m (value lines)).0.detunings c g ≡ some d
     → T (positive d)

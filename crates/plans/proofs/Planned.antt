@@ -12,7 +12,6 @@ use lib.ListN.{length, get_or}
 use Rattle.arithmetic.specs.Outcome.{Outcome, value}
 use Rattle.arithmetic.specs.Note.{is_note}
 use Rattle.plans.specs.declared.aot.GroupBy.{GroupBy}
-use Rattle.plans.specs.declared.aot.GroupBy.TheVariants.{Note}
 use Rattle.channels.specs.Lists.{Each, Distinct, member}
 use Rattle.plans.specs.Line.{Line, rising}
 use Rattle.plans.specs.PlanLists.{key_count, keys}
@@ -24,10 +23,8 @@ use Rattle.plans.specs.declared.sorted_keys.SortedKeys.{SortedKeys}
 use Rattle.plans.specs.PlanInternal.{Accepted, Checked, Fine, Holds, Ready, lines_of}
 use Rattle.plans.specs.Plan.{Model, Answer, tuned, untuned, empty, holding, planned, Smallest}
 use Rattle.channels.proofs.ListLaws.{Pairwise, false→T}
-use Rattle.plans.proofs.Rising.{Other, Each-rising, rising_Each, length_rising, rising_sorted, rising_of_sorted, absent}
-use Rattle.plans.proofs.Plan.{different}
+use Rattle.plans.proofs.Rising.{Other, Each-rising, rising_Each, length_rising, rising_sorted, rising_of_sorted, rising_apart, distinct_apart, absent}
 use Rattle.channels.proofs.RecordNumbers.{place_held}
-use Rattle.plans.proofs.SortedKeys.{accepted_few}
 use Rattle.plans.proofs.Models.{same_model}
 use Rattle.plans.proofs.Demand3.{demand_3}
 
@@ -36,9 +33,9 @@ apart_distinct [] h = tt
 apart_distinct (x ∷ l) h = (false→T (absent x l h.0), apart_distinct l h.1)
 
 module _ (lines : List Line) (ok : Accepted lines) where
-  rising_accepted : (kind : GroupBy) → Accepted (rising lines)
-  rising_accepted kind = record {
-    distinct = apart_distinct (rising lines) (different kind lines ok);
+  rising_accepted : Accepted (rising lines)
+  rising_accepted = record {
+    distinct = apart_distinct (rising lines) (rising_apart lines (distinct_apart lines ok.distinct));
     bytes = Each-rising (λ (l : Line). l.key < key_count) lines ok.bytes;
     notes = Each-rising (λ (l : Line). is_note l.note ≡ true) lines ok.notes;
     detunings = Each-rising (λ (l : Line). T (positive l.detuning)) lines ok.detunings;
@@ -72,12 +69,11 @@ absent_key k (x ∷ lines) h = rw h.0 (absent_key k lines h.1)
 -- What the check of the lists holds is a list that the pass takes.
 ready : (s : SortedKeys) (lines : List Line) → Accepted lines → Holds s lines → Ready s
 ready s lines ok h = record {
-  ok = rw h.ordered (rising_accepted lines ok Note);
+  ok = rw h.ordered (rising_accepted lines ok);
   ordered = rw h.ordered (rising_twice lines ok);
   no_other = λ k o.
       place_held (get_or s.records k 0) ∙ h.marked k
       ∙ absent_key k lines (rising_Each (λ (l : Line). eqb l.key k ≡ false) lines (subst (Each (λ (l : Line). eqb l.key k ≡ false)) h.ordered o));
-  few = omega (arith, h.counted, accepted_few lines ok);
   long = h.long;
 }
 
@@ -90,39 +86,28 @@ planned_rising m lines ok =
     λ i. cond (leb (n i) (length m.channels)) (h i, tuned (n i)) (empty m.channels m.group_by, untuned (n i))
 
 -- ---- the check of the lists, and the pass behind it
-module _ (o : Outcome (List Line)) (s : SortedKeys) where
-  pub ready_if : Checked o (Ok tt) s → Ready s
-  ready_if c = go o c
-    where
-      go : (o : Outcome (List Line)) → Checked o (Ok tt) s → Ready s
-      go (value lines) c = ready s lines c.0 c.1
-      go (Outcome.refused k) c = absurd c
+pub ready_if : (o : Outcome (List Line)) (s : SortedKeys) → Checked o (Ok tt) s → Ready s
+ready_if (value lines) s c = ready s lines c.0 c.1
+ready_if (Outcome.refused k) s c = absurd c
 
-  -- lists that are refused
-  pub planned_refused : (m : Model) (r : Refusal) → Checked o (Err r) s → (m, Answer.refused (number r)) ≡ planned m o
-  unfolding planned
-  planned_refused m r c = go o c
-    where
-      go : (o : Outcome (List Line)) → Checked o (Err r) s → (m, Answer.refused (number r)) ≡ planned m o
-      go (value lines) c = absurd c
-      go (Outcome.refused k) c = ap (λ (j : ℕ). (m, Answer.refused j)) (sym c)
+-- lists that are refused
+pub planned_refused : (o : Outcome (List Line)) (s : SortedKeys) (m : Model) (r : Refusal) → Checked o (Err r) s
+    → (m, Answer.refused (number r)) ≡ planned m o
+unfolding planned
+planned_refused (value lines) s m r c = absurd c
+planned_refused (Outcome.refused k) s m r c = ap (λ (j : ℕ). (m, Answer.refused j)) (sym c)
 
-  -- and others: the lines in order are planned as the list is
-  pub planned_lines : (m : Model) → Checked o (Ok tt) s → Accepted (lines_of s) × (planned m (value (lines_of s)) ≡ planned m o)
-  planned_lines m c = go o c
-    where
-      go : (o : Outcome (List Line)) → Checked o (Ok tt) s → Accepted (lines_of s) × (planned m (value (lines_of s)) ≡ planned m o)
-      go (value lines) c = (rw c.1.ordered (rising_accepted lines c.0 m.group_by), rw c.1.ordered (planned_rising m lines c.0))
-      go (Outcome.refused k) c = absurd c
+-- and others: the lines in order are planned as the list is
+pub planned_lines : (o : Outcome (List Line)) (s : SortedKeys) (m : Model) → Checked o (Ok tt) s
+    → Accepted (lines_of s) × (planned m (value (lines_of s)) ≡ planned m o)
+planned_lines (value lines) s m c = (rw c.1.ordered (rising_accepted lines c.0), rw c.1.ordered (planned_rising m lines c.0))
+planned_lines (Outcome.refused k) s m c = absurd c
 
-  -- what was checked is accepted
-  pub fine : (r : Result (Unit {0}) Refusal) → Checked o r s → Fine o
-  fine r c = go o r c
-    where
-      go : (o : Outcome (List Line)) (r : Result (Unit {0}) Refusal) → Checked o r s → Fine o
-      go (value lines) (Ok u) c = c.0
-      go (value lines) (Err e) c = absurd c
-      go (Outcome.refused k) r c = tt
+-- what was checked is accepted
+pub fine : (o : Outcome (List Line)) (s : SortedKeys) (r : Result (Unit {0}) Refusal) → Checked o r s → Fine o
+fine (value lines) s (Ok u) c = c.0
+fine (value lines) s (Err e) c = absurd c
+fine (Outcome.refused k) s r c = tt
 
 -- ---- what the planning of lists comes to meets demand 3
 pub plan_smallest : (m : Model) (o : Outcome (List Line)) (r : Model × Answer) → Fine o → r ≡ planned m o → Smallest m o r

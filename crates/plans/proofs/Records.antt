@@ -1,9 +1,10 @@
 -- Records by key: what the scans over them find. Assumes nothing.
 use mathlib.Core.Path.{◌≡◌, refl, sym, ap, ◌∙◌}
 use mathlib.Core.Bool.{Bool, true, false, ◌&&◌, cond}
+use Rattle.std.proofs.Math.Bool.{and-false}
 use mathlib.Core.List.{List, [], ◌∷◌}
 use mathlib.Core.Option.{Option, none, some}
-use Prim.Native.Nat.{ℕ, zero, suc, ◌-◌, ◌/◌, ◌<◌, ◌≤◌}
+use Prim.Native.Nat.{ℕ, zero, suc, ◌/◌, ◌<◌, ◌≤◌}
 use native.Mathlib.Omega.{arith}
 use borrow.Author.Tests.{le-leb, lt-leb}
 use lib.IntN.{ℤ}
@@ -11,13 +12,11 @@ use lib.Dec.{leb}
 use lib.Ieee.{Float, nan}
 use lib.Ieee.Fits.{and_r}
 use Rattle.arithmetic.specs.Note.{is_note}
-use lib.ListN.{length, get_or, drop, drop_of_length-le}
-use lib.Seq.{drop-cons}
-use Rattle.channels.specs.Keys.{key_count}
+use lib.ListN.{length, get_or}
 use Rattle.channels.specs.Lists.{Each}
 use Rattle.plans.specs.declared.aot.GroupBy.{GroupBy}
 use Rattle.plans.specs.Line.{group, same}
-use Rattle.plans.specs.Plan.{KeyRecord, nobody, is_in, record_of, records_of, key_in, counts, highest, larger, access_answer}
+use Rattle.plans.specs.Plan.{KeyRecord, nobody, is_in, record_of, records_of, key_in, counts, access_answer}
 use Rattle.channels.specs.Places.{Place, note_of, channel_of, place_of, place, place_in}
 use Rattle.channels.proofs.RecordNumbers.{place_found, place_parts}
 use Rattle.channels.specs.declared.keys.Place as C
@@ -94,30 +93,6 @@ module _ (cell : ℕ) (r : Optional C.Place) (e : place r ≡ place_of cell) whe
   unfolding place
   noted_at p h = sym (place_parts cell (place_in p) (sym e ∙ ap place h)).1
 
--- ---- the largest detuning, from an index on
-module _ (by : GroupBy) (c : ℕ) (g : ℤ) (rs : List KeyRecord) (i : ℕ) (d : KeyRecord) (h : 0 < i) (l : i ≤ length rs) where
-  before_here : drop (i - 1) rs ≡ get_or rs (i - 1) d ∷ drop i rs
-  before_here =
-      let e : suc (i - 1) ≡ i = omega arith in
-      drop-cons rs (i - 1) d (omega arith) ∙ ap (λ (j : ℕ). get_or rs (i - 1) d ∷ drop j rs) e
-
-  pub highest_yes : counts by c g (get_or rs (i - 1) d) ≡ true
-      → larger (get_or rs (i - 1) d).detuning (highest by c g (drop i rs)) ≡ highest by c g (drop (i - 1) rs)
-  unfolding highest
-  highest_yes e = rw (before_here, e)
-
-  pub highest_no : counts by c g (get_or rs (i - 1) d) ≡ false → highest by c g (drop i rs) ≡ highest by c g (drop (i - 1) rs)
-  unfolding highest
-  highest_no e = rw (before_here, e)
-
-pub highest_none : (by : GroupBy) (c : ℕ) (g : ℤ) (rs : List KeyRecord) → length rs ≤ key_count → none ≡ highest by c g (drop key_count rs)
-unfolding highest
-highest_none by c g rs h = rw (drop_of_length-le rs {i = key_count} h)
-
-and_no : (a : Bool) → (a && false) ≡ false
-and_no true = refl
-and_no false = refl
-
 -- a record that is up to a channel counts for its group, and for no other
 module _ (by : GroupBy) (c : ℕ) (g : ℤ) (r : KeyRecord) where
   pub counts_not : (leb r.channel c && is_in r) ≡ false → counts by c g r ≡ false
@@ -132,7 +107,7 @@ module _ (by : GroupBy) (c : ℕ) (g : ℤ) (r : KeyRecord) where
   unfolding counts
   counts_other f = elim (outcome (same (group by r.note) g)) [
     | passed e ↦ absurd (f (same_eq (group by r.note) g (true→T e)))
-    | failed e ↦ rw e (and_no (leb r.channel c && is_in r))
+    | failed e ↦ rw e (and-false (leb r.channel c && is_in r))
   ]
 
 -- a record in the plan has a note
@@ -149,7 +124,7 @@ module _ (by : GroupBy) (c cell : ℕ) where
       go : (b : Bool) → ◌≡◌ {A = Option Place} none (cond b (some (record { channel = channel_of (cell / 1024); note = note_of cell })) none)
           → None ≡ cond (leb (channel_of (cell / 1024)) c && b) (Some (group by (note_of cell))) None
       go true e = absurd (let z : ◌≡◌ {A = ℕ} 0 1 = cc in omega arith)
-      go false e = rw (and_no (leb (channel_of (cell / 1024)) c))
+      go false e = rw (and-false (leb (channel_of (cell / 1024)) c))
 
   module _ (p : C.Place) (e : place (Some p) ≡ place_of cell) where
     parts : (channel_of (cell / 1024) ≡ p.channel) × (note_of cell ≡ p.note.number) × (is_note p.note.number ≡ true)

@@ -98,23 +98,29 @@ rising_sorted (x ∷ l) h = insert_sorted x (rising l) h.0 (Each-rising Positive
 abbrev pub Other : Line → Line → Type 0
 Other x y = eqb x.key y.key ≡ false
 
-pub other_sym : (x y : Line) → Other x y → Other y x
-other_sym x y e = elim (outcome (eqb y.key x.key)) [
-  | passed u ↦ absurd (not_false e (subst (λ (k : ℕ). T (eqb x.key k)) (sym (eqb→eq y.key x.key (true→T u))) (eqb_refl x.key)))
+pub eqb_other : (a b : ℕ) → eqb a b ≡ false → eqb b a ≡ false
+eqb_other a b e = elim (outcome (eqb b a)) [
+  | passed u ↦ absurd (not_false e (subst (λ (k : ℕ). T (eqb a k)) (sym (eqb→eq b a (true→T u))) (eqb_refl a)))
   | failed u ↦ u
 ]
+
+pub other_sym : (x y : Line) → Other x y → Other y x
+other_sym x y e = eqb_other x.key y.key e
 
 -- a key that is none of the list's
 pub absent : (x : Line) (l : List Line) → Each (Other x) l → member x.key (keys l) ≡ false
 absent x [] h = refl
 absent x (y ∷ l) h = rw (other_sym x y h.0) (absent x l h.1)
 
-pub others : (x : Line) (l : List Line) → member x.key (keys l) ≡ false → Each (Other x) l
-others x [] h = tt
-others x (y ∷ l) h = elim (outcome (eqb y.key x.key)) [
-  | passed e ↦ absurd (not_false h (or_left (eqb y.key x.key) (member x.key (keys l)) (true→T e)))
-  | failed e ↦ (other_sym y x e, others x l (rw e at h))
+pub others_of : (k : ℕ) (lines : List Line) → member k (keys lines) ≡ false → Each (λ (l : Line). eqb l.key k ≡ false) lines
+others_of k [] h = tt
+others_of k (x ∷ lines) h = elim (outcome (eqb x.key k)) [
+  | passed e ↦ absurd (not_false h (or_left (eqb x.key k) (member k (keys lines)) (true→T e)))
+  | failed e ↦ (e, others_of k lines (rw e at h))
 ]
+
+pub others : (x : Line) (l : List Line) → member x.key (keys l) ≡ false → Each (Other x) l
+others x l h = Each-map (λ y e. eqb_other y.key x.key e) l (others_of x.key l h)
 
 pub distinct_apart : (l : List Line) → Distinct (keys l) → Pairwise Other l
 distinct_apart [] h = tt

@@ -14,8 +14,8 @@ use Rattle.plans.specs.Line.{Line, rising}
 use Rattle.plans.specs.PlanLists.{keys}
 use Rattle.plans.specs.Walk.{here, later, channels, walk, note_of, seat_from, seat}
 use Rattle.plans.specs.Placing.{Found}
-use Rattle.channels.proofs.ListLaws.{outcome, passed, failed, T→true, T→false, true→T, not_false, or_left, Each-map, Pairwise, Pairwise-keep, own_image}
-use Rattle.plans.proofs.Rising.{Other, Each-rising, rising_Each}
+use Rattle.channels.proofs.ListLaws.{outcome, passed, failed, T→true, T→false, true→T, Each-map, Pairwise, Pairwise-keep, own_image}
+use Rattle.plans.proofs.Rising.{Other, Each-rising, others_of, rising_Each}
 use Rattle.plans.proofs.Sweep.{number_of, here_is, later_is, fewer, both_Each, Each-here, Each-later, Pairwise-later}
 use Rattle.plans.specs.PlanInternal.{Accepted}
 use Rattle.plans.proofs.Plan.{channel, different, enough}
@@ -47,14 +47,6 @@ no_note : (k : ℕ) (t : List Line) → Each (λ (l : Line). eqb l.key k ≡ fal
 unfolding note_of
 no_note k [] h = refl
 no_note k (x ∷ t) h = rw h.0 (no_note k t h.1)
-
-absent_note : (k : ℕ) (t : List Line) → member k (keys t) ≡ false → note_of k t ≡ none
-unfolding note_of
-absent_note k [] h = refl
-absent_note k (x ∷ t) h = elim (outcome (eqb x.key k)) [
-  | passed e ↦ absurd (not_false h (or_left (eqb x.key k) (member k (keys t)) (true→T e)))
-  | failed e ↦ rw e (absent_note k t (rw e at h))
-]
 
 -- ---- on the channels
 module _ (kind : GroupBy) where
@@ -94,7 +86,7 @@ module _ (kind : GroupBy) where
       left t ts (l ∷ v) m e =
           let f = T→false (member l.key (keys t)) (true→T m.0) in
           let s : suc c + number_of l.key ts ≡ c + suc (number_of l.key ts) = omega arith in
-          (rw (absent_note l.key t f, f) (e.0 ∙ ap (λ (n : ℕ). some (n, l.note)) s), left t ts v m.1 e.1)
+          (rw (no_note l.key t (others_of l.key t f), f) (e.0 ∙ ap (λ (n : ℕ). some (n, l.note)) s), left t ts v m.1 e.1)
 
   -- and a key that does not wait has none
   pub no_seat : (k n c : ℕ) (w : List Line) → Each (λ (l : Line). eqb l.key k ≡ false) w → seat_from k c (channels kind n w) ≡ none

@@ -1,16 +1,18 @@
 -- The keys in order, with one line more: they hold the list's lines, and a list that meets no refusal has at most one for each key. Assumes nothing.
 use mathlib.Core.Path.{◌≡◌, refl, sym, ap, ◌∙◌, subst}
-use mathlib.Core.Bool.{Bool, true, false, ◌||◌, or-false}
+use mathlib.Core.Bool.{true, false, ◌||◌, or-false}
+use Rattle.std.proofs.Math.Bool.{or-true}
 use mathlib.Core.List.{List, [], ◌∷◌, ◌++◌, map}
 use mathlib.Core.Option.{some}
-use Prim.Native.Nat.{ℕ, zero, suc, ◌+◌, ◌<◌, ◌≤◌}
+use Prim.Native.Nat.{ℕ, zero, suc, ◌<◌, ◌≤◌}
 use native.Mathlib.Omega.{arith}
 use lib.Dec.{T, eqb, eqb→eq, eqb_refl}
 use lib.Ieee.{Float, nan, binary64, fits, le}
-use lib.Ieee.Positive.{positive}
-use lib.ListN.{length, get_or, take, drop, set, replicate, length-replicate, length-map, length-set, length-append}
+use lib.ListN.{length, get_or, set, replicate, length-replicate, length-map, length-set, length-append}
+use Rattle.std.specs.List.{insert}
 use lib.Seq.{get_or-set_same, get_or-set_other}
 use Rattle.arithmetic.specs.Note.{is_note}
+use Rattle.arrayvec.specs.ArrayVec.{ArrayVec}
 use Rattle.channels.specs.Lists.{Each, member, Distinct}
 use Rattle.plans.specs.Line.{Line, rising}
 use Rattle.plans.specs.PlanLists.{key_count, keys}
@@ -20,10 +22,7 @@ use Rattle.plans.specs.PlanInternal.{Accepted, Holds, Rises, line_at, lines_of, 
 use Rattle.channels.proofs.ListLaws.{outcome, passed, failed, true→T, T→false, false→T, not_false, or_left, Each-map, Each-image, at_member, pigeonhole}
 use Rattle.channels.proofs.ListLaws.{below, below_length, below_member}
 use Rattle.channels.proofs.RecordNumbers.{place_parts}
-use Rattle.plans.proofs.Rising.{Sorted, append, Each-rising, rising_sorted, rising_snoc}
-
-abbrev pub Positive : Line → Type 0
-Positive l = T (positive l.detuning)
+use Rattle.plans.proofs.Rising.{Positive, Sorted, eqb_other, others_of, append, Each-rising, length_rising, rising_sorted, rising_snoc}
 
 -- ---- lists with one element more
 pub Each-snoc : {A : Type 0} (P : A → Type 0) (l : List A) (x : A) → Each P l → P x → Each P (l ++ (x ∷ []))
@@ -39,16 +38,10 @@ distinct_snoc [] m d h = (tt, tt)
 distinct_snoc (n ∷ l) m d h = elim (outcome (eqb n m)) [
   | passed e ↦ absurd (not_false h (or_left (eqb n m) (member m l) (true→T e)))
   | failed e ↦ (
-    false→T (member_snoc n m l ∙ rw (T→false (member n l) d.0) (other e)),
+    false→T (member_snoc n m l ∙ rw (T→false (member n l) d.0) (eqb_other n m e)),
     distinct_snoc l m d.1 (rw e at h),
   )
 ]
-  where
-    other : eqb n m ≡ false → eqb m n ≡ false
-    other e = elim (outcome (eqb m n)) [
-      | passed u ↦ absurd (not_false e (subst (λ (j : ℕ). T (eqb n j)) (sym (eqb→eq m n (true→T u))) (eqb_refl n)))
-      | failed u ↦ u
-    ]
 
 pub keys_snoc : (lines : List Line) (x : Line) → keys (lines ++ (x ∷ [])) ≡ keys lines ++ (x.key ∷ [])
 keys_snoc [] x = refl
@@ -83,7 +76,7 @@ module _ (cells : List ℕ) (ds : List Float) where
   at k = line_at cells ds k
 
   put_is : (k : ℕ) (xs : List ℕ) → map at (put_in ds (get_or ds k nan) k xs) ≡ append (at k) (map at xs)
-  unfolding put_in before append
+  unfolding before append
   put_is k [] = refl
   put_is k (y ∷ xs) = elim (outcome (le (get_or ds y nan) (get_or ds k nan))) [
     | passed u ↦ rw u (ap (λ (l : List Line). at y ∷ l) (put_is k xs))
@@ -117,35 +110,26 @@ module _ (cells : List ℕ) (ds : List Float) (k cell : ℕ) (d : Float) where
 -- nor does the place among other keys
 before_kept : (cells : List ℕ) (ds : List Float) (k : ℕ) (d : Float) (xs : List ℕ) → Each (λ (l : Line). eqb l.key k ≡ false) (map (line_at cells ds) xs)
     → put_in ds d k xs ≡ put_in (set ds k d) d k xs
-unfolding put_in before
-before_kept cells ds k d xs h = ap (λ (b : ℕ). take b xs ++ (k ∷ drop b xs)) (same xs h)
+unfolding before
+before_kept cells ds k d xs h = ap (λ b. insert xs b k) (same xs h)
   where
     same : (xs : List ℕ) → Each (λ (l : Line). eqb l.key k ≡ false) (map (line_at cells ds) xs) → before ds d xs ≡ before (set ds k d) d xs
     same [] h = refl
     same (y ∷ xs) h = rw (get_or-set_other ds k y d nan (differs y k h.0), same xs h.1)
 
-pub others_of : (k : ℕ) (lines : List Line) → member k (keys lines) ≡ false → Each (λ (l : Line). eqb l.key k ≡ false) lines
-others_of k [] h = tt
-others_of k (x ∷ lines) h = elim (outcome (eqb x.key k)) [
-  | passed e ↦ absurd (not_false h (or_left (eqb x.key k) (member k (keys lines)) (true→T e)))
-  | failed e ↦ (e, others_of k lines (rw e at h))
-]
-
 -- no line
-pub zeros_at : (n k : ℕ) → get_or {A = ℕ} (replicate n 0) k 0 ≡ 0
-zeros_at zero k = refl
-zeros_at (suc n) zero = refl
-zeros_at (suc n) (suc k) = zeros_at n k
+pub replicated_at : {A : Type 0} (a : A) (n k : ℕ) → get_or (replicate n a) k a ≡ a
+replicated_at a zero k = refl
+replicated_at a (suc n) zero = refl
+replicated_at a (suc n) (suc k) = replicated_at a n k
 
-pub holds_none : (k : ℕ) (d : Float)
-    → Holds (record { order = replicate key_count k; len = 0; records = replicate key_count 0; detunings = replicate key_count d }) []
+pub holds_none : (order : ArrayVec ℕ) (d : Float) → order.items ≡ []
+    → Holds (record { order = order; records = replicate key_count 0; detunings = replicate key_count d }) []
 unfolding lines_of rising
-holds_none k d = record {
-  ordered = refl;
-  counted = refl;
-  marked = λ k. ap (λ (c : ℕ). is_held (place_of c)) (zeros_at key_count k) ∙ none_held;
+holds_none order d e = record {
+  ordered = rw e;
+  marked = λ k. ap (λ (c : ℕ). is_held (place_of c)) (replicated_at 0 key_count k) ∙ none_held;
   long = record {
-    order = length-replicate key_count k;
     records = length-replicate {A = ℕ} key_count 0;
     detunings = length-replicate key_count d;
   };
@@ -155,24 +139,26 @@ holds_none k d = record {
     none_held = unfold is_held place_of note_of in refl
 
 -- the keys in order have detunings that rise
-pub rises_in : (s : SortedKeys) (lines : List Line) → Holds s lines → Accepted lines → Rises s.detunings (take s.len s.order)
+pub rises_in : (s : SortedKeys) (lines : List Line) → Holds s lines → Accepted lines → Rises s.detunings s.order.items
 unfolding lines_of
 rises_in s lines h ok =
-    sorted_rises s.records s.detunings (take s.len s.order) (rw h.ordered (Each-rising Positive lines ok.detunings))
+    sorted_rises s.records s.detunings s.order.items (rw h.ordered (Each-rising Positive lines ok.detunings))
     (rw h.ordered (rising_sorted lines ok.detunings))
 
-pub few_in : (s : SortedKeys) (lines : List Line) → Holds s lines → Accepted lines → s.len ≤ key_count
-few_in s lines h ok = omega (arith, h.counted, accepted_few lines ok)
+-- there are as many as lines
+held_count : (s : SortedKeys) (lines : List Line) → Holds s lines → length s.order.items ≡ length lines
+unfolding lines_of
+held_count s lines h = sym (length-map s.order.items (line_at s.records s.detunings)) ∙ ap length h.ordered ∙ length_rising lines
 
 -- there is room for one key more
-pub room_in : (s : SortedKeys) (lines : List Line) → Holds s lines → Accepted lines → (x : Line) → Accepted (lines ++ (x ∷ [])) → s.len < key_count
-room_in s lines h ok x more = omega (arith, h.counted, accepted_few (lines ++ (x ∷ [])) more, length-append lines (x ∷ []))
+pub room_in : (s : SortedKeys) (lines : List Line) → Holds s lines → Accepted lines → (x : Line) → Accepted (lines ++ (x ∷ [])) → length s.order.items < key_count
+room_in s lines h ok x more = omega (arith, held_count s lines h, accepted_few (lines ++ (x ∷ [])) more, length-append lines (x ∷ []))
 
 -- one key more: `cell` is the record of the line x
-module _ (s : SortedKeys) (order : List ℕ) (cell : ℕ) (x : Line) (lines : List Line) (h : Holds s lines) (ok : Accepted lines)
+module _ (s : SortedKeys) (order : ArrayVec ℕ) (cell : ℕ) (x : Line) (lines : List Line) (h : Holds s lines) (ok : Accepted lines)
     (new : member x.key (keys lines) ≡ false) (byte : x.key < key_count) (above : Positive x)
-    (found : place_of cell ≡ some (record { channel = 0; note = x.note })) (long : length order ≡ key_count)
-    (put : take (s.len + 1) order ≡ put_in s.detunings x.detuning x.key (take s.len s.order)) where
+    (found : place_of cell ≡ some (record { channel = 0; note = x.note }))
+    (put : order.items ≡ put_in s.detunings x.detuning x.key s.order.items) where
   abbrev k : ℕ
   k = x.key
 
@@ -193,11 +179,11 @@ module _ (s : SortedKeys) (order : List ℕ) (cell : ℕ) (x : Line) (lines : Li
     (place_parts cell (record { channel = 0; note = x.note }) found).1,
   )
 
-  ordered_with : map after (take (s.len + 1) order) ≡ rising (lines ++ (x ∷ []))
+  ordered_with : map after order.items ≡ rising (lines ++ (x ∷ []))
   unfolding lines_of
   ordered_with =
       let d = x.detuning in
-      let ks = take s.len s.order in
+      let ks = s.order.items in
       let e = get_or-set_same s.detunings k d nan (omega (arith, h.long.detunings)) in
       let others = rw (sym h.ordered) at (Each-rising (λ (l : Line). eqb l.key k ≡ false) lines (others_of k lines new)) in
       let kept : map after ks ≡ rising lines = others_kept s.records s.detunings k cell d ks others ∙ h.ordered in
@@ -215,25 +201,19 @@ module _ (s : SortedKeys) (order : List ℕ) (cell : ℕ) (x : Line) (lines : Li
     | passed e ↦
         subst (λ (i : ℕ). is_held (place_of (get_or cells i 0)) ≡ true) (eqb→eq k j (true→T e))
         (rw (get_or-set_same s.records k cell 0 (omega (arith, h.long.records))) held)
-        ∙ sym (rw (keys_snoc lines x, member_snoc j k (keys lines), e) (or_yes (member j (keys lines))))
+        ∙ sym (rw (keys_snoc lines x, member_snoc j k (keys lines), e) (or-true (member j (keys lines))))
     | failed e ↦
         ap (λ (c : ℕ). is_held (place_of c)) (get_or-set_other s.records k j cell 0 (λ u. not_false e (subst (λ (i : ℕ). T (eqb k i)) (sym u) (eqb_refl k))))
         ∙ h.marked j
         ∙ sym (rw (keys_snoc lines x, member_snoc j k (keys lines), e) (or-false (member j (keys lines))))
   ]
-    where
-      or_yes : (b : Bool) → b || true ≡ true
-      or_yes true = refl
-      or_yes false = refl
 
-  pub holds_more : Holds (record { order = order; len = s.len + 1; records = cells; detunings = ds }) (lines ++ (x ∷ []))
+  pub holds_more : Holds (record { order = order; records = cells; detunings = ds }) (lines ++ (x ∷ []))
   unfolding lines_of
   holds_more = record {
     ordered = ordered_with;
-    counted = omega (arith, h.counted, length-append lines (x ∷ []));
     marked = marked_with;
     long = record {
-      order = long;
       records = length-set s.records k cell ∙ h.long.records;
       detunings = length-set s.detunings k x.detuning ∙ h.long.detunings;
     };

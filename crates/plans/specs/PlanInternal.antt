@@ -1,8 +1,9 @@
 -- What the private functions of a plan yield. No public contract cites it. Assumes nothing.
-use Rattle.std.specs.Prelude.{◌≡◌, true, false, cond, ◌&&◌, List, [], ◌∷◌, ◌++◌, map, ℕ, zero, suc, ◌+◌, ◌-◌, ◌<◌, ◌≤◌, T, eqb, leb, ℤ, pos, negsuc, length, get_or, take, drop, Float, Result, Ok, Err}
-use Rattle.std.specs.Prelude.{Option as Optional, Some, None, ◌/◌}
+use Rattle.std.specs.Prelude.{◌≡◌, true, false, cond, ◌&&◌, List, [], ◌∷◌, map, ℕ, zero, suc, ◌+◌, ◌-◌, ◌<◌, ◌≤◌, T, eqb, leb, ℤ, pos, negsuc, length, get_or, Float, Result, Ok, Err}
+use Rattle.std.specs.Prelude.{Option as Optional, Some, None, ◌/◌, insert, filter, All, Contains, ◌≤ℤ◌}
+use Rattle.std.specs.List.{filter_map}
 use Rattle.std.proofs.Math.Option.{Option, none, some}
-use Rattle.std.specs.Int.Signed.{le_z, lt_z}
+use Rattle.std.specs.Int.Signed.{le_z}
 use Rattle.std.specs.Float.{nan, binary64}
 use Rattle.std.specs.Float.Ieee.{fits, le, lt}
 use Rattle.std.specs.Float.Ieee.Positive.{positive}
@@ -40,18 +41,16 @@ line_at cells ds k = record { key = k; note = note_of (get_or cells k 0); detuni
 
 -- the lines of the keys in order
 unfoldable pub lines_of : SortedKeys → List Line
-lines_of s = map (line_at s.records s.detunings) (take s.len s.order)
+lines_of s = map (line_at s.records s.detunings) s.order.items
 
 -- each table has a place for each key
 pub record Long (s : SortedKeys) : Type 0 where
-  pub order : length s.order ≡ key_count
   pub records : length s.records ≡ key_count
   pub detunings : length s.detunings ≡ key_count
 
 -- the keys are those of these lines, in order, and no other key has a note
 pub record Holds (s : SortedKeys) (lines : List Line) : Type 0 where
   pub ordered : lines_of s ≡ rising lines
-  pub counted : s.len ≡ length lines
   pub marked : (k : ℕ) → is_held (place_of (get_or s.records k 0)) ≡ member k (keys lines)
   pub long : Long s
 
@@ -81,11 +80,11 @@ before ds d [] = zero
 before ds d (k ∷ ks) = let r = before ds d ks in cond (le (get_or ds k nan) d) (suc r) zero
 
 abbrev pub before_in : SortedKeys → Float → ℕ
-before_in s d = before s.detunings d (take s.len s.order)
+before_in s d = before s.detunings d s.order.items
 
 -- the keys, and one more with the detuning d at its place
-unfoldable pub put_in : List Float → Float → ℕ → List ℕ → List ℕ
-put_in ds d k ks = let b = before ds d ks in take b ks ++ (k ∷ drop b ks)
+abbrev pub put_in : List Float → Float → ℕ → List ℕ → List ℕ
+put_in ds d k ks = insert ks (before ds d ks) k
 
 -- ---- the pass
 
@@ -104,7 +103,6 @@ pub record Ready (s : SortedKeys) : Type 0 where
   pub ok : Accepted (lines_of s)
   pub ordered : rising (lines_of s) ≡ lines_of s
   pub no_other : (k : ℕ) → Each (λ (l : Line). eqb l.key k ≡ false) (lines_of s) → is_note (note_of (get_or s.records k 0)) ≡ false
-  pub few : s.len ≤ key_count
   pub long : Long s
 
 -- the records have each key of the list where the walk seats it, if the channels are no more than sixteen, and no other key; the count is the walk's
@@ -127,13 +125,11 @@ raised (some other) d = cond (lt d other) (some other) (some d)
 unfoldable pub group_up_to : GroupBy → ℕ → ℕ → Optional ℤ
 group_up_to by c cell = cond (leb (channel_of (cell / 1024)) c && is_note (note_of cell)) (Some (group by (note_of cell))) None
 
--- a group, if it is not below `from` and lower than the least so far; else that one
-abbrev pub lower : ℤ → Optional ℤ → Optional ℤ → Optional ℤ
-lower from None least = least
-lower from (Some g) None = cond (le_z from g) (Some g) None
-lower from (Some g) (Some least) = cond (le_z from g && lt_z g least) (Some g) (Some least)
+-- the groups of these cells up to channel c that are not below `from`
+abbrev pub groups_from : GroupBy → ℕ → ℤ → List ℕ → List ℤ
+groups_from by c from cells = filter (le_z from) (filter_map (group_up_to by c) cells)
 
--- the least group of these cells, not below `from`
-unfoldable pub least_from : GroupBy → ℕ → ℤ → Optional ℤ → List ℕ → Optional ℤ
-least_from by c from least [] = least
-least_from by c from least (cell ∷ cells) = least_from by c from (lower from (group_up_to by c cell) least) cells
+-- g is the least of these, if there is one
+abbrev pub IsLeast : List ℤ → Optional ℤ → Type 0
+IsLeast gs None = gs ≡ []
+IsLeast gs (Some g) = Contains gs g × All (λ h. g ≤ℤ h) gs

@@ -5,7 +5,7 @@ ghost use Rattle.arithmetic.specs.Answers.{optional, outcome_by};
 ghost use Rattle.channels.specs.ChannelList.{entries};
 ghost use Rattle.plans.specs.PlanBlock.{detuning_of, group_by_of};
 ghost use Rattle.plans.specs.Plan.{Measurable, Smallest, Tunes, access_answer, empty, next_rule, open_rule, plan_answer, plan_of, planned};
-ghost use Rattle.plans.specs.PlanInternal.{group_up_to, least_from, lower, raised};
+ghost use Rattle.plans.specs.PlanInternal.{IsLeast, group_up_to, groups_from, raised};
 
 use crate::lists::TuningLists;
 use crate::placing::{group_of, place_keys};
@@ -26,6 +26,7 @@ pub enum GroupBy {
 impl From<u16> for GroupBy {
     ghost from_gives = { λ number group. group ≡ group_by_of number };
 
+    #[tactic(auto, unfolding(crate::specs::PlanBlock::group_by_of))]
     fn from(number: u16) -> GroupBy {
         match number {
             1 => GroupBy::NoteLetter,
@@ -35,7 +36,7 @@ impl From<u16> for GroupBy {
     }
 }
 
-// What a tuning that is not refused comes to.
+// What a tuning that is not refused comes to. It is no Result, since a plan that needs more channels than there are is no error but an answer.
 #[derive(Clone, Copy, Debug, PartialEq, Eq)]
 pub enum Planned {
     // How many channels the plan uses.
@@ -48,7 +49,7 @@ pub enum Planned {
 #[repr(C)]
 #[derive(Clone, Copy)]
 pub struct AotTuningModel {
-    // By key, where it is in the plan, and its detuning.
+    // By key, where it is in the plan, and its detuning. They are two arrays, since they lie so in C's memory, without padding.
     records: [u16; KEYS],
     detunings: [f64; KEYS],
     channels: ChannelList,
@@ -74,6 +75,7 @@ impl AotTuningModel {
 
     // A model with no keys, for the channels of a list. Refuses, entry by entry, 6 a channel over 15 and 7 one that came before; the model has no channels then.
     // Example: AotTuningModel::open([0, 1], Channel) is channels listed 2
+    #[tactic(auto, unfolding(crate::specs::Plan::open_rule))]
     pub fn open(
         channels: &[u8],
         group_by: GroupBy,
@@ -125,6 +127,7 @@ impl AotTuningModel {
     }
 
     // How many channels the plan uses, and without a plan how many there are.
+    #[tactic(auto, unfolding(crate::specs::Plan::plan_of))]
     pub fn num_channels(&self) -> u16
         ensures { result ≡ (plan_of self.now).num_channels }
     {
@@ -132,6 +135,7 @@ impl AotTuningModel {
     }
 
     // Whether there is a plan.
+    #[tactic(auto, unfolding(crate::specs::Plan::plan_of))]
     pub fn tuned(&self) -> bool
         ensures { result ≡ (plan_of self.now).tuned }
     {
@@ -139,6 +143,7 @@ impl AotTuningModel {
     }
 
     // The channel list that the model was opened with.
+    #[tactic(auto, unfolding(crate::specs::Plan::plan_of))]
     pub fn channels(&self) -> ChannelList
         ensures { entries result ≡ (plan_of self.now).channels }
     {
@@ -146,6 +151,7 @@ impl AotTuningModel {
     }
 
     // What the plan retunes together.
+    #[tactic(auto, unfolding(crate::specs::Plan::plan_of))]
     pub fn group_by(&self) -> GroupBy
         ensures { result ≡ (plan_of self.now).group_by }
     {
@@ -185,24 +191,13 @@ impl AotTuningModel {
 
 // The least group, not below `from`, of the keys in the plan on a channel or one before it.
 fn least_group(records: &[u16], by: GroupBy, channel: u16, from: i32) -> Option<i32>
-    ensures { result ≡ least_from by channel from None records.now }
+    ensures { IsLeast (groups_from by channel from records.now) result }
 {
-    let mut least = None;
-    for &cell in records {
-        least = lower(group_up_to(cell, by, channel), from, least);
-    }
-    least
-}
-
-// A group, if it is not below `from` and lower than the least so far; else that one.
-fn lower(group: Option<i32>, from: i32, least: Option<i32>) -> Option<i32>
-    ensures { result ≡ lower from group least }
-{
-    match (group, least) {
-        (Some(g), Some(other)) if from <= g && g < other => group,
-        (Some(g), None) if from <= g => group,
-        _ => least,
-    }
+    records
+        .iter()
+        .filter_map(|&cell| group_up_to(cell, by, channel))
+        .filter(|&group| from <= group)
+        .min()
 }
 
 // The group of a record's key, if that is in the plan on a channel or one before it.
@@ -217,6 +212,7 @@ fn group_up_to(cell: u16, by: GroupBy, channel: u16) -> Option<i32>
 }
 
 // A detuning as it is read: programs in C may have put a NaN there.
+#[tactic(auto, unfolding(crate::specs::PlanBlock::detuning_of))]
 fn number_or_zero(detuning: f64) -> f64
     ensures { result ≡ detuning_of detuning }
 {

@@ -141,6 +141,7 @@ impl<'a> TuningLists for PitchLists<'a> {
 }
 
 // Entry i of a list. Refuses 12 where there is none.
+#[tactic(auto, using(crate::proofs::Lines::entry_got))]
 fn entry<T: Copy>(list: &[T], i: usize) -> Result<T, Refusal>
     ensures { outcome result ≡ entry_of list.now i }
 {

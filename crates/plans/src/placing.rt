@@ -30,13 +30,12 @@ pub(crate) fn place_keys(keys: &mut SortedKeys, by: GroupBy) -> u16
 {
     let SortedKeys {
         order,
-        len,
         records,
         detunings,
     } = keys;
     let mut runs = [NO_KEYS; GROUPS];
     let mut count: u16 = 0;
-    for &key in &order[..*len] {
+    for &key in order.as_slice() {
         let Place { note, .. } = place_of(records[key as usize]).unwrap();
         let at = slot(by, note);
         let run = runs[at];
@@ -62,6 +61,7 @@ fn channels_with(used: u16, before: f64, detuning: f64) -> u16
 }
 
 // Whether a key may stand behind the last one of its group on that one's channel.
+#[tactic(auto, unfolding(crate::specs::Line::joins))]
 fn joins(before: f64, detuning: f64) -> bool
     ensures { result ≡ joins before detuning }
 {
@@ -79,6 +79,7 @@ fn slot(by: GroupBy, note: Note) -> usize
 }
 
 // The number of a note's group.
+#[tactic(auto, using(arithmetic::proofs::Notes::note_fits, arithmetic::proofs::Notes::letter_below), unfolding(crate::specs::Line::group))]
 pub(crate) fn group_of(by: GroupBy, note: Note) -> i32
     ensures { result ≡ group by note.number }
 {

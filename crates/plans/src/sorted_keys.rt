@@ -7,13 +7,14 @@ ghost use Rattle.plans.specs.KeyLine.{key_line};
 
 use crate::lists::{KeyTuning, TuningLists};
 use arithmetic::refusal::Refusal;
+use arrayvec::ArrayVec;
 use channels::keys::{KEYS, Place, is_found};
 
-// Keys by rising detuning, equal ones in the order of their lines, in the first `len` places; and by key a record, which has the note, and the detuning.
+// Keys by rising detuning, equal ones in the order of their lines; and by key a record, which has the note, and the detuning.
 #[derive(Drop)]
 pub struct SortedKeys {
-    pub order: [u8; KEYS],
-    pub len: usize,
+    pub order: ArrayVec<u8, KEYS>,
+    // Beside the detunings, as they lie in C's memory: a plan is copied there whole.
     pub records: [u16; KEYS],
     pub detunings: [f64; KEYS],
 }
@@ -24,8 +25,7 @@ impl SortedKeys {
         ensures { Holds result [] }
     {
         SortedKeys {
-            order: [0; KEYS],
-            len: 0,
+            order: ArrayVec::new(),
             records: [0; KEYS],
             detunings: [0.0; KEYS],
         }
@@ -54,9 +54,7 @@ impl SortedKeys {
             return Err(Refusal::KeyTwice);
         }
         let at = self.place(line.detuning);
-        self.order.copy_within(at..self.len, at + 1);
-        self.order[at] = line.key;
-        self.len += 1;
+        self.order.insert(at, line.key);
         let place = Place {
             channel: 0,
             note: line.note,
@@ -71,7 +69,7 @@ impl SortedKeys {
         requires { Filled self.now × T (positive detuning) }
         ensures { result ≡ before_in self.now detuning }
     {
-        let keys = &self.order[..self.len];
+        let keys = self.order.as_slice();
         keys.partition_point(|&key| self.detunings[key as usize] <= detuning)
     }
 }

@@ -5,7 +5,7 @@ ghost use Rattle.std.specs.Prelude.{◌≤◌};
 
 use plans::aot::{AotTuningModel, GroupBy, Planned};
 use plans::lists::{NoteLists, PitchLists, TuningLists};
-use show::{Bits, OrDash};
+use show::{Bits, Or};
 use std::io;
 use std::io::{BufWriter, Write};
 
@@ -92,7 +92,7 @@ fn entry(out: &mut impl Write, model: &AotTuningModel, channel: u16, from: i32) 
 // One entry of a channel.
 fn at(out: &mut impl Write, model: &AotTuningModel, channel: u16, group: i32) -> io::Result<()> {
     let detuning = model.detuning(channel, group).map(Bits);
-    writeln!(out, "  at {channel} {group} {}", OrDash(detuning))
+    writeln!(out, "  at {channel} {group} {}", Or(detuning, "-"))
 }
 
 // Entries of a channel: the first, and those from 1, 61, 62 and 73 on.

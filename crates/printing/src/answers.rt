@@ -8,6 +8,7 @@ use channels::tuning_value::Tuning;
 use plan_tuner::aot::PlanSent;
 use plans::aot::Planned;
 use pools::jit::{Registered, Repitched};
+pub use show::Or;
 use std::fmt;
 
 // What a call answers, or its refusal.
@@ -19,19 +20,6 @@ impl<T: fmt::Display> fmt::Display for Answer<T> {
         match &self.0 {
             Ok(answer) => write!(f, "{answer}"),
             Err(refusal) => write!(f, "refused ({})", refusal.number()),
-        }
-    }
-}
-
-// What there is, or words for nothing.
-#[derive(Clone, Copy)]
-pub struct Or<T>(pub Option<T>, pub &'static str);
-
-impl<T: fmt::Display> fmt::Display for Or<T> {
-    fn fmt<W: fmt::Write>(&self, f: &mut fmt::Formatter<W>) -> fmt::Result {
-        match &self.0 {
-            Some(x) => write!(f, "{x}"),
-            None => write!(f, "{}", self.1),
         }
     }
 }

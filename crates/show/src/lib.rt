@@ -1,4 +1,4 @@
-// What the test programs print with: an f64 by its bits, a call's answer or its refusal by its number, what there is or a dash.
+// What the test programs print with: an f64 by its bits, a call's answer or its refusal by its number, what there is or words for nothing.
 #![tactic(auto)]
 
 use arithmetic::refusal::Refusal;
@@ -32,15 +32,15 @@ impl<T: fmt::Display> fmt::Display for Answer<T> {
     }
 }
 
-// What there is, or a dash.
+// What there is, or words for nothing.
 #[derive(Clone, Copy)]
-pub struct OrDash<T>(pub Option<T>);
+pub struct Or<T>(pub Option<T>, pub &'static str);
 
-impl<T: fmt::Display> fmt::Display for OrDash<T> {
+impl<T: fmt::Display> fmt::Display for Or<T> {
     fn fmt<W: fmt::Write>(&self, f: &mut fmt::Formatter<W>) -> fmt::Result {
         match &self.0 {
             Some(x) => write!(f, "{x}"),
-            None => write!(f, "-"),
+            None => write!(f, "{}", self.1),
         }
     }
 }

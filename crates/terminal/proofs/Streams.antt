@@ -1,18 +1,16 @@
 -- What each function of a stream does to its state. Assumes nothing.
 use Prim.Native.Nat.{ℕ, ◌+◌, min}
-use native.Mathlib.Omega.{arith}
-use mathlib.Core.Path.{◌≡◌, refl, sym, ◌∙◌, ap, subst}
+use mathlib.Core.Path.{◌≡◌, refl, sym, ◌∙◌, ap}
 use mathlib.Core.Bool.{true}
 use mathlib.Core.List.{List, [], ◌∷◌}
 use lib.ListN.{length, take, drop}
 use lib.Seq.{take_at}
-use lib.Dec.{leb}
 use borrow.Author.Tests.{le-leb, lt-leb}
-use Rattle.std.specs.Prelude.{Option, Some, None}
+use Rattle.std.specs.Prelude.{Option, Some}
 use Rattle.std.proofs.lemmas.List.{drop_min, nil_from_length}
 use Rattle.channels.specs.Outcome.{value, refused}
 use Rattle.senders.specs.Lent.{Steps, written}
-use Rattle.lines.specs.Session.{Session, session, Stepped, step_rule, finish, finish_rule, line_ended}
+use Rattle.lines.specs.Session.{session, Stepped, step_rule, finish, finish_rule}
 use Rattle.lines.specs.declared.step.Step.{Step}
 use Rattle.lines.specs.declared.step.Console.{Console}
 use Rattle.lines.proofs.Puts.{sent_all, sent_none}
@@ -26,10 +24,7 @@ use Rattle.terminal.proofs.Parts.{part_drop}
 pub wrote_law : (s : Stream) (put : Option ℕ) (n : ℕ) (piece out : List ℕ) → n ≡ min (count put) (length (part s.unwritten out))
     → view (record { console = s.console; unanswered = s.unanswered; unwritten = record { start = s.unwritten.start + n; end = s.unwritten.end }; ended = s.ended }) piece out
     ≡ write_rule put (view s piece out)
-wrote_law s put n piece out e =
-    let v = view s piece out in
-    ap (λ (l : List ℕ). record { session = v.session; unanswered = v.unanswered; unwritten = l; ended = v.ended })
-    (part_drop n s.unwritten out ∙ ap (λ (k : ℕ). drop k v.unwritten) e ∙ drop_min (count put) v.unwritten)
+wrote_law s put n piece out e = rw (part_drop n s.unwritten out, e, drop_min (count put) (part s.unwritten out))
 
 -- ---- answers
 
@@ -41,13 +36,9 @@ pub answer_law : (s : Stream) (t : Console) (u : Part) (r : Step) (piece old new
 answer_law s t u r piece old new first p =
     let v = view s piece old in
     let q = step_rule (length old) v.session v.unanswered in
-    let out : part u new ≡ q.output =
-    first new
-    ∙ ap (λ (k : ℕ). take k new) p.written_is
-    ∙ ap (take (length q.output)) p.left_is
-    ∙ take_at q.output (drop (length q.output) old) (length q.output) refl in
+    let out : part u new ≡ q.output = rw (first new, p.written_is, p.left_is) (take_at q.output (drop (length q.output) old) (length q.output) refl) in
     let rest : part (record { start = s.unanswered.start + r.used; end = s.unanswered.end }) piece ≡ drop q.used v.unanswered =
-    part_drop r.used s.unanswered piece ∙ ap (λ (k : ℕ). drop k v.unanswered) p.used_is in
+    rw (part_drop r.used s.unanswered piece, p.used_is) in
     record { state_is = cc (p.session_is, out, rest); buffer_is = p.left_is }
 
 -- ---- the end of the input
@@ -61,11 +52,7 @@ end_written s t u v n piece old new none first a =
     let text = finish (session s.console) in
     let sent = sent_all {view = session} a in
     let fits = le-leb (length text) (length old) sent.fits in
-    let out : part v new ≡ text =
-    first new
-    ∙ ap (λ (k : ℕ). take k new) sent.count_is
-    ∙ ap (take (length text)) sent.left_is
-    ∙ take_at text (drop (length text) old) (length text) refl in
+    let out : part v new ≡ text = rw (first new, sent.count_is, sent.left_is) (take_at text (drop (length text) old) (length text) refl) in
     record { state_is = rw fits (cc (sent.next_is, out, none piece)); buffer_is = rw fits sent.left_is }
 
 pub end_refused : (s : Stream) (t : Console) (m : ℕ) (piece old new : List ℕ) → Steps session (finish_rule (session s.console)) s.console old (refused m) t new
@@ -78,11 +65,6 @@ end_refused s t m piece old new a =
     record { state_is = rw (short, none.left_is, none.back_is) refl; buffer_is = rw short none.left_is }
 
 -- ---- a read
-
-pub read_failed : (s : Stream) (got : Option ℕ) (piece out : List ℕ) → got ≡ None
-    → Leaves (read_rule (length out) got piece (view s piece out)) (read_buffer got piece (view s piece out) out) (view s piece out) out
-unfolding read_rule read_buffer
-read_failed s got piece out e = rw e (record { state_is = refl; buffer_is = refl })
 
 module _ (s : Stream) (got : Option ℕ) (n : ℕ) (u : Part) (piece : List ℕ) (is : got ≡ Some n) (first : (l : List ℕ) → part u l ≡ take n l) where
   pub read_some : (out : List ℕ) → (length (part u piece) ≡ 0 → ⊥)

@@ -1,5 +1,5 @@
 -- Why a run ends before its input: which failures may pass, and where the stream stands at one that does not. Assumes nothing.
-use Rattle.std.specs.Prelude.{◌≡◌, ◌≢◌, ◌⊎◌, ⊤, []}
+use Rattle.std.specs.Prelude.{◌≡◌, ◌⊎◌, ⊤, []}
 use Rattle.std.specs.IoError.{error_kind}
 use Rattle.std.specs.declared.io.Error.{Error}
 use Rattle.std.specs.declared.io.ErrorKind.TheVariants.{Interrupted, WouldBlock}

@@ -30,7 +30,8 @@ impl Part {
     }
 }
 
-// Of the piece one part is still to be answered, of the output one is still to be written.
+// Of the piece one part is still to be answered, of the output one is still to be written. The two buffers are the caller's and come with each call: `run` and
+// `turn` promise what these hold at exit, so that a struct with the borrows would have to give them back first, and would be no plainer.
 #[derive(Drop)]
 pub struct Stream {
     console: Console,
@@ -74,6 +75,7 @@ impl Stream {
     }
 
     // The stream goes on after a read into the piece, which failed, told the end of the input, or brought so many bytes. An end answers a line that has begun.
+    #[tactic(auto, unfolding(crate::specs::Stream::read_rule, crate::specs::Stream::read_buffer))]
     pub fn read(&mut self, got: Option<usize>, piece: &[u8], out: &mut [u8])
         ensures { Leaves
             (read_rule (length out.old) got piece.now (view self.old piece.now out.old))

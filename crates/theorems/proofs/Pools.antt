@@ -1,5 +1,6 @@
 -- Pools: no channel is lost, which presses are rejected, refusals.
 pub mod Occurrences
+pub mod Kept
 pub mod Settings
 pub mod OnePool
 pub mod Changes

@@ -1,24 +1,16 @@
 -- `terminal::run`: a turn more. Assumes nothing.
-use lib.ListN.{length}
-use Rattle.terminal.specs.Stream.{view}
+use Rattle.std.specs.Prelude.{None}
 use Rattle.terminal.proofs.Bytes.{ran_over, over_none, over_more}
 use Rattle.terminal.proofs.run.Goals as goal
 
 pub returns-then-out-lt-LONGEST_ANSWER-clause-ran : goal.returns-then-out-lt-LONGEST_ANSWER-clause-ran
-returns-then-out-lt-LONGEST_ANSWER-clause-ran g c =
-    ran_over
-    (over_none (length c.args.piece.now) (g.R.Read.remaining c.args.input.now) (g.W.Write.contents c.args.output.now)
-    (view c.new-stream.result c.args.piece.now c.args.out.now) (c.new-stream.ensures c.args.piece.now c.args.out.now))
+returns-then-out-lt-LONGEST_ANSWER-clause-ran g c = ran_over (over_none {size = 0} {a = None} {b = None} (c.new-stream.ensures c.args.piece.now c.args.out.now))
 
 pub returns-then-out-lt-LONGEST_ANSWER-clause-bytes : goal.returns-then-out-lt-LONGEST_ANSWER-clause-bytes
-returns-then-out-lt-LONGEST_ANSWER-clause-bytes g c =
-    over_none (length c.args.piece.now) (g.R.Read.remaining c.args.input.now) (g.W.Write.contents c.args.output.now)
-    (view c.new-stream.result c.args.piece.now c.args.out.now) (c.new-stream.ensures c.args.piece.now c.args.out.now)
+returns-then-out-lt-LONGEST_ANSWER-clause-bytes g c = over_none (c.new-stream.ensures c.args.piece.now c.args.out.now)
 
 pub loop-init : goal.loop-init
-loop-init g c =
-    over_none (length c.args.piece.now) (g.R.Read.remaining c.args.input.now) (g.W.Write.contents c.args.output.now)
-    (view c.new-stream.result c.args.piece.now c.args.out.now) (c.new-stream.ensures c.args.piece.now c.args.out.now)
+loop-init g c = over_none (c.new-stream.ensures c.args.piece.now c.args.out.now)
 
 pub returns-in-Ok-false-clause-ran : goal.returns-in-Ok-false-clause-ran
 returns-in-Ok-false-clause-ran g c = ran_over (over_more c.loop.invariant (rw c.loop.auto.piece at c.turn.ensures.bytes))

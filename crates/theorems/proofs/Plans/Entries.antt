@@ -2,7 +2,7 @@
 -- the plan has one, and no other channel has a key. Assumes nothing.
 use mathlib.Core.Path.{◌≡◌, refl, sym, ap, ◌∙◌, subst}
 use mathlib.Core.Logic.{inl, inr}
-use mathlib.Core.Bool.{Bool, true, false, cond}
+use mathlib.Core.Bool.{true}
 use mathlib.Core.List.{List, [], ◌∷◌, map}
 use mathlib.Core.Option.{Option, none, some}
 use Prim.Native.Nat.{ℕ, ◌<◌}
@@ -12,7 +12,6 @@ use lib.Dec.{T, eqb, eqb→eq, leb}
 use lib.IntN.{ℤ, pos}
 use lib.Ieee.{Float}
 use lib.Ieee.Positive.{positive}
-use lib.ListN.{length}
 use Rattle.arithmetic.specs.Outcome.{value}
 use Rattle.plans.specs.declared.aot.GroupBy.{GroupBy}
 use Rattle.plans.specs.declared.aot.GroupBy.TheVariants.{Channel}
@@ -20,13 +19,13 @@ use Rattle.channels.specs.Lists.{Each, keep, member}
 use Rattle.plans.specs.Line.{Line, group, of_group, rising}
 use Rattle.plans.specs.PlanLists.{keys}
 use Rattle.plans.specs.Walk.{count, seat, entry}
-use Rattle.plans.specs.Plan.{Model, Answer, tuned, untuned, holding, empty, planned}
+use Rattle.plans.specs.Plan.{Model, tuned, planned}
 use Rattle.plans.specs.PlanInternal.{Accepted}
 use Rattle.channels.proofs.ListLaws.{outcome, passed, failed, true→T, or_cases, Each-map}
-use Rattle.plans.proofs.Rising.{rising_Each}
+use Rattle.plans.proofs.Models.{planned_by}
 use Rattle.plans.proofs.Plan.{channel, below_count, used}
 use Rattle.plans.proofs.Seats.{seated_lines, unseated}
-use Rattle.plans.proofs.SortedKeys.{others_of}
+use Rattle.plans.proofs.Rising.{others_of, rising_Each}
 use Rattle.plans.proofs.Held.{at_key, of_kept, zip}
 use Rattle.plans.proofs.Carried.{last_of, heard, entry_is}
 use Rattle.plans.proofs.PlanEntries.{entry_each}
@@ -82,15 +81,12 @@ channel_entry lines ok c h e = go (heard Channel lines c (pos 0)) refl (sym (ent
 pub tuned_channels : (m : Model) (lines : List Line) → Accepted lines → m.group_by ≡ Channel → (n : ℕ) → (planned m (value lines)).1 ≡ tuned n
     → ((c : ℕ) → c < n → (planned m (value lines)).0.detunings c (pos 0) ≡ none → ⊥)
     × ((k c : ℕ) (z : ℤ) → (planned m (value lines)).0.keys k ≡ some (c, z) → c < n)
-unfolding planned
-tuned_channels m lines ok by n e = go (leb (count m.group_by lines) (length m.channels)) e
-  where
-    go : (t : Bool) → (cond {A = Model × Answer} t (holding m lines, tuned (count m.group_by lines)) (empty m.channels m.group_by, untuned (count m.group_by lines))).1 ≡ tuned n
-        → ((c : ℕ) → c < n → (cond {A = Model × Answer} t (holding m lines, tuned (count m.group_by lines)) (empty m.channels m.group_by, untuned (count m.group_by lines))).0.detunings c (pos 0) ≡ none → ⊥)
-        × ((k c : ℕ) (z : ℤ) → (cond {A = Model × Answer} t (holding m lines, tuned (count m.group_by lines)) (empty m.channels m.group_by, untuned (count m.group_by lines))).0.keys k ≡ some (c, z) → c < n)
-    go false e = absurd (let z : ◌≡◌ {A = ℕ} 0 1 = cc in omega arith)
-    go true e =
-        let q : count m.group_by lines ≡ n = cc in (
-          λ c h u. channel_entry lines ok c (subst (λ (k : GroupBy). c < count k lines) by (omega arith)) (subst (λ (k : GroupBy). entry k lines c (pos 0) ≡ none) by u),
-          λ k c z u. subst (λ (j : ℕ). c < j) q (seat_below m.group_by lines ok k c z u),
-        )
+tuned_channels m lines ok by n =
+    planned_by m lines
+    (λ r. r.1 ≡ tuned n → ((c : ℕ) → c < n → r.0.detunings c (pos 0) ≡ none → ⊥) × ((k c : ℕ) (z : ℤ) → r.0.keys k ≡ some (c, z) → c < n))
+    (λ h e.
+    let q : count m.group_by lines ≡ n = cc in (
+      λ c h u. channel_entry lines ok c (subst (λ (k : GroupBy). c < count k lines) by (omega arith)) (subst (λ (k : GroupBy). entry k lines c (pos 0) ≡ none) by u),
+      λ k c z u. subst (λ (j : ℕ). c < j) q (seat_below m.group_by lines ok k c z u),
+    ))
+    (λ h e. absurd (let z : ◌≡◌ {A = ℕ} 0 1 = cc in omega arith))

@@ -21,8 +21,10 @@ use Rattle.plans.specs.Plan.{Model, planned}
 use Rattle.channels.specs.TuningValue.{sent_as}
 use Rattle.theorems.specs.Bounds.{value_of, StepBound}
 use Rattle.channels.specs.declared.tuning_value.TuningKind.{TuningKind}
-use Rattle.channels.proofs.ListLaws.{outcome, passed, failed}
-use Rattle.plans.proofs.Accepted.{never, of_equal}
+use Rattle.channels.proofs.ListLaws.{outcome, passed, failed, Each-all}
+use Rattle.arithmetic.proofs.Outcomes.{no_value}
+use Rattle.plans.proofs.Accepted.{of_equal}
+use Rattle.plans.proofs.Lines.{pitch_lines_each}
 use Rattle.plans.proofs.SortedKeys.{Each-snoc}
 use Rattle.plans.proofs.PlanEntries.{planned_each}
 use Rattle.theorems.proofs.Values.Bounds.{sent_law}
@@ -36,9 +38,9 @@ lines_each : (P : Line → Type 0) (before : List Line) (rest : List (Outcome Li
     → Each (λ (o : Outcome Line). (l : Line) → o ≡ value l → P l) rest → line_by_line before rest ≡ value lines → Each P lines
 unfolding line_by_line
 lines_each P before [] lines b h e = let q : before ≡ lines = cc in subst (Each P) q b
-lines_each P before (refused n ∷ rest) lines b h e = never n lines e
+lines_each P before (refused n ∷ rest) lines b h e = no_value lines n (sym e)
 lines_each P before (value l ∷ rest) lines b h e = elim (outcome (member l.key (keys before))) [
-  | passed m ↦ never 5 lines (rw m at e)
+  | passed m ↦ no_value lines 5 (sym (rw m at e))
   | failed m ↦ lines_each P (before ++ (l ∷ [])) rest lines (Each-snoc P before l b (h.0 l refl)) h.1 (rw m at e)
 ]
 
@@ -52,19 +54,15 @@ pitch_close k hz l e = elim (outcome (is_pitch hz)) [
       let same : x ≡ l = cc in
       let near = nearest_close hz h in
       subst (λ (y : Line). Close y.detuning) same (nearest_detuning hz h, near.0, near.1)
-  | failed p ↦ never 1 l (rw p at e)
+  | failed p ↦ no_value l 1 (sym (rw p at e))
 ]
-
-pitch_lines_close : (ks : List ℕ) (hzs : List Float) → Each (λ (o : Outcome Line). (l : Line) → o ≡ value l → Close l.detuning) (pitch_lines ks hzs)
-unfolding pitch_lines
-pitch_lines_close [] hzs = tt
-pitch_lines_close (k ∷ ks) [] = tt
-pitch_lines_close (k ∷ ks) (hz ∷ hzs) = (λ l e. pitch_close k hz l e, pitch_lines_close ks hzs)
 
 pitches_close : (ks : List ℕ) (hzs : List Float) (lines : List Line) → pitch_lists ks hzs ≡ value lines → Each (λ (l : Line). Close l.detuning) lines
 unfolding pitch_lists
 pitches_close ks hzs lines e =
-    lines_each (λ (l : Line). Close l.detuning) [] (pitch_lines ks hzs) lines tt (pitch_lines_close ks hzs)
+    lines_each (λ (l : Line). Close l.detuning) [] (pitch_lines ks hzs) lines tt
+    (pitch_lines_each (λ (o : Outcome Line). (l : Line) → o ≡ value l → Close l.detuning) (λ k hz b. pitch_close k hz) ks hzs
+    (Each-all (λ (k : ℕ). Unit {0}) (λ k. tt) ks))
     (of_equal 12 (eqb (length hzs) (length ks)) (line_by_line [] (pitch_lines ks hzs)) lines e)
 
 -- ---- the theorem

@@ -1,12 +1,12 @@
 -- A plan key by key, in groups of any kind: the channel that a key is on, and how far the detuning that the channel has for its group is from the key's own.
 -- Assumes nothing.
 use mathlib.Core.Path.{◌≡◌, refl, sym, ap, ◌∙◌, subst}
-use mathlib.Core.Bool.{Bool, true, false, ◌&&◌, cond}
+use mathlib.Core.Bool.{true, ◌&&◌}
 use mathlib.Core.List.{List, [], ◌∷◌, ◌++◌, append_assoc, nil≢cons}
 use mathlib.Core.Option.{Option, none, some}
 use Prim.Native.Nat.{ℕ, zero, suc, ◌<◌, ◌≤◌}
 use native.Mathlib.Omega.{arith}
-use lib.Dec.{leb, eqb, eqb_refl}
+use lib.Dec.{eqb, eqb_refl}
 use lib.IntN.{ℤ}
 use lib.Ieee.{Float}
 use lib.ListN.{length, get_or}
@@ -18,14 +18,14 @@ use Rattle.plans.specs.PlanInternal.{Accepted}
 use Rattle.channels.proofs.ListLaws.{T→true, Each-map, keep_same}
 use Rattle.plans.proofs.Rising.{rising_Each}
 use Rattle.plans.proofs.Sweep.{own_group}
+use Rattle.plans.proofs.Models.{planned_by}
 use Rattle.plans.proofs.Plan.{channel, walk_best, below_count, together_is, number_is}
 use Rattle.plans.proofs.Seats.{seated_lines}
 use Rattle.plans.proofs.Carried.{last_of, replaced_is}
-use borrow.Author.Tests.{leb-true}
 use Rattle.arithmetic.specs.Outcome.{value}
 use Rattle.plans.specs.Placing.{Joined, together}
 use Rattle.theorems.specs.PlannedKeys.{is_on, row, last_detuning, JoinChain, Placed}
-use Rattle.plans.specs.Plan.{Model, Answer, tuned, untuned, holding, empty, planned}
+use Rattle.plans.specs.Plan.{Model, tuned, holding, planned}
 use Rattle.plans.proofs.Held.{of_kept, zip}
 
 -- ---- a channel takes the keys of a group that come first
@@ -110,8 +110,13 @@ row_by_lookup kind lines ok c g =
 -- After a tuned answer of count n each key of the list is placed on one of the n channels, and there are as many.
 pub planned_keys : (m : Model) (lines : List Line) → Accepted lines → (n : ℕ) → (planned m (value lines)).1 ≡ tuned n
     → let next = (planned m (value lines)).0 in (next.num_channels ≡ n) × (n ≤ length m.channels) × Each (Placed next lines n) lines
-unfolding planned
-planned_keys m lines ok n e = go (leb (count m.group_by lines) (length m.channels)) refl e
+planned_keys m lines ok n =
+    planned_by m lines (λ r. r.1 ≡ tuned n → (r.0.num_channels ≡ n) × (n ≤ length m.channels) × Each (Placed r.0 lines n) lines)
+    (λ h e.
+    let by = m.group_by in
+    let q : count by lines ≡ n = cc in
+    (q, omega (arith, h), zip (λ l s f. at q l s f) lines (seated by lines ok) (keys_near by lines ok)))
+    (λ h e. absurd (let z : ◌≡◌ {A = ℕ} 0 1 = cc in omega arith))
   where
     at : count m.group_by lines ≡ n → (l : Line) → Seated m.group_by lines ok l → Near m.group_by lines ok (channel m.group_by lines l.key, group m.group_by l.note) l
         → Placed (holding m lines) lines n l
@@ -126,13 +131,3 @@ planned_keys m lines ok n e = go (leb (count m.group_by lines) (length m.channel
           chain =
               subst (λ (t : List Line). JoinChain t l f.0) (sym (row_by_lookup m.group_by lines ok c (group m.group_by l.note))) f.2;
         }
-
-    go : (t : Bool) → leb (count m.group_by lines) (length m.channels) ≡ t
-        → (cond {A = Model × Answer} t (holding m lines, tuned (count m.group_by lines)) (empty m.channels m.group_by, untuned (count m.group_by lines))).1 ≡ tuned n
-        → let next = (cond {A = Model × Answer} t (holding m lines, tuned (count m.group_by lines)) (empty m.channels m.group_by, untuned (count m.group_by lines))).0 in
-        (next.num_channels ≡ n) × (n ≤ length m.channels) × Each (Placed next lines n) lines
-    go false k e = absurd (let z : ◌≡◌ {A = ℕ} 0 1 = cc in omega arith)
-    go true k e =
-        let by = m.group_by in
-        let q : count by lines ≡ n = cc in
-        (q, omega (arith, leb-true (count by lines) (length m.channels) k), zip (λ l s f. at q l s f) lines (seated by lines ok) (keys_near by lines ok))

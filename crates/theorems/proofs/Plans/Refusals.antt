@@ -2,25 +2,25 @@
 -- Assumes nothing.
 use mathlib.Core.Path.{◌≡◌, refl, sym, ap, ◌∙◌, subst}
 use mathlib.Core.Logic.{◌⊎◌, inl, inr}
-use mathlib.Core.Bool.{Bool, true, false, ◌&&◌, cond}
+use mathlib.Core.Bool.{Bool, true, false, ◌&&◌}
 use mathlib.Core.List.{List, [], ◌∷◌, ◌++◌, map, append_assoc, append-nil}
 use Prim.Native.Nat.{ℕ}
 use native.Mathlib.Omega.{arith}
-use lib.Dec.{T, eqb, leb}
+use lib.Dec.{T, eqb}
 use lib.IntN.{ℤ}
 use lib.Ieee.{Float}
 use lib.ListN.{length}
-use Rattle.arithmetic.specs.Outcome.{Outcome, value, refused}
+use Rattle.arithmetic.specs.Outcome.{Outcome, value, refused, refuse◌unless◌then◌}
 use Rattle.arithmetic.specs.Note.{is_note}
 use Rattle.arithmetic.specs.Nearest.{nearest_rule}
 use Rattle.arithmetic.proofs.Outcomes.{no_value, refused_by, refuses_twice}
 use Rattle.channels.specs.Lists.{Each, member}
 use Rattle.plans.specs.Line.{Line}
 use Rattle.plans.specs.PlanLists.{is_planned, keys, with_key, note_line, note_lines, pitch_line, pitch_lines, line_by_line, note_lists, pitch_lists}
-use Rattle.plans.specs.Walk.{count}
 use Rattle.plans.specs.Plan as M
-use Rattle.channels.proofs.ListLaws.{outcome, passed, failed}
-use Rattle.plans.proofs.Lines.{nearest_refused}
+use Rattle.channels.proofs.ListLaws.{outcome, passed, failed, Each-all}
+use Rattle.plans.proofs.Lines.{nearest_refused, note_lines_each, pitch_lines_each}
+use Rattle.plans.proofs.Models.{planned_by}
 
 -- ---- the first line that is refused decides
 
@@ -83,21 +83,22 @@ pitch_line_refused k hz n e = go (nearest_rule hz) refl e
     go (refused r) p e = let q : r ≡ n = cc in sym q ∙ nearest_refused hz r (sym p)
 
 -- ---- the lists: 12 first, then the lines
+lists_refused : (test : Bool) (rows : List (Outcome Line)) (n : ℕ) → (refuse 12 unless test then line_by_line [] rows) ≡ refused n
+    → ((test ≡ false) × (n ≡ 12)) ⊎ ((test ≡ true) × Offence [] rows n)
+lists_refused test rows n e = elim (refused_by 12 n test (line_by_line [] rows) e) [
+  | inl h ↦ inl h
+  | inr h ↦ inr (h.0, refused_offence [] rows n h.1)
+]
+
 pub note_lists_refused : (ks : List ℕ) (ns : List ℤ) (ds : List Float) (n : ℕ) → note_lists ks ns ds ≡ refused n
     → ((eqb (length ns) (length ks) && eqb (length ds) (length ks) ≡ false) × (n ≡ 12)) ⊎ ((eqb (length ns) (length ks) && eqb (length ds) (length ks) ≡ true) × Offence [] (note_lines ks ns ds) n)
 unfolding note_lists
-note_lists_refused ks ns ds n e = elim (refused_by 12 n (eqb (length ns) (length ks) && eqb (length ds) (length ks)) (line_by_line [] (note_lines ks ns ds)) e) [
-  | inl h ↦ inl h
-  | inr h ↦ inr (h.0, refused_offence [] (note_lines ks ns ds) n h.1)
-]
+note_lists_refused ks ns ds n e = lists_refused (eqb (length ns) (length ks) && eqb (length ds) (length ks)) (note_lines ks ns ds) n e
 
 pub pitch_lists_refused : (ks : List ℕ) (hzs : List Float) (n : ℕ) → pitch_lists ks hzs ≡ refused n
     → ((eqb (length hzs) (length ks) ≡ false) × (n ≡ 12)) ⊎ ((eqb (length hzs) (length ks) ≡ true) × Offence [] (pitch_lines ks hzs) n)
 unfolding pitch_lists
-pitch_lists_refused ks hzs n e = elim (refused_by 12 n (eqb (length hzs) (length ks)) (line_by_line [] (pitch_lines ks hzs)) e) [
-  | inl h ↦ inl h
-  | inr h ↦ inr (h.0, refused_offence [] (pitch_lines ks hzs) n h.1)
-]
+pitch_lists_refused ks hzs n e = lists_refused (eqb (length hzs) (length ks)) (pitch_lines ks hzs) n e
 
 -- ---- which numbers
 module _ (allowed : List ℕ) (five : T (member 5 allowed)) where
@@ -113,6 +114,13 @@ module _ (allowed : List ℕ) (five : T (member 5 allowed)) where
     | failed m ↦ line_numbers (before ++ (l ∷ [])) rest n h.1 (rw m at e)
   ]
 
+  lists_numbers : T (member 12 allowed) → (test : Bool) (rows : List (Outcome Line)) (n : ℕ) → Each Allowed rows
+      → (refuse 12 unless test then line_by_line [] rows) ≡ refused n → T (member n allowed)
+  lists_numbers twelve test rows n h e = elim (refused_by 12 n test (line_by_line [] rows) e) [
+    | inl g ↦ subst (λ (j : ℕ). T (member j allowed)) (sym g.1) twelve
+    | inr g ↦ line_numbers [] rows n h g.1
+  ]
+
 -- `set_tuning` refuses with 12, 4, 3 or 5, and `set_tuning_of_pitches` with 12, 1 or 5
 abbrev note_numbers : List ℕ
 note_numbers = 12 ∷ 4 ∷ 3 ∷ 5 ∷ []
@@ -120,45 +128,29 @@ note_numbers = 12 ∷ 4 ∷ 3 ∷ 5 ∷ []
 abbrev pitch_numbers : List ℕ
 pitch_numbers = 12 ∷ 1 ∷ 5 ∷ []
 
-note_lines_allowed : (ks : List ℕ) (ns : List ℤ) (ds : List Float) → Each (λ (o : Outcome Line). (n : ℕ) → o ≡ refused n → T (member n note_numbers)) (note_lines ks ns ds)
-unfolding note_lines
-note_lines_allowed [] ns ds = tt
-note_lines_allowed (k ∷ ks) [] ds = tt
-note_lines_allowed (k ∷ ks) (z ∷ ns) [] = tt
-note_lines_allowed (k ∷ ks) (z ∷ ns) (d ∷ ds) = (one, note_lines_allowed ks ns ds)
-  where
-    one : (n : ℕ) → note_line k z d ≡ refused n → T (member n note_numbers)
-    one n e = elim (note_line_refused k z d n e) [
-      | inl h ↦ subst (λ (j : ℕ). T (member j note_numbers)) (sym h.1) tt
-      | inr h ↦ subst (λ (j : ℕ). T (member j note_numbers)) (sym h.1.1) tt
-    ]
-
-pitch_lines_allowed : (ks : List ℕ) (hzs : List Float) → Each (λ (o : Outcome Line). (n : ℕ) → o ≡ refused n → T (member n pitch_numbers)) (pitch_lines ks hzs)
-unfolding pitch_lines
-pitch_lines_allowed [] hzs = tt
-pitch_lines_allowed (k ∷ ks) [] = tt
-pitch_lines_allowed (k ∷ ks) (hz ∷ hzs) = (λ n e. subst (λ (j : ℕ). T (member j pitch_numbers)) (sym (pitch_line_refused k hz n e)) tt, pitch_lines_allowed ks hzs)
+note_allowed : (k : ℕ) (z : ℤ) (d : Float) → Allowed note_numbers tt (note_line k z d)
+note_allowed k z d n e = elim (note_line_refused k z d n e) [
+  | inl h ↦ subst (λ (j : ℕ). T (member j note_numbers)) (sym h.1) tt
+  | inr h ↦ subst (λ (j : ℕ). T (member j note_numbers)) (sym h.1.1) tt
+]
 
 pub note_lists_numbers : (ks : List ℕ) (ns : List ℤ) (ds : List Float) (n : ℕ) → note_lists ks ns ds ≡ refused n → T (member n note_numbers)
 unfolding note_lists
-note_lists_numbers ks ns ds n e = elim (refused_by 12 n (eqb (length ns) (length ks) && eqb (length ds) (length ks)) (line_by_line [] (note_lines ks ns ds)) e) [
-  | inl h ↦ subst (λ (j : ℕ). T (member j note_numbers)) (sym h.1) tt
-  | inr h ↦ line_numbers note_numbers tt [] (note_lines ks ns ds) n (note_lines_allowed ks ns ds) h.1
-]
+note_lists_numbers ks ns ds n e =
+    lists_numbers note_numbers tt tt (eqb (length ns) (length ks) && eqb (length ds) (length ks)) (note_lines ks ns ds) n
+    (note_lines_each (Allowed note_numbers tt) (λ k z d b f. note_allowed k z d) ks ns ds (Each-all (λ (k : ℕ). Unit {0}) (λ k. tt) ks) (Each-all (λ (d : Float). Unit {0}) (λ d. tt) ds)) e
 
 pub pitch_lists_numbers : (ks : List ℕ) (hzs : List Float) (n : ℕ) → pitch_lists ks hzs ≡ refused n → T (member n pitch_numbers)
 unfolding pitch_lists
-pitch_lists_numbers ks hzs n e = elim (refused_by 12 n (eqb (length hzs) (length ks)) (line_by_line [] (pitch_lines ks hzs)) e) [
-  | inl h ↦ subst (λ (j : ℕ). T (member j pitch_numbers)) (sym h.1) tt
-  | inr h ↦ line_numbers pitch_numbers tt [] (pitch_lines ks hzs) n (pitch_lines_allowed ks hzs) h.1
-]
+pitch_lists_numbers ks hzs n e =
+    lists_numbers pitch_numbers tt tt (eqb (length hzs) (length ks)) (pitch_lines ks hzs) n
+    (pitch_lines_each (Allowed pitch_numbers tt) (λ k hz b m f. subst (λ (j : ℕ). T (member j pitch_numbers)) (sym (pitch_line_refused k hz m f)) tt) ks hzs
+    (Each-all (λ (k : ℕ). Unit {0}) (λ k. tt) ks)) e
 
 -- ---- a refused call: the lists' refusal, and the model as it was
 pub refused_leaves : (m : M.Model) (o : Outcome (List Line)) (n : ℕ) → (M.planned m o).1 ≡ M.Answer.refused n → (o ≡ refused n) × ((M.planned m o).0 ≡ m)
 unfolding M.planned
 refused_leaves m (refused r) n e = let q : r ≡ n = cc in (ap refused q, refl)
-refused_leaves m (value lines) n e = absurd (go (leb (count m.group_by lines) (length m.channels)) e)
-  where
-    go : (t : Bool) → (cond {A = M.Model × M.Answer} t (M.holding m lines, M.Answer.tuned (count m.group_by lines)) (M.empty m.channels m.group_by, M.Answer.untuned (count m.group_by lines))).1 ≡ M.Answer.refused n → ⊥
-    go true e = let z : ◌≡◌ {A = ℕ} 0 1 = cc in omega arith
-    go false e = let z : ◌≡◌ {A = ℕ} 0 1 = cc in omega arith
+refused_leaves m (value lines) n e =
+    absurd (planned_by m lines (λ r. r.1 ≡ M.Answer.refused n → ⊥) (λ h e. let z : ◌≡◌ {A = ℕ} 0 1 = cc in omega arith)
+    (λ h e. let z : ◌≡◌ {A = ℕ} 0 1 = cc in omega arith) e)

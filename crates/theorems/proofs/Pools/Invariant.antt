@@ -1,83 +1,39 @@
 -- Pools lose no channel: however a model was opened and whatever calls followed, refused and rejected ones included, each channel of each pool stands
 -- exactly once, free or with one key that has not lost it. Assumes nothing.
-use Prim.Native.Nat.{ℕ, zero, suc, ◌<◌, ◌≤◌}
+use Prim.Native.Nat.{ℕ, ◌<◌, ◌≤◌}
 use mathlib.Core.Path.{◌≡◌, refl, sym, subst, ◌∙◌}
-use mathlib.Core.Bool.{Bool, true, false, not}
-use mathlib.Core.List.{List, [], ◌∷◌}
+use mathlib.Core.List.{List, []}
 use mathlib.Core.Option.{Option, some, none}
 use native.Mathlib.Omega.{arith}
-use lib.IntN.{ℤ}
-use lib.Ieee.{Float}
-use lib.ListN.{length, get_or, replicate, length-replicate, get_or-replicate}
-use Rattle.arithmetic.specs.Outcome.{value, refuse◌unless◌then◌}
-use Rattle.arithmetic.specs.Note.{is_note}
-use Rattle.arithmetic.specs.Pitch.{is_pitch, detuning_of}
-use Rattle.arithmetic.specs.Nearest.{nearest_note}
+use lib.ListN.{length, get_or, length-replicate, get_or-replicate}
 use Rattle.pools.specs.declared.jit.PoolGroupBy.{PoolGroupBy}
 use Rattle.pools.specs.declared.jit.PoolingMode.{PoolingMode}
 use Rattle.channels.specs.Lists.{upward}
 use Rattle.channels.specs.ChannelList.{list_rule, present}
-use Rattle.channels.specs.Places.{Place, is_held}
-use Rattle.pools.specs.Pool.{key_count, Pool, State, Held, empty_pool, pool_count, found, fresh, open_rule, released, released_all, stopped, pressed, unless_held, register_rule, replied}
-use Rattle.pools.specs.Block.{register_note_rule}
-use Rattle.theorems.specs.PoolCalls.{Call, press, release, lookup, repitch, press_note, stop, after, played, standing}
+use Rattle.channels.specs.Places.{Place}
+use Rattle.pools.specs.Pool.{key_count, Pool, State, empty_pool, pool_count, found, fresh, open_rule}
+use Rattle.theorems.specs.PoolCalls.{Call, after, played, standing}
 use Rattle.channels.proofs.ChannelLists.{Verdict, listed, offended, verdict, fine_listed, offence_refused, channels_few}
 use Rattle.theorems.proofs.Pools.Occurrences.{times_none, times_range, times_past, length_range}
 use Rattle.theorems.specs.PoolInvariant.{Ok, PoolOk}
 use Rattle.theorems.proofs.Pools.OnePool.{keys_none}
+use Rattle.plans.proofs.SortedKeys.{replicated_at}
 use Rattle.theorems.proofs.Pools.Changes.{pressed_ok, released_ok}
+use Rattle.theorems.proofs.Pools.Kept.{after_kept, played_kept}
 
 -- ---- every call, and every sequence
 
-register_ok : (n : ℕ) (s : State) → Ok n s → (key : ℕ) → key < key_count → (hz : Float) → Ok n (replied s (register_rule s key hz)).1
-unfolding register_rule unless_held is_held replied
-register_ok n s ok key small hz = go (is_pitch hz) (found s key) refl
-  where
-    go : (b : Bool) (p : Option Place) → found s key ≡ p
-        → Ok n (replied s (refuse 1 unless b then refuse 11 unless not (is_held p) then value (pressed s key (nearest_note hz) (detuning_of hz (nearest_note hz))))).1
-    go false p e = ok
-    go true (some p) e = ok
-    go true none e = pressed_ok n s ok key e small (nearest_note hz) (detuning_of hz (nearest_note hz))
-
-note_ok : (n : ℕ) (s : State) → Ok n s → (key : ℕ) → key < key_count → (note : ℤ) (d : Float) → Ok n (replied s (register_note_rule s key note d)).1
-unfolding register_note_rule unless_held is_held replied
-note_ok n s ok key small note d = go (is_note note) (found s key) refl
-  where
-    go : (b : Bool) (p : Option Place) → found s key ≡ p
-        → Ok n (replied s (refuse 4 unless b then refuse 11 unless not (is_held p) then value (pressed s key note d))).1
-    go false p e = ok
-    go true (some p) e = ok
-    go true none e = pressed_ok n s ok key e small note d
-
-all_ok : (n : ℕ) (s : State) → Ok n s → (hs : List Held) → Ok n (released_all s hs)
-unfolding released_all
-all_ok n s ok [] = ok
-all_ok n s ok (h ∷ hs) = all_ok n (released s h.key) (released_ok n s ok h.key) hs
-
 pub after_ok : (n : ℕ) (s : State) → Ok n s → (c : Call) → Ok n (after s c)
-unfolding after stopped
-after_ok n s ok (press key small hz) = register_ok n s ok key small hz
-after_ok n s ok (release key) = released_ok n s ok key
-after_ok n s ok (lookup key) = ok
-after_ok n s ok (repitch key hz) = ok
-after_ok n s ok (press_note key small note d) = note_ok n s ok key small note d
-after_ok n s ok stop = all_ok n s ok _
+after_ok n = after_kept (Ok n) (λ t ok key small e note d. pressed_ok n t ok key e small note d) (released_ok n)
 
-pub played_ok : (n : ℕ) (s : State) → Ok n s → (cs : List Call) → Ok n (played s cs)
-unfolding played
-played_ok n s ok [] = ok
-played_ok n s ok (c ∷ cs) = played_ok n (after s c) (after_ok n s ok c) cs
+played_ok : (n : ℕ) (s : State) → Ok n s → (cs : List Call) → Ok n (played s cs)
+played_ok n = played_kept (Ok n) (λ t ok key small e note d. pressed_ok n t ok key e small note d) (released_ok n)
 
 -- ---- a fresh model
 
-replicate_none : (m k : ℕ) → get_or (replicate {A = Option Place} m none) k none ≡ none
-replicate_none zero k = refl
-replicate_none (suc m) zero = refl
-replicate_none (suc m) (suc k) = replicate_none m k
-
 fresh_none : (channels : List ℕ) (group : PoolGroupBy) (mode : PoolingMode) (k : ℕ) → found (fresh channels group mode) k ≡ none
 unfolding fresh found
-fresh_none channels group mode k = replicate_none key_count k
+fresh_none channels group mode k = replicated_at none key_count k
 
 pub fresh_ok : (channels : List ℕ) → length channels ≤ 16 → (group : PoolGroupBy) (mode : PoolingMode) → Ok (length channels) (fresh channels group mode)
 unfolding fresh standing

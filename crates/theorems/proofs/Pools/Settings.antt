@@ -1,24 +1,19 @@
 -- A model keeps the channel list, the kind of group and the pooling mode that it was opened with, whatever is called. Assumes nothing.
 use Prim.Native.Nat.{ℕ}
 use mathlib.Core.Path.{◌≡◌, refl, ◌∙◌}
-use mathlib.Core.Bool.{Bool, true, false, not}
-use mathlib.Core.List.{List, [], ◌∷◌}
+use mathlib.Core.List.{List}
 use mathlib.Core.Option.{Option, some, none}
 use lib.IntN.{ℤ}
 use lib.Ieee.{Float}
-use Rattle.arithmetic.specs.Outcome.{value, refuse◌unless◌then◌}
-use Rattle.arithmetic.specs.Note.{is_note}
-use Rattle.arithmetic.specs.Pitch.{is_pitch, detuning_of}
-use Rattle.arithmetic.specs.Nearest.{nearest_note}
 use Rattle.pools.specs.declared.jit.PoolGroupBy.{PoolGroupBy}
 use Rattle.pools.specs.declared.jit.PoolingMode.{PoolingMode}
 use Rattle.pools.specs.declared.jit.PoolingMode.TheVariants.{Block, Stop, Ignore}
 use Rattle.channels.specs.Lists.{first}
 use Rattle.channels.specs.ChannelList.{list_rule, present}
-use Rattle.channels.specs.Places.{Place, is_held}
-use Rattle.pools.specs.Pool.{State, Held, pool, found, fresh, open_rule, with_pool, with_key, taken, freed, forgotten, released, released_from, released_all, stopped, oldest, Room, made_room, room_by, room_for, pressed_on, pressed, unless_held, register_rule, replied}
-use Rattle.pools.specs.Block.{register_note_rule}
-use Rattle.theorems.specs.PoolCalls.{Call, press, release, lookup, repitch, press_note, stop, after, played}
+use Rattle.channels.specs.Places.{Place}
+use Rattle.pools.specs.Pool.{State, Held, pool, found, fresh, open_rule, with_pool, with_key, taken, freed, forgotten, released, released_from, oldest, Room, made_room, room_by, room_for, pressed_on, pressed}
+use Rattle.theorems.specs.PoolCalls.{Call, played}
+use Rattle.theorems.proofs.Pools.Kept.{played_kept}
 
 pub record Same (s t : State) : Type 0 where
   pub channels : t.channels ≡ s.channels
@@ -71,42 +66,9 @@ unfolding pressed room_for
 pressed_same s key note d =
     pressed_by (first (pool (room_for s note).state note).free) (room_for s note) s key note d (room_by_lem (first (pool s note).free) s note)
 
-register_same : (s : State) (key : ℕ) (hz : Float) → Same s (replied s (register_rule s key hz)).1
-unfolding register_rule unless_held replied
-register_same s key hz = go (is_pitch hz) (not (is_held (found s key)))
-  where
-    go : (a b : Bool) → Same s (replied s (refuse 1 unless a then refuse 11 unless b then value (pressed s key (nearest_note hz) (detuning_of hz (nearest_note hz))))).1
-    go true true = pressed_same s key (nearest_note hz) (detuning_of hz (nearest_note hz))
-    go true false = same s
-    go false b = same s
-
-note_same : (s : State) (key : ℕ) (note : ℤ) (d : Float) → Same s (replied s (register_note_rule s key note d)).1
-unfolding register_note_rule unless_held replied
-note_same s key note d = go (is_note note) (not (is_held (found s key)))
-  where
-    go : (a b : Bool) → Same s (replied s (refuse 4 unless a then refuse 11 unless b then value (pressed s key note d))).1
-    go true true = pressed_same s key note d
-    go true false = same s
-    go false b = same s
-
-all_same : (s : State) (hs : List Held) → Same s (released_all s hs)
-unfolding released_all
-all_same s [] = same s
-all_same s (h ∷ hs) = joined s (released s h.key) _ (released_same s h.key) (all_same (released s h.key) hs)
-
-pub after_same : (s : State) (c : Call) → Same s (after s c)
-unfolding after stopped
-after_same s (press key small hz) = register_same s key hz
-after_same s (release key) = released_same s key
-after_same s (lookup key) = same s
-after_same s (repitch key hz) = same s
-after_same s (press_note key small note d) = note_same s key note d
-after_same s stop = all_same s _
-
-pub played_same : (s : State) (cs : List Call) → Same s (played s cs)
-unfolding played
-played_same s [] = same s
-played_same s (c ∷ cs) = joined s (after s c) (played (after s c) cs) (after_same s c) (played_same (after s c) cs)
+played_same : (s : State) (cs : List Call) → Same s (played s cs)
+played_same s cs =
+    played_kept (Same s) (λ t h key small e note d. joined s t _ h (pressed_same t key note d)) (λ t h key. joined s t _ h (released_same t key)) s (same s) cs
 
 -- however a model is opened and played
 

@@ -8,7 +8,7 @@ use Rattle.senders.specs.Jit.{view}
 use Rattle.senders.proofs.Lent.{ends_short}
 use Rattle.lines.specs.Line.{meaning}
 use Rattle.lines.proofs.Rooms.{answer_least, bytes_fit}
-use Rattle.lines.proofs.Hears.{sent_some, sent_none, effected, sent_longer, line_written, the_short, unsent_short, unsent_shown}
+use Rattle.lines.proofs.Hears.{sent_here, unsent, effected, sent_longer, line_written, the_short, unsent_short, unsent_shown}
 use Rattle.lines.proofs.answer.answer.Goals as goal
 
 pub returns-then-out-lt-LEAST_ANSWER : goal.returns-then-out-lt-LEAST_ANSWER
@@ -16,31 +16,32 @@ returns-then-out-lt-LEAST_ANSWER c = ends_short refl (omega (arith, answer_least
 
 pub slice_bounds-bytes-end-in-Ok : goal.slice_bounds-bytes-end-in-Ok
 slice_bounds-bytes-end-in-Ok c =
-    let here = sent_some {view = view} (effected (view c.args.tuner.now) (meaning c.args.line.now)) c.in-Ok.ensures in
+    let here = sent_here {view = view} (effected (view c.args.tuner.now) (meaning c.args.line.now)) c.in-Ok.ensures in
     (sent_longer here _).within
 
 pub slice_bounds-show_bytes-end : goal.slice_bounds-show_bytes-end
 slice_bounds-show_bytes-end c =
-    let here = sent_some {view = view} (effected (view c.args.tuner.now) (meaning c.args.line.now)) c.in-Ok.ensures in
+    let here = sent_here {view = view} (effected (view c.args.tuner.now) (meaning c.args.line.now)) c.in-Ok.ensures in
     sym (length-take-le _ _ (sent_longer here _).within)
-
-pub returns-then-eq : goal.returns-then-eq
-returns-then-eq c =
-    let short : c.in-Err.refusal ≡ BufferTooShort = search rules in
-    let unsent = sent_none {view = view} (effected (view c.args.tuner.now) (meaning c.args.line.now)) c.in-Err.ensures in
-    unsent_short {view = view} (view c.args.tuner.now) c.args.line.now unsent (ap number short) (length-take-le _ _ (omega arith) ∙ c.min-room.ensures)
 
 pub returns-in-Ok : goal.returns-in-Ok
 returns-in-Ok c =
-    let here = sent_some {view = view} (effected (view c.args.tuner.now) (meaning c.args.line.now)) c.in-Ok.ensures in
+    let here = sent_here {view = view} (effected (view c.args.tuner.now) (meaning c.args.line.now)) c.in-Ok.ensures in
     let sent = sent_longer here _ in
     let size = length-take-le _ _ sent.within in
     line_written {view = view} (view c.args.tuner.now) c.args.line.now sent
     (bytes_fit _ _ c.if-out-lt-LEAST_ANSWER.false (omega (arith, length-take {A = ℕ})))
     c.show_bytes.ensures
 
-pub returns-else-eq : goal.returns-else-eq
-returns-else-eq c =
-    let unsent = sent_none {view = view} (effected (view c.args.tuner.now) (meaning c.args.line.now)) c.in-Err.ensures in
-    unsent_shown {view = view} (view c.args.tuner.now) c.args.line.now refl unsent
+pub returns-in-Err-BufferTooShort : goal.returns-in-Err-BufferTooShort
+returns-in-Err-BufferTooShort c =
+    let refusal = unsent {view = view} (effected (view c.args.tuner.now) (meaning c.args.line.now)) c.in-Err-BufferTooShort.ensures in
+    rw (← ap number c.in-Err-BufferTooShort.field-0-is)
+    (unsent_short {view = view} (view c.args.tuner.now) c.args.line.now refusal (ap number c.in-Err-BufferTooShort.field-0-is)
+    (length-take-le _ _ (omega arith) ∙ c.min-room.ensures))
+
+pub returns-in-Err : goal.returns-in-Err
+returns-in-Err c =
+    let refusal = unsent {view = view} (effected (view c.args.tuner.now) (meaning c.args.line.now)) c.in-Err.ensures in
+    unsent_shown {view = view} (view c.args.tuner.now) c.args.line.now refl refusal
     (λ ten. let short : c.in-Err.refusal ≡ BufferTooShort = the_short _ ten in search rules) c.show_refusal.ensures

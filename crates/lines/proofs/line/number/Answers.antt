@@ -1,24 +1,20 @@
 -- `line::number`: what a byte more does to the digits and the number so far. Assumes nothing.
-use Rattle.std.proofs.Common.{◌+◌, ◌*◌, drop, refl, sym, ap, ◌∙◌, arith, rules}
+use Rattle.std.proofs.Common.{◌≡◌, ◌+◌, ◌*◌, true, false, get_or, drop, sym, ap, ◌∙◌, arith, rules}
 use Rattle.std.proofs.lemmas.Bool.Decides.{nat_tests}
-use Rattle.std.proofs.lemmas.List.{at_drop_all}
+use Rattle.std.specs.Char.{is_ascii_digit}
+use mathlib.Core.Bool.{and-false}
+use Rattle.std.proofs.lemmas.List.{at_drop_all, at_drop_more}
 use Rattle.std.proofs.Math.Option.{some}
 use Rattle.lines.specs.Line.{number}
 use Rattle.lines.specs.Grammar.{digits, decimal}
-use Rattle.lines.proofs.Lines.{number_other, number_some, digits_stop, digits_more, decimal_more, more_digits, few_digits}
+use Rattle.lines.proofs.Lines.{number_some, more_digits, few_digits}
 use Rattle.lines.proofs.line.number.Goals as goal
 
-pub returns-then-is_empty : goal.returns-then-is_empty
-unfolding number
-returns-then-is_empty c = search rules
-
-pub loop-byte-init : goal.loop-byte-init
-loop-byte-init c = record { digits_left = refl; value = refl; small = omega arith }
-
 pub returns-then-not-is_ascii_digit : goal.returns-then-not-is_ascii_digit
+unfolding number digits
 returns-then-not-is_ascii_digit c =
-    let stop = digits_stop c.args.field.now c.loop-byte.byte-index (omega arith) (search (rules, nat_tests)) in
-    sym (number_other _ _ (c.loop-byte.invariant.digits_left ∙ stop))
+    let other : is_ascii_digit (get_or c.args.field.now c.loop-byte.byte-index 0) ≡ false = search (rules, nat_tests) in
+    rw (c.loop-byte.invariant.digits_left ∙ at_drop_more digits c.args.field.now c.loop-byte.byte-index 0 (omega arith), other, and-false)
 
 pub overflow_mul-number : goal.overflow_mul-number
 overflow_mul-number c = omega (arith, few_digits c.loop-byte.number c.loop-byte.byte-index c.loop-byte.invariant.small (omega arith))
@@ -27,14 +23,16 @@ pub overflow_add-number : goal.overflow_add-number
 overflow_add-number c = omega (arith, few_digits c.loop-byte.number c.loop-byte.byte-index c.loop-byte.invariant.small (omega arith))
 
 pub loop-byte-preserved : goal.loop-byte-preserved
+unfolding digits decimal
 loop-byte-preserved c =
+    let digit : is_ascii_digit (get_or c.args.field.now c.loop-byte.byte-index 0) ≡ true = search (rules, nat_tests) in
     let s = c.args.field.now in
     let i = c.loop-byte.byte-index in
     record {
-      digits_left = c.loop-byte.invariant.digits_left ∙ digits_more s i (omega arith) (search (rules, nat_tests));
+      digits_left = c.loop-byte.invariant.digits_left ∙ at_drop_more digits s i 0 (omega arith) ∙ rw digit;
       value =
           c.loop-byte.invariant.value
-          ∙ decimal_more s i (omega arith) c.loop-byte.number
+          ∙ at_drop_more (decimal c.loop-byte.number) s i 0 (omega arith)
           ∙ ap (λ d. decimal (c.loop-byte.number * 10 + d) (drop (i + 1) s)) (sym c.from.ensures);
       small = more_digits c.loop-byte.number i c.from.result c.loop-byte.invariant.small (omega (arith, c.if-not-is_ascii_digit.ensures.cases));
     }

@@ -1,21 +1,16 @@
 -- `show::show_bytes`: a byte takes three places, and the last space becomes the feed. Assumes nothing.
-use Rattle.std.proofs.Common.{◌≡◌, ◌∷◌, [], ◌*◌, ◌≤◌, ◌<◌, length, get_or, refl, sym, ap, ◌∙◌, arith, rules}
+use Rattle.std.proofs.Common.{refl, arith}
 use Rattle.std.proofs.lemmas.Bool.Decides.{nat_tests}
-use Rattle.lines.proofs.Puts.{puts, puts_none}
-use Rattle.lines.proofs.Shows.{Spaced, spaced, spaced_more, spaced_all, shown_none, shown_length}
+use Rattle.senders.proofs.Lent.{ends_short}
+use Rattle.lines.proofs.Puts.{puts}
+use Rattle.lines.proofs.Shows.{spaced_more, spaced_all, shown_none, shown_length}
 use Rattle.lines.proofs.show.show_bytes.Goals as goal
 
 pub returns-then-is_empty : goal.returns-then-is_empty
 returns-then-is_empty c = rw (shown_none c.args.bytes.now (grind (arith, nat_tests))) c.put.ensures
 
 pub returns-then-out-bytes : goal.returns-then-out-bytes
-returns-then-out-bytes c = puts_none (omega (arith, shown_length c.args.bytes.now (grind (arith, nat_tests))))
-
-pub loop-byte-init : goal.loop-byte-init
-loop-byte-init c = record { end_is = refl; out_is = refl }
-
-pub slice_bounds-copy_from_slice-end : goal.slice_bounds-copy_from_slice-end
-slice_bounds-copy_from_slice-end c = omega arith
+returns-then-out-bytes c = ends_short refl (omega (arith, shown_length c.args.bytes.now (grind (arith, nat_tests))))
 
 pub loop-byte-preserved : goal.loop-byte-preserved
 loop-byte-preserved c =

@@ -1,27 +1,16 @@
--- `aot::least_group` meets its contract. Assumes nothing.
-use Rattle.std.proofs.Common.{◌+◌, Option, ℤ, None, drop, sym, ap, ◌∙◌}
-use mir.Syntax.{w32}
-use mir.Val.{to_z, of_z}
-use mir.Facts.{to_z-of_z}
-use Rattle.plans.specs.PlanInternal.{least_from, lower}
-use Rattle.plans.proofs.NextEntry.{least_next, least_end}
+-- `aot::least_group` meets its contract: what the chain gives, and the least of that. Assumes nothing.
+use Rattle.std.proofs.Common.{rules, tests}
+use Rattle.std.specs.Int.Signed.{le_z}
+use Rattle.std.proofs.lemmas.Iterator.{YieldsList-from_slice}
+use Rattle.std.proofs.lemmas.Iterator.Consumers.{YieldsList-at, YieldsList-from_filter, YieldsList-from_filter_map, reduce_from_yields_List}
+use Rattle.plans.specs.PlanInternal.{group_up_to}
+use Rattle.plans.proofs.NextEntry.{least_reduced}
 use Rattle.plans.proofs.aot.least_group.Goals as goal
-
-pub loop-cell-preserved : goal.loop-cell-preserved
-loop-cell-preserved c =
-    let a = c.args in
-    let l = c.loop-cell in
-    let from = to_z w32 (of_z w32 a.from) in
-    l.invariant
-    ∙ least_next a.by a.channel from l.least a.records.now l.cell-index c.loop-cell-test.true
-    ∙ ap (λ (o : Option ℤ). least_from a.by a.channel from o (drop (l.cell-index + 1) a.records.now))
-    (ap (λ (g : Option ℤ). lower from g l.least) (sym c.group_up_to.ensures) ∙ sym c.lower-least.ensures)
 
 pub returns : goal.returns
 returns c =
-    let a = c.args in
-    let l = c.loop-cell in
-    sym
-    (ap (λ (z : ℤ). least_from a.by a.channel z None a.records.now) (sym (to_z-of_z c.ranges.from))
-    ∙ l.invariant
-    ∙ least_end a.by a.channel (to_z w32 (of_z w32 a.from)) l.least a.records.now l.cell-index c.loop-cell-test.false)
+    least_reduced _ _ (reduce_from_yields_List _ c.filter.result _ c.min.ensures.ran
+    (YieldsList-from_filter _ (le_z c.args.from)
+    (YieldsList-at c.filter.ensures.source (YieldsList-from_filter_map _ (group_up_to c.args.by c.args.channel)
+    (YieldsList-from_slice c.args.records.now cc) c.filter_map.ensures.closure (λ x r q k. search (rules, tests))))
+    c.filter.ensures.closure (λ x r q k. search (rules, tests))))

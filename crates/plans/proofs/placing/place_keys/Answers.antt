@@ -1,36 +1,42 @@
 -- `placing::place_keys` meets its contract: each turn is one of the pass. Assumes nothing.
-use Rattle.std.proofs.Common.{Option as Optional, Some, ℤ, zero, suc, replicate, ◌≡◌, ℕ, ◌+◌, ◌-◌, ◌<◌, ◌≤◌, List, ◌∷◌, true, length, get_or, map, take, drop, set, refl, sym, ap, ◌∙◌, subst, arith}
+use Rattle.std.proofs.Common.{Option as Optional, Some, ℤ, ◌≡◌, ℕ, ◌+◌, ◌-◌, ◌<◌, ◌≤◌, List, ◌∷◌, true, length, get_or, map, drop, set, refl, sym, ap, ◌∙◌, subst, arith}
 use lib.ListN.{length-map, length-replicate}
 use lib.Ieee.{Float, nan}
 use Rattle.arithmetic.specs.Note.{is_note}
 use Rattle.channels.specs.Lists.{Each}
 use Rattle.channels.specs.declared.keys.Place.{Place}
-use Rattle.channels.specs.Places.{note_of, place_of, cell_of, place}
+use Rattle.channels.specs.Places.{place_of, cell_of, place}
 use Rattle.std.proofs.lemmas.List.{drop_more}
-use lib.ListN.{drop_of_length-le, length-take}
+use lib.ListN.{drop_of_length-le}
 use Rattle.channels.proofs.RecordNumbers.{place_record}
 use Rattle.plans.specs.declared.placing.Run.{Run}
+use Rattle.plans.specs.declared.sorted_keys.SortedKeys.{SortedKeys}
 use Rattle.plans.specs.Line.{Line, group}
 use Rattle.plans.specs.PlanBlock.{detuning_of}
-use Rattle.plans.specs.Plan.{records_in}
-use Rattle.plans.specs.PlanInternal.{channels_with, line_at, lines_of, slot_of}
+use Rattle.plans.specs.Plan.{records_in, records_of}
+use Rattle.plans.specs.PlanInternal.{Ready, Seats, channels_with, line_at, lines_of, slot_of}
 use Rattle.plans.proofs.Records.{noted_found, noted_at}
 use Rattle.plans.proofs.PlanBlocks.{lines_kept}
+use Rattle.plans.proofs.SortedKeys.{accepted_few, replicated_at}
 use Rattle.plans.proofs.Pass.{Pass, no_run, some_channel, one_more_channel, pass_begins, pass_next, pass_ends, used_few, own_lines, each_drop}
 use Rattle.plans.proofs.placing.place_keys.Goals as goal
 use Rattle.plans.proofs.placing.place_keys.Goals.{In-loop-key}
 
-none_used : (n k : ℕ) → (get_or (replicate n (record { used = 0; last = 0 })) k no_run).used ≡ 0
-none_used zero k = refl
-none_used (suc n) zero = refl
-none_used (suc n) (suc k) = none_used n k
+-- the keys, whose order is lent as a list
+abbrev in_list : SortedKeys → List ℕ → SortedKeys
+in_list s ks = record { order = record { items = ks }; records = s.records; detunings = s.detunings }
+
+ready_in_list : (s : SortedKeys) (ks : List ℕ) → ks ≡ s.order.items → Ready s → Ready (in_list s ks)
+ready_in_list s ks e h = subst (λ l. Ready (in_list s l)) (sym e) h
 
 pub loop-key-init : goal.loop-key-init
 unfolding lines_of
 loop-key-init c =
     let s = c.args.keys.now in
-    pass_begins c.args.by (lines_of s) c.requires.ok c.requires.ordered s.detunings s.records _
-    (own_lines s.records s.detunings (take s.len s.order)).0 c.requires.no_other (none_used 801) c.requires.long.records
+    let ks = c.as_slice-key-items.result.now in
+    let r = ready_in_list s ks c.as_slice-key-items.ensures.value c.requires in
+    pass_begins c.args.by (map (line_at s.records s.detunings) ks) r.ok r.ordered s.detunings s.records _
+    (own_lines s.records s.detunings ks).0 r.no_other (λ k. ap (λ (r : Run). r.used) (replicated_at no_run 801 k)) r.long.records
     (length-replicate {A = Run} 801 no_run)
 
 -- ---- in a turn
@@ -39,7 +45,10 @@ module _ (c : In-loop-key) where
   line = line_at c.args.keys.now.records c.args.keys.now.detunings
 
   abbrev ks : List ℕ
-  ks = take c.args.keys.now.len c.args.keys.now.order
+  ks = c.as_slice-key-items.result.now
+
+  ready : Ready (in_list c.args.keys.now ks)
+  ready = ready_in_list c.args.keys.now ks c.as_slice-key-items.ensures.value c.requires
 
   abbrev i : ℕ
   i = c.loop-key.key-index
@@ -57,15 +66,15 @@ module _ (c : In-loop-key) where
   pass = subst (λ (l : List ℕ). Pass c.args.by (map line ks) c.args.keys.now.detunings c.loop-key.records c.loop-key.runs c.loop-key.count i (map line l)) here
       c.loop-key.invariant
 
-  next : (P : Line → Type 0) → Each P (lines_of c.args.keys.now) → P x
+  next : (P : Line → Type 0) → Each P (lines_of (in_list c.args.keys.now ks)) → P x
   unfolding lines_of
   next P h = (subst (λ (l : List ℕ). Each P (map line l)) here (each_drop P line ks i h)).0
 
   a_note : is_note x.note ≡ true
-  a_note = next (λ (y : Line). is_note y.note ≡ true) c.requires.ok.notes
+  a_note = next (λ (y : Line). is_note y.note ≡ true) ready.ok.notes
 
   small : x.key < 256
-  small = next (λ (y : Line). y.key < 256) c.requires.ok.bytes
+  small = next (λ (y : Line). y.key < 256) ready.ok.bytes
 
 pub unwrap-requires : goal.unwrap-requires
 unwrap-requires c =
@@ -88,7 +97,8 @@ module _ (t : In-loop-key) (r : Optional Place) (e : place r ≡ place_of (get_o
         (a_note t))
 
     few_keys : i t < 256
-    few_keys = omega (arith, t.loop-key-test.true, t.requires.few)
+    unfolding lines_of
+    few_keys = omega (arith, t.loop-key-test.true, accepted_few (lines_of (in_list t.args.keys.now (ks t))) (ready t).ok, length-map (ks t) (line t))
 
     module _ (n : ℕ) (f d : Float) (v : n ≡ channels_with (get_or t.loop-key.runs at no_run).used f d) where
       some_used : 1 ≤ n
@@ -150,12 +160,15 @@ returns c =
     let l = c.loop-key in
     let ds = s.detunings in
     let f = line_at s.records ds in
-    let ks = take s.len s.order in
+    let ks = c.as_slice-key-items.result.now in
+    let here = c.as_slice-key-items.ensures.value in
+    let r = ready_in_list s ks here c.requires in
     let by = c.args.by in
     let nil = drop_of_length-le ks {i = l.key-index} c.loop-key-test.false in
     let p = subst (λ (k : List ℕ). Pass by (map f ks) ds l.records l.runs l.count l.key-index (map f k)) nil l.invariant in
-    let few = rw (sym c.requires.long.detunings) at c.requires.ok.bytes in
-    let kept = lines_kept ds (map f ks) few c.requires.ok.detunings (own_lines s.records ds ks).1 in
+    let few = rw (sym r.long.detunings) at r.ok.bytes in
+    let kept = lines_kept ds (map f ks) few r.ok.detunings (own_lines s.records ds ks).1 in
     let read = map detuning_of ds in
-    let same : length l.records ≡ length read = p.cells_long ∙ sym (length-map ds detuning_of ∙ c.requires.long.detunings) in
-    pass_ends by (map f ks) c.requires.ok c.requires.ordered l.records read same p.cells_long kept ds l.runs l.count l.key-index p
+    let same : length l.records ≡ length read = p.cells_long ∙ sym (length-map ds detuning_of ∙ r.long.detunings) in
+    subst (λ (k : List ℕ). Seats by (map f k) (records_of l.records read) l.count) here
+    (pass_ends by (map f ks) r.ok r.ordered l.records read same p.cells_long kept ds l.runs l.count l.key-index p)

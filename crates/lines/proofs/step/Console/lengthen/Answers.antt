@@ -1,6 +1,5 @@
 -- `step::Console::lengthen`: as much is kept as there is room for. Assumes nothing.
-use Rattle.std.proofs.Common.{◌≡◌, ℕ, ◌+◌, ◌≤◌, ap, ◌∙◌, arith, rules, length, take}
-use Rattle.std.proofs.lemmas.List.{length-take}
+use Rattle.std.proofs.Common.{ap, ◌∙◌}
 use Rattle.senders.specs.Jit.{view}
 use Rattle.lines.proofs.Ends.{clip_more}
 use Rattle.lines.proofs.step.Console.lengthen.Goals as goal

@@ -1,5 +1,5 @@
 -- `AotTuningModel::detuning` meets its contract: channels beyond the plan's have no entry. Assumes nothing.
-use Rattle.std.proofs.Common.{rules, ◌≡◌, ℕ, ◌+◌, ◌<◌, min, List, ◌++◌, ◌∷◌, [], length, get_or, take, true, false, Some, refl, sym, ap, ◌∙◌, arith}
+use Rattle.std.proofs.Common.{rules, ◌≡◌, ℕ, ◌+◌, ◌<◌, List, ◌++◌, ◌∷◌, [], length, get_or, take, true, false, Some, refl, sym, ap, ◌∙◌, arith}
 use Rattle.std.proofs.lemmas.List.{length_push, take_all}
 use Rattle.std.proofs.lemmas.Slice.Zip.{zip_turn, zip_end}
 use Rattle.std.specs.Option.{option_eq}
@@ -11,7 +11,7 @@ use borrow.Author.Tests.{le-ltb, lt-ltb}
 use lib.Ieee.{Float, nan}
 use lib.IntN.{ℤ}
 use Rattle.plans.specs.PlanBlock.{detuning_of}
-use Rattle.plans.specs.Plan.{KeyRecord, counts, detuning_in, highest, plan_of, record_of, records_in}
+use Rattle.plans.specs.Plan.{counts, detuning_in, highest, plan_of, record_of, records_in}
 use Rattle.plans.specs.PlanInternal.{raised}
 use Rattle.plans.proofs.Records.{counts_up, same_group, other_group}
 use Rattle.plans.proofs.PlanBlocks.{records_count}

@@ -59,11 +59,6 @@ returns-clause-smallest g c =
     smallest_of c.args.self.now (g.L.TuningLists.lines c.args.lists.now) c.add_all.new.self _ c.in_ok-add_all.ensures _ _
     (enough_tunes g (goal.at.returns-clause-smallest g c).Else-few)
 
-pub returns-then-few-clause-measurable : goal.returns-then-few-clause-measurable
-returns-then-few-clause-measurable g c =
-    measurable_of c.args.self.now (g.L.TuningLists.lines c.args.lists.now) c.add_all.new.self c.in_ok-add_all.ensures c.new.result _
-    (few_tunes g (goal.at.returns-then-few-clause-measurable g c).After-new)
-
 pub returns-clause-measurable : goal.returns-clause-measurable
 returns-clause-measurable g c =
     measurable_of c.args.self.now (g.L.TuningLists.lines c.args.lists.now) c.add_all.new.self c.in_ok-add_all.ensures _ _

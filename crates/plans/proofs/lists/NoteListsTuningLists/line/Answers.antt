@@ -9,26 +9,27 @@ use Rattle.arithmetic.proofs.Notes.{at_no_note, at_note}
 use Rattle.plans.specs.Line.{Line}
 use Rattle.plans.specs.PlanLists.{is_planned, note_line, note_lines}
 use Rattle.plans.specs.KeyLine.{key_line}
-use Rattle.plans.proofs.Lines.{no_key, no_note, no_detuning, the_note_line, planned_positive}
+use Rattle.plans.proofs.Lines.{note_row, planned_positive}
 use Rattle.plans.proofs.lists.NoteListsTuningLists.line.Goals as goal
 use Rattle.plans.proofs.lists.NoteListsTuningLists.line.Goals.{In_ok-detuning}
 
 pub returns-in_err-key : goal.returns-in_err-key
 returns-in_err-key c =
     let s = c.args.self.now in
-    hands_on_by key_line c.from_residual.result _ c.from_residual.ensures.1 (no_key s.keys.now s.notes.now s.detunings.now c.args.i _ c.in_err-key.ensures)
+    hands_on_by key_line c.from_residual.result _ c.from_residual.ensures.1
+    (rw (note_row s.keys.now s.notes.now s.detunings.now c.args.i, ← c.in_err-key.ensures))
 
 pub returns-in_err-number : goal.returns-in_err-number
 returns-in_err-number c =
     let s = c.args.self.now in
     hands_on_by key_line c.from_residual-in_err-number.result _ c.from_residual-in_err-number.ensures.1
-    (no_note s.keys.now s.notes.now s.detunings.now c.args.i _ c.in_err-number.ensures)
+    (rw (note_row s.keys.now s.notes.now s.detunings.now c.args.i, ← c.in_ok-key.ensures, ← c.in_err-number.ensures))
 
 pub returns-in_err-detuning : goal.returns-in_err-detuning
 returns-in_err-detuning c =
     let s = c.args.self.now in
     hands_on_by key_line c.from_residual-in_err-detuning.result _ c.from_residual-in_err-detuning.ensures.1
-    (no_detuning s.keys.now s.notes.now s.detunings.now c.args.i _ c.in_err-detuning.ensures)
+    (rw (note_row s.keys.now s.notes.now s.detunings.now c.args.i, ← c.in_ok-key.ensures, ← c.in_ok-number.ensures, ← c.in_err-detuning.ensures))
 
 -- the line of these entries
 module _ (c : In_ok-detuning) where
@@ -46,7 +47,7 @@ module _ (c : In_ok-detuning) where
   row_is : row ≡ the_line
   row_is =
       let s = c.args.self.now in
-      the_note_line s.keys.now s.notes.now s.detunings.now c.args.i _ _ _ c.in_ok-key.ensures c.in_ok-number.ensures c.in_ok-detuning.ensures
+      rw (note_row s.keys.now s.notes.now s.detunings.now c.args.i, ← c.in_ok-key.ensures, ← c.in_ok-number.ensures, ← c.in_ok-detuning.ensures)
 
   fitting : SFits w32 c.in_ok-number.number
   fitting = search rules

@@ -7,20 +7,21 @@ use Rattle.arithmetic.proofs.Outcomes.{hands_on_by}
 use Rattle.plans.specs.Line.{Line}
 use Rattle.plans.specs.PlanLists.{pitch_line, pitch_lines}
 use Rattle.plans.specs.KeyLine.{key_line}
-use Rattle.plans.proofs.Lines.{no_pitched_key, no_pitch, the_pitch_line, no_pitch_line, a_pitch_line, nearest_sound}
+use Rattle.plans.proofs.Lines.{pitch_row, no_pitch_line, a_pitch_line, nearest_sound}
 use Rattle.plans.proofs.lists.PitchListsTuningLists.line.Goals as goal
 use Rattle.plans.proofs.lists.PitchListsTuningLists.line.Goals.{In_ok-hz, In_ok-nearest}
 
 pub returns-in_err-key : goal.returns-in_err-key
 returns-in_err-key c =
     let s = c.args.self.now in
-    hands_on_by key_line c.from_residual.result _ c.from_residual.ensures.1 (no_pitched_key s.keys.now s.pitches.now c.args.i _ c.in_err-key.ensures)
+    hands_on_by key_line c.from_residual.result _ c.from_residual.ensures.1
+    (rw (pitch_row s.keys.now s.pitches.now c.args.i, ← c.in_err-key.ensures))
 
 pub returns-in_err-hz : goal.returns-in_err-hz
 returns-in_err-hz c =
     let s = c.args.self.now in
     hands_on_by key_line c.from_residual-in_err-hz.result _ c.from_residual-in_err-hz.ensures.1
-    (no_pitch s.keys.now s.pitches.now c.args.i _ c.in_err-hz.ensures)
+    (rw (pitch_row s.keys.now s.pitches.now c.args.i, ← c.in_ok-key.ensures, ← c.in_err-hz.ensures))
 
 -- the line of these entries
 module _ (c : In_ok-hz) where
@@ -28,7 +29,9 @@ module _ (c : In_ok-hz) where
   row = let s = c.args.self.now in get_or (pitch_lines s.keys.now s.pitches.now) c.args.i (refused 12)
 
   row_is : row ≡ pitch_line c.in_ok-key.key c.in_ok-hz.hz
-  row_is = let s = c.args.self.now in the_pitch_line s.keys.now s.pitches.now c.args.i _ _ c.in_ok-key.ensures c.in_ok-hz.ensures
+  row_is =
+      let s = c.args.self.now in
+      rw (pitch_row s.keys.now s.pitches.now c.args.i, ← c.in_ok-key.ensures, ← c.in_ok-hz.ensures)
 
 pub returns-in_err-nearest : goal.returns-in_err-nearest
 returns-in_err-nearest c =

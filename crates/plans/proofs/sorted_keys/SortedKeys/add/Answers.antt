@@ -1,10 +1,10 @@
 -- `SortedKeys::add` meets its contract: a key that came before is refused, another one is put in. Assumes nothing.
-use Rattle.std.proofs.Common.{◌≡◌, ◌+◌, ◌<◌, ◌≤◌, false, length, get_or, set, List, ℕ, length-set, length-take, take, rules, arith, sym, ap, ◌∙◌}
+use Rattle.std.proofs.Common.{◌≡◌, ◌<◌, ◌≤◌, false, length, get_or, insert, rules, arith, sym, ap, ◌∙◌}
 use Rattle.channels.specs.Places.{is_held, place_of}
 use Rattle.channels.proofs.RecordNumbers.{place_cell}
 use Rattle.plans.specs.KeyLine.{key_line}
 use Rattle.plans.specs.PlanInternal.{before_in}
-use Rattle.plans.proofs.Insertion.{before_fits, inserted}
+use Rattle.plans.proofs.Insertion.{before_fits}
 use Rattle.plans.proofs.SortedKeys.{room_in, holds_more}
 use Rattle.plans.proofs.Lines.{Sound, came_before, new, more_ok, one_more}
 use Rattle.plans.proofs.sorted_keys.SortedKeys.add.Goals as goal
@@ -24,43 +24,22 @@ module _ (c : Else-is_found) where
   other : is_held (place_of (get_or c.args.self.now.records c.args.line.key 0)) ≡ false
   other = sym c.is_found.ensures ∙ c.if-is_found.false
 
-  room : c.args.self.now.len < 256
+  room : length c.args.self.now.order.items < 256
   room =
       let s = c.args.self.now in
       let f = c.requires in
       let x = key_line c.args.line in
       room_in s f.0 f.2 f.1 x (more_ok s x sound f.0 f.1 f.2 other)
 
-  long : length c.args.self.now.order ≡ 256
-  long = c.requires.2.long.order
-
-  placed : before_in c.args.self.now c.args.line.detuning ≤ c.args.self.now.len
+  placed : before_in c.args.self.now c.args.line.detuning ≤ length c.args.self.now.order.items
   placed =
       let s = c.args.self.now in
-      omega (arith, before_fits s.detunings c.args.line.detuning (take s.len s.order), length-take s.len s.order)
+      omega (arith, before_fits s.detunings c.args.line.detuning s.order.items)
 
-pub place-at-requires : goal.place-at-requires
-place-at-requires c = (c.requires, c.args.line.above_zero)
-
-pub overflow_add-at : goal.overflow_add-at
-overflow_add-at c = let t = (goal.at.overflow_add-at c).Else-is_found in omega (arith, room t, placed t, c.place-at.ensures)
-
-pub copy_within-requires-clause-start_le_end : goal.copy_within-requires-clause-start_le_end
-copy_within-requires-clause-start_le_end c = let t = (goal.at.copy_within-requires-clause-start_le_end c).Else-is_found in
-    omega (arith, placed t, c.place-at.ensures)
-
-pub copy_within-requires-clause-in_bounds : goal.copy_within-requires-clause-in_bounds
-copy_within-requires-clause-in_bounds c = let t = (goal.at.copy_within-requires-clause-in_bounds c).Else-is_found in omega (arith, room t, long t)
-
-pub copy_within-requires-clause-dest_in_bounds : goal.copy_within-requires-clause-dest_in_bounds
-copy_within-requires-clause-dest_in_bounds c = let t = (goal.at.copy_within-requires-clause-dest_in_bounds c).Else-is_found in
-    omega (arith, room t, long t, placed t, c.place-at.ensures)
-
-pub bounds-self-at : goal.bounds-self-at
-bounds-self-at c = let t = (goal.at.bounds-self-at c).Else-is_found in omega (arith, room t, long t, placed t, c.place-at.ensures)
-
-pub overflow_add-self : goal.overflow_add-self
-overflow_add-self c = let t = (goal.at.overflow_add-self c).Else-is_found in omega (arith, room t)
+pub insert-requires : goal.insert-requires
+insert-requires c =
+    let t = (goal.at.insert-requires c).Else-is_found in
+    (omega arith, (rw c.place-at.ensures (placed t), room t))
 
 pub returns : goal.returns
 returns c lines ok h =
@@ -69,11 +48,7 @@ returns c lines ok h =
     let x = key_line c.args.line in
     let e = other t in
     let b = sound t in
-    let at = c.place-at.result in
-    let order = set c.copy_within.new.self at x.key in
     let found = ap place_of c.record.ensures ∙ place_cell x.note b.note 0 (omega arith) in
-    let put = ap (λ (l : List ℕ). take (s.len + 1) (set l at x.key)) c.copy_within.ensures.after
-    ∙ inserted s.detunings x.detuning s.len x.key s.order (omega (arith, room t, long t)) at c.place-at.ensures in
-    let longer = length-set c.copy_within.new.self at x.key ∙ c.copy_within.ensures.len ∙ long t in
+    let put = c.insert.ensures.items ∙ ap (λ b. insert s.order.items b x.key) c.place-at.ensures in
     one_more s x b lines ok h e _
-    (holds_more s order c.record.result x lines h ok (new s x b lines ok h e) b.byte b.above found longer put)
+    (holds_more s _ c.record.result x lines h ok (new s x b lines ok h e) b.byte b.above found put)

@@ -1,36 +1,22 @@
 -- `SortedKeys::add_all` meets its contract, line by line. Assumes nothing.
-use Rattle.std.proofs.Common.{◌≡◌, true, [], add-one, length, refl, sym, ap, ◌∙◌, arith}
-use Rattle.arithmetic.specs.Outcome.{refused, value}
+use Rattle.std.proofs.Common.{◌≡◌, true, [], add-one, length, ◌∙◌, arith}
+use Rattle.arithmetic.specs.Outcome.{refused}
+use Rattle.arithmetic.proofs.Outcomes.{passed}
 use Rattle.arithmetic.specs.Refusal.{lists_unequal}
 use Rattle.plans.specs.KeyLine.{key_line}
 use Rattle.plans.specs.PlanLists.{line_by_line}
-use Rattle.plans.proofs.Lines.{begins, checked_refused, ended, not_tested, tested, turn_next, turn_refused, turn_twice}
+use Rattle.plans.proofs.Lines.{checked_refused, ended, turn_next, turn_refused, turn_twice}
 use Rattle.plans.proofs.sorted_keys.SortedKeys.add_all.Given.{Over}
 use Rattle.plans.proofs.sorted_keys.SortedKeys.add_all.Goals as goal
 use Rattle.plans.proofs.sorted_keys.SortedKeys.add_all.Goals.{In_ok-n}
 
-pub returns-in_err-n : goal.returns-in_err-n
-returns-in_err-n g c =
-    let s = c.args.lists.now in
-    let l = g.L.TuningLists in
-    let no = not_tested lists_unequal (l.equally_long s) (value (length (l.rows s))) (length (l.rows s)) _ refl c.in_err-n.ensures in
-    let unequal : l.lines s ≡ refused 12 = g.met.L.TuningLists.lines_are s ∙ rw no.0 in
-    checked_refused (l.lines s) c.from_residual.result _ _ c.from_residual.ensures.1 (unequal ∙ ap (λ n. refused n) (sym no.1))
-
 -- the lists are equally long
 module _ (g : Over) (c : In_ok-n g) where
   counted : (g.L.TuningLists.equally_long c.args.lists.now ≡ true) × (c.in_ok-n.n ≡ length (g.L.TuningLists.rows c.args.lists.now))
-  counted =
-      let s = c.args.lists.now in
-      let l = g.L.TuningLists in
-      let t = tested lists_unequal (l.equally_long s) (value (length (l.rows s))) c.in_ok-n.n c.in_ok-n.ensures in
-      (t.0, let e = t.1 in cc)
+  counted = passed lists_unequal (g.L.TuningLists.equally_long c.args.lists.now) (length (g.L.TuningLists.rows c.args.lists.now)) c.in_ok-n.ensures
 
   whole : g.L.TuningLists.lines c.args.lists.now ≡ line_by_line [] (g.L.TuningLists.rows c.args.lists.now)
   whole = g.met.L.TuningLists.lines_are c.args.lists.now ∙ rw counted.0
-
-pub loop-i-init : goal.loop-i-init
-loop-i-init g c = begins c.args.self.now (g.L.TuningLists.rows c.args.lists.now) c.requires
 
 pub returns-in_err-line : goal.returns-in_err-line
 returns-in_err-line g c =
@@ -38,9 +24,6 @@ returns-in_err-line g c =
     let rows = g.L.TuningLists.rows c.args.lists.now in
     let o = turn_refused (line_by_line [] rows) c.loop-i.self rows c.loop-i.i c.loop-i.invariant _ (refused 12) (omega (arith, (counted g t).1)) c.in_err-line.ensures in
     checked_refused _ c.from_residual-in_err-line.result _ _ c.from_residual-in_err-line.ensures.1 (whole g t ∙ o)
-
-pub add-requires : goal.add-requires
-add-requires g c = let t = c.loop-i.invariant in (t.lines, t.ok, t.holds)
 
 pub returns-in_err-add : goal.returns-in_err-add
 returns-in_err-add g c =

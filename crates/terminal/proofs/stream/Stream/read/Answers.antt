@@ -1,11 +1,8 @@
--- `stream::Stream::read`: a read failed, told the end or brought bytes. Assumes nothing.
-use Rattle.std.proofs.Common.{length, ap, ◌∙◌, sym, arith}
+-- `stream::Stream::read`: a read told the end or brought bytes. Assumes nothing.
+use Rattle.std.proofs.Common.{length, ap, arith}
 use Rattle.std.proofs.lemmas.Bool.Decides.{nat_tests}
-use Rattle.terminal.proofs.Streams.{read_failed, read_some, read_none}
+use Rattle.terminal.proofs.Streams.{read_some, read_none}
 use Rattle.terminal.proofs.stream.Stream.read.Goals as goal
-
-pub returns-in_default : goal.returns-in_default
-returns-in_default c = read_failed c.args.self.now c.args.got c.args.piece.now c.args.out.now c.in_default.is
 
 pub returns-then-is_empty : goal.returns-then-is_empty
 returns-then-is_empty c =
