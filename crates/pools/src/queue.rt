@@ -10,7 +10,7 @@ use std::array;
 
 const MOST_ITEMS: usize = 16;
 
-// How many items there are, then the items, the front first.
+// How many items there are, then the items, the front first: so it lies in the memory of programs in C.
 #[repr(C)]
 #[derive(Clone, Copy)]
 pub(crate) struct Queue {

@@ -13,7 +13,7 @@ use std::io::Write;
 
 // ---- the calls
 
-// Data, as those of pool.rt are.
+// Data, as those of pool.rt are. Five are named alike there: they call other methods, with other arguments and answers, so that one enum for both would be no plainer.
 #[derive(Clone, Copy)]
 pub enum Call {
     // A list by its number, which the output names: a list in its place would be no plainer.
