@@ -51,5 +51,5 @@ unsent_smallest t next m n (value lines) {k} {bs} {old} d p =
     (short (leb (length bs) (length old)) p.told_is, some_fits t.plan.group_by lines (length t.plan.channels) d)
   where
     short : (b : Bool) → refused k ≡ told (cond b (sent bs) (refused buffer_too_short)) → k ≡ buffer_too_short
-    short true e = let z : ◌≡◌ {A = ℕ} 0 1 = cc in absurd (omega arith)
+    short true e = absurd (cc)
     short false e = cc

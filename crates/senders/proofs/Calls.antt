@@ -3,7 +3,6 @@ use mathlib.Core.Path.{◌≡◌, sym, ap}
 use mathlib.Core.Option.{Option}
 use mathlib.Core.List.{List, []}
 use Prim.Native.Nat.{ℕ, ◌<◌}
-use native.Mathlib.Omega.{arith}
 use lib.IntN.{ℤ}
 use lib.Ieee.{Float}
 use lib.ListN.{length}
@@ -26,11 +25,11 @@ use Rattle.senders.proofs.Lent.{counted, ends_written}
 pub reply_value : {A : Type 0} (s : State) (o : Outcome (A × State)) {a : A} → value a ≡ (replied s o).0 → o ≡ value (a, (replied s o).1)
 unfolding replied
 reply_value s (value r) {a} e = let h : a ≡ r.0 = cc in ap (λ x. value (x, r.1)) (sym h)
-reply_value s (refused n) {a} e = let z : ◌≡◌ {A = ℕ} 0 1 = cc in absurd (omega arith)
+reply_value s (refused n) {a} e = absurd (cc)
 
 pub reply_refused : {A : Type 0} (s : State) (o : Outcome (A × State)) {n : ℕ} → refused n ≡ (replied s o).0 → o ≡ refused n
 unfolding replied
-reply_refused s (value r) {n} e = let z : ◌≡◌ {A = ℕ} 0 1 = cc in absurd (omega arith)
+reply_refused s (value r) {n} e = absurd (cc)
 reply_refused s (refused m) {n} e = let same : m ≡ n = cc in ap refused same
 
 -- the tuner whose pool has changed

@@ -19,7 +19,7 @@ use Rattle.senders.proofs.Messages.{checked_valid, valid_checked}
 -- ---- entries
 
 low_at : (l : List ℕ) → ((i : ℕ) → i < length l → get_or l i 0 < 16) → (i : ℕ) {c : ℕ} → get_elem? l i ≡ some c → c < 16
-low_at [] h i {c} e = let z : ◌≡◌ {A = ℕ} 0 1 = cc in absurd (omega arith)
+low_at [] h i {c} e = absurd (cc)
 low_at (x ∷ l) h zero {c} e = let s : x ≡ c = cc in let k : x < 16 = h 0 (omega arith) in omega arith
 low_at (x ∷ l) h (suc i) e = low_at l (λ j k. h (suc j) (omega arith)) i e
 
@@ -30,13 +30,8 @@ entry_low l i e = low_at (entries l) (entries_low l) i e
 -- a place in a list has an entry
 pub has_entry : {X : Type 0} (l : List ℕ) (i : ℕ) → i < length l → get_elem? l i ≡ none → X
 has_entry [] i h e = absurd (omega arith)
-has_entry (x ∷ l) zero h e = let z : ◌≡◌ {A = ℕ} 0 1 = cc in absurd (omega arith)
+has_entry (x ∷ l) zero h e = absurd (cc)
 has_entry (x ∷ l) (suc i) h e = has_entry l i (omega arith) e
-
-pub entry_is : (l : List ℕ) (i : ℕ) {c : ℕ} → get_elem? l i ≡ some c → (i < length l) × (get_or l i 0 ≡ c)
-entry_is [] i {c} e = let z : ◌≡◌ {A = ℕ} 0 1 = cc in absurd (omega arith)
-entry_is (x ∷ l) zero {c} e = (omega arith, (cc))
-entry_is (x ∷ l) (suc i) e = let r = entry_is l i e in (omega arith, r.1)
 
 -- ---- a message to each of a list
 
@@ -48,7 +43,5 @@ module _ (m : ChannelMessageType) (cs : List ℕ) (i : ℕ) {ch : ℕ} (e : get_
   pub all_more :
       bytes_of (each (λ c. meant c m ∷ []) (take (i + 1) cs)) ≡ bytes_of (each (λ c. meant c m ∷ []) (take i cs)) ++ bytes (meant ch m)
   all_more =
-      let k = entry_is cs i e in
-      bytes_more (λ c. meant c m ∷ []) cs i 0 k.0
-      ∙ ap (λ (l : List ℕ). bytes_of (each (λ c. meant c m ∷ []) (take i cs)) ++ l)
-      (append-nil (bytes (meant (get_or cs i 0) m)) ∙ ap (λ (c : ℕ). bytes (meant c m)) k.1)
+      bytes_more (λ c. meant c m ∷ []) cs i e
+      ∙ ap (λ (l : List ℕ). bytes_of (each (λ c. meant c m ∷ []) (take i cs)) ++ l) (append-nil (bytes (meant ch m)))

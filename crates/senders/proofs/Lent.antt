@@ -2,7 +2,6 @@
 use mathlib.Core.Path.{◌≡◌, refl, ap}
 use mathlib.Core.List.{List}
 use Prim.Native.Nat.{ℕ, ◌≤◌, ◌<◌}
-use native.Mathlib.Omega.{arith}
 use lib.Dec.{leb}
 use lib.ListN.{length}
 use borrow.Author.Tests.{lt-leb, le-leb}
@@ -50,7 +49,7 @@ counted {bs} {old} {new} {n} p = by (leb (length bs) (length old)) p.told_is
   where
     by : (t : Bool) → value n ≡ told (cond t (sent bs) (refused buffer_too_short)) → n ≡ length bs
     by true a = cc
-    by false a = let z : ◌≡◌ {A = ℕ} 0 1 = cc in absurd (omega arith)
+    by false a = absurd (cc)
 
 module _ {R S T : Type 0} {view : T → S} {rule : Outcome (Effect R S)} {s : T} {old new : List ℕ} where
   pub ends_written :
@@ -62,7 +61,7 @@ module _ {R S T : Type 0} {view : T → S} {rule : Outcome (Effect R S)} {s : T}
           (t : Bool) → leb (length f.bytes) (length old) ≡ t → value n ≡ told (cond t (sent f.bytes) (refused buffer_too_short))
           → new ≡ left (cond t (sent f.bytes) (refused buffer_too_short)) old → Steps view rule s old (value f.says) back new
       by true h a l = record { told_is = simp (e, h); moved_is = rw (e, h) m; left_is = rw (e, h) l }
-      by false h a l = let z : ◌≡◌ {A = ℕ} 0 1 = cc in absurd (omega arith)
+      by false h a l = absurd (cc)
 
   pub ends_unwritten :
       {f : Effect R S} {n : ℕ} → rule ≡ value f → Answers (sent f.bytes) old (refused n) new → Steps view rule s old (refused n) s new
@@ -71,7 +70,7 @@ module _ {R S T : Type 0} {view : T → S} {rule : Outcome (Effect R S)} {s : T}
       by :
           (t : Bool) → leb (length f.bytes) (length old) ≡ t → refused n ≡ told (cond t (sent f.bytes) (refused buffer_too_short))
           → new ≡ left (cond t (sent f.bytes) (refused buffer_too_short)) old → Steps view rule s old (refused n) s new
-      by true h a l = let z : ◌≡◌ {A = ℕ} 0 1 = cc in absurd (omega arith)
+      by true h a l = absurd (cc)
       by false h a l =
           let k : buffer_too_short ≡ n = cc in
           record { told_is = simp (e, h, k); moved_is = rw (e, h) refl; left_is = rw (e, h) l }

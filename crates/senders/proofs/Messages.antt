@@ -10,7 +10,7 @@ use Rattle.channels.specs.Channel.{channel_rule}
 use Rattle.channels.specs.Outcome.{Outcome, value, refused, refuse◌unless◌then◌}
 use Rattle.channels.proofs.Channels.{channel_of_number, refused_over}
 use Rattle.senders.specs.Lent.{sent}
-use Rattle.arithmetic.proofs.Outcomes.{passed}
+use Rattle.arithmetic.proofs.Outcomes.{passed, refused_at}
 use Rattle.channels.specs.Refusal.{channel_over15, data_byte_over127}
 use Rattle.senders.specs.Message.{Message, Valid, is_channel, is_bend}
 use Rattle.senders.specs.Midi.{bytes, bytes_of, meant, data_rule, checked, message_rule}
@@ -22,14 +22,13 @@ use Rattle.senders.specs.declared.midi.ChannelMessageType.TheVariants.{NoteOff, 
 -- a value was answered, so the test held, and what stands behind it answered the value
 pub test_held : {A : Type 0} (n : ℕ) (test : Bool) (o : Outcome A) {a : A} → cond test o (refused n) ≡ value a → (test ≡ true) × (o ≡ value a)
 test_held n true o e = (refl, e)
-test_held n false o e = let z : ◌≡◌ {A = ℕ} 0 1 = cc in absurd (omega arith)
+test_held n false o e = absurd (cc)
 
 -- a refusal stays what it is, whatever would have been answered
 moved_one :
     {A B : Type 0} (m : ℕ) (test : Bool) {n : ℕ} (b : B) (o : Outcome A) → cond test (value b) (refused m) ≡ refused n
     → cond test o (refused m) ≡ refused n
-moved_one m true b o e = let z : ◌≡◌ {A = ℕ} 0 1 = cc in absurd (omega arith)
-moved_one m false {n} b o e = let s : m ≡ n = cc in ap refused s
+moved_one m test b o e = sym (refused_at m test b (sym e) o)
 
 moved_two :
     {A B : Type 0} (m : ℕ) (t u : Bool) {n : ℕ} (b : B) (o : Outcome A)
