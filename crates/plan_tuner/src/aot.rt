@@ -201,7 +201,8 @@ fn send_tunings(model: &AotTuningModel, kind: TuningKind, out: &mut [u8]) -> Res
     send(bytes.as_slice(), out)
 }
 
-// The bytes of the tuning of channel i of a list, if there is such a channel and it has a detuning, which can be measured (senders/src/jit.rt says why no type says so).
+// The bytes of the tuning of channel i of a list, if there is such a channel and it has a detuning, which can be measured (`tuning` of senders says why no
+// type says so).
 fn tuning(
     kind: TuningKind,
     channels: ChannelList,

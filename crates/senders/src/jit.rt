@@ -240,8 +240,8 @@ impl JitTuner {
         send(bytes.as_slice(), out)
     }
 
-    // The bytes of a channel's tuning by a detuning that can be measured. Three functions ask this, and no type says it: models answer any f64 (`register_note`), so that a
-    // type would be made, with the same proof, where these are called, and be no plainer.
+    // The bytes of a channel's tuning by a detuning that can be measured. Three functions ask this, and no type says it: models answer any f64
+    // (`register_note`), so that a type would be made, with the same proof, where these are called, and be no plainer.
     #[tactic(auto, using(crate::proofs::Tunings::tuning_accepted, crate::proofs::Tunings::is_value))]
     fn tuning(&self, channel: Channel, detuning: f64) -> ArrayVec<u8, LONGEST_TUNING>
         requires { positive detuning ≡ true }
