@@ -1,7 +1,6 @@
 // The keys of a plan in the order of their detunings: the lines of its lists, checked one by one, and put in order.
 
-ghost use Rattle.std.specs.Prelude.{◌≡◌, [], T};
-ghost use Rattle.std.specs.Float.Ieee.Positive.{positive};
+ghost use Rattle.std.specs.Prelude.{◌≡◌, []};
 ghost use Rattle.plans.specs.PlanInternal.{Adds, Checked, Filled, Holds, before_in};
 ghost use Rattle.plans.specs.KeyLine.{key_line};
 
@@ -53,7 +52,7 @@ impl SortedKeys {
         if is_found(self.records[key]) {
             return Err(Refusal::KeyTwice);
         }
-        let at = self.place(line.detuning);
+        let at = self.place(line);
         self.order.insert(at, line.key);
         let place = Place {
             channel: 0,
@@ -64,11 +63,12 @@ impl SortedKeys {
         Ok(())
     }
 
-    // How many keys come before a detuning: those whose own is no higher.
-    fn place(&self, detuning: f64) -> usize
-        requires { Filled self.now × T (positive detuning) }
-        ensures { result ≡ before_in self.now detuning }
+    // How many keys come before a line's: those whose own detuning is no higher.
+    fn place(&self, line: KeyTuning) -> usize
+        requires { Filled self.now }
+        ensures { result ≡ before_in self.now line.detuning }
     {
+        let detuning = line.detuning;
         let keys = self.order.as_slice();
         keys.partition_point(|&key| self.detunings[key as usize] <= detuning)
     }

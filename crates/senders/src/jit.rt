@@ -7,7 +7,7 @@ ghost use Rattle.arithmetic.specs.Answers.{outcome, outcome_by};
 ghost use Rattle.channels.specs.ChannelList.{entries};
 ghost use Rattle.channels.specs.Places.{place};
 ghost use Rattle.channels.specs.TuningValue.{kind_of, sent_as};
-ghost use Rattle.pools.specs.PoolAnswers.{told, retuned, stopped_note};
+ghost use Rattle.pools.specs.PoolAnswers.{told, stopped_note};
 ghost use Rattle.pools.specs.Pool.{found};
 ghost use Rattle.senders.specs.Lent.{Answers, Steps, sent};
 ghost use Rattle.senders.specs.Midi.{bytes_of};
@@ -15,7 +15,7 @@ ghost use Rattle.senders.specs.Mts.{tuning_messages};
 ghost use Rattle.senders.specs.Records.{bytes_in};
 ghost use Rattle.senders.specs.Tuner.{stop_messages, key_rule};
 ghost use Rattle.senders.specs.Answers.{press_answer};
-ghost use Rattle.senders.specs.Jit.{view, start_rule, Starts, note_on_rule, note_off_rule, note_pitch_rule, note_attr_rule, global_attr_rule, stop_rule, sound_messages, repitch_messages, release_messages};
+ghost use Rattle.senders.specs.Jit.{view, start_rule, Starts, note_on_rule, note_off_rule, note_pitch_rule, note_attr_rule, global_attr_rule, stop_rule, sound_messages, release_messages};
 
 use crate::data_byte::DataByte;
 use crate::midi::ChannelMessageType;
@@ -29,7 +29,7 @@ use channels::keys::{KEYS, Place};
 use channels::list::ChannelList;
 use channels::tuning_value::TuningKind;
 use channels::{Note, Pitch, Ratio, Refusal};
-use pools::jit::{JitTuningModel, PoolGroupBy, PoolingMode, Registered, Repitched};
+use pools::jit::{JitTuningModel, PoolGroupBy, PoolingMode, Registered};
 
 // A note-off, a tuning, a note-on.
 const LONGEST_PRESS: usize = RECORD_LEN + LONGEST_TUNING + RECORD_LEN;
@@ -137,7 +137,11 @@ impl JitTuner {
         let Some(repitch) = self.model.repitch_key(key, pitch)? else {
             return Ok(0);
         };
-        self.send_tuning(repitch, out)
+        let Some(channel) = self.model.channels().entry(repitch.place.channel) else {
+            return Ok(0);
+        };
+        let tuning = self.tuning(channel, repitch.detuning);
+        send(tuning.as_slice(), out)
     }
 
     // The pressure of a key that is found. Refuses 8, 10.
@@ -214,18 +218,6 @@ impl JitTuner {
         send(bytes.as_slice(), out)
     }
 
-    // The tuning of the channel of a found key.
-    fn send_tuning(&self, repitch: Repitched, out: &mut [u8]) -> Result<usize, Refusal>
-        requires { positive repitch.detuning ≡ true }
-        ensures { Answers (sent (bytes_of (repitch_messages (view self.now) (retuned (Some repitch))))) out.old (outcome result) out.new }
-    {
-        let Some(channel) = self.model.channels().entry(repitch.place.channel) else {
-            return Ok(0);
-        };
-        let tuning = self.tuning(channel, repitch.detuning);
-        send(tuning.as_slice(), out)
-    }
-
     // The releases of all found keys.
     fn send_releases(&self, out: &mut [u8]) -> Result<usize, Refusal>
         ensures { Answers (sent (bytes_of (release_messages (view self.now)))) out.old (outcome result) out.new }
@@ -240,8 +232,8 @@ impl JitTuner {
         send(bytes.as_slice(), out)
     }
 
-    // The bytes of a channel's tuning by a detuning that can be measured. Three functions ask this, and no type says it: models answer any f64
-    // (`register_note`), so that a type would be made, with the same proof, where these are called, and be no plainer.
+    // The bytes of a channel's tuning by a detuning that can be measured. It and `send_press` ask this, and no type says it: models answer any
+    // f64 (`register_note`), so that a type would be made, with the same proof, where these are called, and be no plainer.
     #[tactic(auto, using(crate::proofs::Tunings::tuning_accepted, crate::proofs::Tunings::is_value))]
     fn tuning(&self, channel: Channel, detuning: f64) -> ArrayVec<u8, LONGEST_TUNING>
         requires { positive detuning ≡ true }
