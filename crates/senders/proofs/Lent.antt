@@ -1,9 +1,10 @@
--- Laws of `Steps`: the three ways a call ends, and what a call hands back. Assumes nothing.
+-- Laws of lent buffers and of `Steps`: the three ways a call ends, and what a call hands back. Assumes nothing.
 use mathlib.Core.Path.{◌≡◌, refl, ap}
-use mathlib.Core.List.{List}
-use Prim.Native.Nat.{ℕ, ◌≤◌, ◌<◌}
+use mathlib.Core.List.{List, ◌++◌, append-nil}
+use Prim.Native.Nat.{ℕ, ◌-◌, ◌≤◌, ◌<◌}
+use native.Mathlib.Nat.{le_of_eq}
 use lib.Dec.{leb}
-use lib.ListN.{length}
+use lib.ListN.{length, take, drop, length-drop, drop_of_length-le}
 use borrow.Author.Tests.{lt-leb, le-leb}
 use mathlib.Core.Bool.{Bool, true, false, cond}
 use Rattle.std.specs.Prelude.{Result}
@@ -15,6 +16,10 @@ use Rattle.arithmetic.proofs.Outcomes.{hands_on}
 use Rattle.channels.specs.Outcome.{Outcome, value, refused}
 use Rattle.channels.specs.Refusal.{buffer_too_short}
 use Rattle.senders.specs.Lent.{Effect, sent, told, written, left, fitted, Moved, Steps, Answers, settled}
+
+-- a buffer whose part `&mut s[w..]` has come back
+pub tail_back : (l ys : List ℕ) (w : ℕ) → take w l ++ (ys ++ drop (length l - w) (drop w l)) ≡ take w l ++ ys
+tail_back l ys w = rw (drop_of_length-le (drop w l) {i = length l - w} (le_of_eq (length-drop w l)), append-nil)
 
 -- ---- the three ways a call ends
 

@@ -212,7 +212,7 @@ impl JitTuner {
             bytes.try_extend_from_slice(&message).unwrap();
         }
         bytes.try_extend_from_slice(tuning.as_slice()).unwrap();
-        if let Some(message) = NoteMessage::On.on(channel, press.started_note, velocity) {
+        if let Some(message) = NoteMessage::On.of_note(channel, press.started_note, velocity) {
             bytes.try_extend_from_slice(&message).unwrap();
         }
         send(bytes.as_slice(), out)
@@ -225,7 +225,7 @@ impl JitTuner {
         let channels = self.model.channels();
         let mut bytes = ArrayVec::<u8, LONGEST_STOP>::new();
         for held in self.model.held_keys() {
-            if let Some(message) = NoteMessage::Off.at(channels, held.place, DataByte::ZERO) {
+            if let Some(message) = NoteMessage::Off.at_place(channels, held.place, DataByte::ZERO) {
                 bytes.try_extend_from_slice(&message).unwrap();
             }
         }
@@ -251,7 +251,7 @@ fn stop_message(
 ) -> Option<[u8; RECORD_LEN]>
     ensures { bytes_in result ≡ bytes_of (stop_messages channel.number (stopped_note stopped) velocity.number) }
 {
-    NoteMessage::Off.on(channel, stopped?, velocity)
+    NoteMessage::Off.of_note(channel, stopped?, velocity)
 }
 
 // By value: the tuner goes in and is handed back. A rule of the project asks for press, release, lookup and stop in this form too.

@@ -34,7 +34,7 @@ pub enum NoteMessage {
 
 impl NoteMessage {
     // The message of a note on a channel, if MIDI has a number for the note. `value` is its velocity or pressure.
-    pub(crate) fn on(
+    pub(crate) fn of_note(
         self,
         channel: Channel,
         note: Note,
@@ -57,7 +57,7 @@ impl NoteMessage {
     }
 
     // The message of a note at its place, if there is one and the list has such a channel.
-    pub(crate) fn at(
+    pub(crate) fn at_place(
         self,
         channels: ChannelList,
         place: Place,
@@ -66,7 +66,7 @@ impl NoteMessage {
         ensures { bytes_in result ≡ bytes_of (on_channel (entries channels) place.channel (λ ch. note_messages self ch place.note.number value.number)) }
     {
         let channel = channels.entry(place.channel)?;
-        self.on(channel, place.note, value)
+        self.of_note(channel, place.note, value)
     }
 }
 
@@ -82,7 +82,7 @@ pub fn send_checked_key(
     ensures { Answers (key_rule kind (entries channels) value (place found)) out.old (outcome result) out.new }
 {
     let value = DataByte::try_from(value)?;
-    let Some(message) = found.and_then(|place| kind.at(channels, place, value)) else {
+    let Some(message) = found.and_then(|place| kind.at_place(channels, place, value)) else {
         return Ok(0);
     };
     send(&message, out)

@@ -10,7 +10,7 @@ use Rattle.senders.specs.Tuner.{stop_messages, note_messages}
 use Rattle.senders.specs.declared.tuner.NoteMessage.TheVariants.{On}
 use Rattle.senders.proofs.Sizes.{press_bytes}
 use Rattle.senders.proofs.jit.JitTuner.send_press.Goals as goal
-use Rattle.senders.proofs.jit.JitTuner.send_press.Goals.{in-Some-stop_message, in_default-stop_message, in-Some-on, in_default-on}
+use Rattle.senders.proofs.jit.JitTuner.send_press.Goals.{in-Some-stop_message, in_default-stop_message, in-Some-of_note, in_default-of_note}
 
 pub returns : goal.returns
 returns c =
@@ -25,10 +25,10 @@ returns c =
       | in-Some-stop_message w ↦ grind (arith, common_steps)
       | in_default-stop_message w ↦ grind (arith, common_steps)
     ] in
-    let last : c.match-on.bytes.items ≡ c.try_extend_from_slice-2.new.self.items ++ bytes_of (note_messages On ch note v) =
-    elim c.match-on.branch [
-      | in-Some-on w ↦ grind (arith, common_steps)
-      | in_default-on w ↦ grind (arith, common_steps)
+    let last : c.match-of_note.bytes.items ≡ c.try_extend_from_slice-2.new.self.items ++ bytes_of (note_messages On ch note v) =
+    elim c.match-of_note.branch [
+      | in-Some-of_note w ↦ grind (arith, common_steps)
+      | in_default-of_note w ↦ grind (arith, common_steps)
     ] in
     let middle : c.try_extend_from_slice-2.new.self.items ≡ c.match-stop_message.bytes.items ++ bytes_of (tuning_messages ch tuning) = grind (arith, common_steps) in
     let known = rw c.channels.ensures at (sym c.in-Some.ensures) in
