@@ -177,7 +177,7 @@ impl JitTuner {
     }
 }
 
-// The bytes of a call, written to the buffer's start. Each refuses 10.
+// The bytes of a call. Each function that sends them writes them to the buffer's start, and refuses 10.
 impl JitTuner {
     // A message of a key's note: nothing for a key that is not found. Refuses 8 too, also for such a key.
     fn send_key(
