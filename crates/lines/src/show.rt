@@ -19,6 +19,7 @@ pub(crate) fn show_bytes(bytes: &[u8], out: &mut [u8]) -> Result<usize, Refusal>
     if out.len() / 3 < bytes.len() {
         return Err(Refusal::BufferTooShort);
     }
+    // The place behind the last byte shown, which is what is answered.
     let mut end = 0;
     for &byte in bytes {
         let shown = [hex_digit(byte / 16), hex_digit(byte % 16), b' '];
