@@ -180,6 +180,7 @@ impl JitTuner {
 // The bytes of a call. Each function that sends them writes them to the buffer's start, and refuses 10.
 impl JitTuner {
     // A message of a key's note: nothing for a key that is not found. Refuses 8 too, also for such a key.
+    #[tactic(auto, unfolding(channels::specs::Places::place))]
     fn send_key(
         &self,
         key: u8,

@@ -103,7 +103,7 @@ pub fn send_checked_to_all(
         return Ok(0);
     }
     let mut bytes = ArrayVec::<u8, LONGEST_TO_ALL>::new();
-    // A list tells its channels by number.
+    // By number, as a list tells its channels (`entry`): an iterator of its own would be no plainer.
     for i in 0..channels.len() {
         if let Some(channel) = channels.entry(i) {
             bytes.try_extend_from_slice(&record.on(channel)).unwrap();
