@@ -1,5 +1,5 @@
--- What a plan tuner's calls come to: a tuning by the model's answer, with demand 3, and where a key is. Assumes nothing.
-use mathlib.Core.Path.{◌≡◌, refl, ap}
+-- What a plan tuner's calls come to: a tuning by the model's answer, with demand 3. Assumes nothing.
+use mathlib.Core.Path.{◌≡◌, refl}
 use mathlib.Core.Bool.{Bool, true, false, cond}
 use mathlib.Core.Option.{Option}
 use mathlib.Core.List.{List}
@@ -9,26 +9,15 @@ use borrow.Author.Tests.{leb-true, leb-false}
 use lib.Dec.{leb}
 use lib.IntN.{ℤ}
 use lib.ListN.{length}
-use Rattle.std.specs.Prelude.{Some, None}
-use Rattle.std.specs.Prelude.{Option as Optional}
 use Rattle.channels.specs.Outcome.{Outcome, value, refused}
 use Rattle.channels.specs.Refusal.{buffer_too_short}
-use Rattle.channels.specs.Places.{place}
-use Rattle.channels.specs.declared.keys.Place.{Place}
 use Rattle.plans.specs.Line.{Line}
 use Rattle.plans.specs.Placing.{Demand3}
 use Rattle.plans.specs.Plan as M
-use Rattle.plans.specs.Plan.{Model, planned, access_answer}
+use Rattle.plans.specs.Plan.{Model}
 use Rattle.plans.specs.declared.aot.GroupBy.{GroupBy}
 use Rattle.senders.specs.Lent.{Answers, sent, told}
-use Rattle.plan_tuner.specs.Aot.{Tuner}
-use Rattle.plan_tuner.specs.Aot.{SomeFits, Smallest, placed}
-
--- where a key is, in the words of a pool
-pub key_found : (r : Optional Place) {o : Option (ℕ × ℤ)} → access_answer r ≡ o → place r ≡ placed o
-unfolding place
-key_found (Some p) e = ap placed e
-key_found None e = ap placed e
+use Rattle.plan_tuner.specs.Aot.{Tuner, SomeFits, Smallest}
 
 -- ---- demand 3
 

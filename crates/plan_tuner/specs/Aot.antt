@@ -20,7 +20,7 @@ use Rattle.senders.specs.Message.{Message}
 use Rattle.senders.specs.Midi.{bytes_of}
 use Rattle.senders.specs.Lent.{Effect, Answer, sent}
 use Rattle.senders.specs.Mts.{tuning_messages}
-use Rattle.senders.specs.Tuner.{each, on_channel, key_rule, to_all_rule}
+use Rattle.senders.specs.Tuner.{each, on_channel, placed, key_rule, to_all_rule}
 use Rattle.senders.specs.declared.midi.ChannelMessageType.{ChannelMessageType}
 use Rattle.senders.specs.declared.tuner.NoteMessage.TheVariants.{Off, On, Pressure}
 use Rattle.plan_tuner.specs.declared.aot.AotTuner.{AotTuner}
@@ -115,10 +115,6 @@ Smallest t (value lines) (refused k) next = (k ≡ buffer_too_short) × SomeFits
 -- ---- presses, releases and pressures
 
 -- where a key of the plan is
-abbrev pub placed : Option (ℕ × ℤ) → Option Place
-placed (some x) = some (record { channel = x.0; note = x.1 })
-placed none = none
-
 abbrev pub found : Tuner → ℕ → Option Place
 found t key = placed (t.plan.keys key)
 

@@ -44,6 +44,8 @@ pub enum PlanSent {
     Untuned(u16),
 }
 
+// Methods that a pool tuner has too (`of`, `start`, `restart`, `kind`, `note_attr`, `global_attr`, `access_key`) are each one call of what both tuners share in
+// senders/src/tuner.rt, or of their model: a trait over both would state each contract once more, and be no plainer.
 impl AotTuner {
     // A tuner of a model's channels.
     pub fn of(model: AotTuningModel, kind: TuningKind) -> AotTuner
@@ -80,10 +82,7 @@ impl AotTuner {
     pub fn kind(&self) -> TuningKind
         ensures { result ≡ kind_of self.now.kind }
     {
-        match self.kind {
-            1 => TuningKind::Bend,
-            _ => TuningKind::FineTuning,
-        }
+        u16::try_from(self.kind).map_or(TuningKind::FineTuning, TuningKind::from)
     }
 
     // Plans the keys of lists, and tunes each channel used, in order. Refuses 12, then line by line 4, 3, 5 of notes and 1, 5 of pitches; then 10, unless there are
@@ -162,7 +161,6 @@ impl AotTuner {
     }
 
     // A message of the note of a key of the plan. Refuses 8, 10.
-    #[tactic(auto, using(crate::proofs::PlanCalls::key_found))]
     fn send_note(
         &self,
         key: u8,
@@ -172,13 +170,10 @@ impl AotTuner {
     ) -> Result<usize, Refusal>
         ensures { let t = view self.now in Answers (key_rule message t.plan.channels value (found t key)) out.old (outcome result) out.new }
     {
-        send_checked_key(
-            self.model.channels(),
-            self.access_key(key),
-            message,
-            value,
-            out,
-        )
+        let found = self
+            .access_key(key)
+            .map(|place| (place.channel, place.note.number()));
+        send_checked_key(self.model.channels(), found, message, value, out)
     }
 }
 

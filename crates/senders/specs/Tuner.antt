@@ -61,6 +61,11 @@ on_entry messages none = []
 abbrev pub on_channel : List ℕ → ℕ → (ℕ → List Message) → List Message
 on_channel channels i messages = on_entry messages (get_elem? channels i)
 
+-- where a key is, of a channel and a note, any numbers
+abbrev pub placed : Option (ℕ × ℤ) → Option Place
+placed (some x) = some (record { channel = x.0; note = x.1 })
+placed none = none
+
 -- a message of a key's note on the key's channel; "an unknown key sends nothing"
 abbrev pub key_messages : NoteMessage → List ℕ → ℕ → Option Place → List Message
 key_messages kind channels v (some p) = on_channel channels p.channel (λ ch. note_messages kind ch p.note v)

@@ -180,6 +180,7 @@ impl JitTuner {
 // The bytes of a call. Each function that sends them writes them to the buffer's start, and refuses 10.
 impl JitTuner {
     // A message of a key's note: nothing for a key that is not found. Refuses 8 too, also for such a key.
+    #[tactic(auto, unfolding(channels::specs::Places::place))]
     fn send_key(
         &self,
         key: u8,
@@ -189,7 +190,10 @@ impl JitTuner {
     ) -> Result<usize, Refusal>
         ensures { Answers (key_rule kind (view self.now).pool.channels value (found (view self.now).pool key)) out.old (outcome result) out.new }
     {
-        let found = self.model.access_key(key);
+        let found = self
+            .model
+            .access_key(key)
+            .map(|place| (place.channel, place.note.number()));
         send_checked_key(self.model.channels(), found, kind, value, out)
     }
 
@@ -212,7 +216,11 @@ impl JitTuner {
             bytes.try_extend_from_slice(&message).unwrap();
         }
         bytes.try_extend_from_slice(tuning.as_slice()).unwrap();
-        if let Some(message) = NoteMessage::On.of_note(channel, press.started_note, velocity) {
+        if let Some(message) = NoteMessage::On.of_note(
+            channel,
+            press.started_note.number(),
+            velocity,
+        ) {
             bytes.try_extend_from_slice(&message).unwrap();
         }
         send(bytes.as_slice(), out)
@@ -225,7 +233,13 @@ impl JitTuner {
         let channels = self.model.channels();
         let mut bytes = ArrayVec::<u8, LONGEST_STOP>::new();
         for held in self.model.held_keys() {
-            if let Some(message) = NoteMessage::Off.at_place(channels, held.place, DataByte::ZERO) {
+            let place = held.place;
+            if let Some(message) = NoteMessage::Off.at_place(
+                channels,
+                place.channel,
+                place.note.number(),
+                DataByte::ZERO,
+            ) {
                 bytes.try_extend_from_slice(&message).unwrap();
             }
         }
@@ -251,7 +265,7 @@ fn stop_message(
 ) -> Option<[u8; RECORD_LEN]>
     ensures { bytes_in result ≡ bytes_of (stop_messages channel.number (stopped_note stopped) velocity.number) }
 {
-    NoteMessage::Off.of_note(channel, stopped?, velocity)
+    NoteMessage::Off.of_note(channel, stopped?.number(), velocity)
 }
 
 // By value: the tuner goes in and is handed back. A rule of the project asks for press, release, lookup and stop in this form too.

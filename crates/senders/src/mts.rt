@@ -35,6 +35,8 @@ const CHANNEL_FINE_TUNING_LSB: DataByte = DataByte { number: 0x01 };
 // A fine tuning is longer than a bend.
 pub const LONGEST_TUNING: usize = 4 * RECORD_LEN;
 
+// The next two functions differ in a constant alone: their names are the Rust's, which stay.
+
 // Writes the fine tuning of a channel by a detuning to the buffer's start. Refuses 6, 2, 10.
 // Example: channel_fine_tuning(0, 33/32, 12 bytes) is b0 65 00 b0 64 01 b0 06 62 b0 26 0c
 pub fn channel_fine_tuning(channel: u8, detuning: Ratio, out: &mut [u8]) -> Result<usize, Refusal>

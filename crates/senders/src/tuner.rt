@@ -1,13 +1,12 @@
 // What a tuner sends on its channels: a key's note messages, and a message to all. A tuner's methods are made of these.
 
 ghost use Rattle.std.specs.Prelude.{◌≡◌};
-ghost use Rattle.arithmetic.specs.Answers.{outcome};
+ghost use Rattle.arithmetic.specs.Answers.{optional, outcome};
 ghost use Rattle.channels.specs.ChannelList.{entries};
-ghost use Rattle.channels.specs.Places.{place};
 ghost use Rattle.senders.specs.Lent.{Answers};
 ghost use Rattle.senders.specs.Midi.{bytes_of};
 ghost use Rattle.senders.specs.Records.{bytes_in, number_in};
-ghost use Rattle.senders.specs.Tuner.{number_of, note_messages, on_channel, is_kept, key_rule, to_all_rule};
+ghost use Rattle.senders.specs.Tuner.{number_of, note_messages, on_channel, placed, is_kept, key_rule, to_all_rule};
 
 use crate::data_byte::DataByte;
 use crate::midi::ChannelMessageType;
@@ -15,11 +14,10 @@ use crate::outgoing::send;
 use crate::record::{Kind, RECORD_LEN, Record};
 use arithmetic::note::midi_number;
 use arrayvec::ArrayVec;
+use channels::Refusal;
 use channels::channel::Channel;
-use channels::keys::Place;
 use channels::list::ChannelList;
 use channels::tuning_value::TuningKind;
-use channels::{Note, Refusal};
 
 // A message on each of the sixteen channels.
 const LONGEST_TO_ALL: usize = 16 * RECORD_LEN;
@@ -33,14 +31,14 @@ pub enum NoteMessage {
 }
 
 impl NoteMessage {
-    // The message of a note on a channel, if MIDI has a number for the note. `value` is its velocity or pressure.
+    // The message of a note, any number, on a channel, if MIDI has a number for the note. `value` is its velocity or pressure.
     pub(crate) fn of_note(
         self,
         channel: Channel,
-        note: Note,
+        note: i32,
         value: DataByte,
     ) -> Option<[u8; RECORD_LEN]>
-        ensures { bytes_in result ≡ bytes_of (note_messages self channel.number note.number value.number) }
+        ensures { bytes_in result ≡ bytes_of (note_messages self channel.number note value.number) }
     {
         let key = number_of(note)?;
         let kind = match self {
@@ -56,33 +54,34 @@ impl NoteMessage {
         Some(record.on(channel))
     }
 
-    // The message of a note at its place, if there is one and the list has such a channel.
+    // The message of a note on channel i of a list, if there is one and the list has such a channel.
     pub(crate) fn at_place(
         self,
         channels: ChannelList,
-        place: Place,
+        i: u8,
+        note: i32,
         value: DataByte,
     ) -> Option<[u8; RECORD_LEN]>
-        ensures { bytes_in result ≡ bytes_of (on_channel (entries channels) place.channel (λ ch. note_messages self ch place.note.number value.number)) }
+        ensures { bytes_in result ≡ bytes_of (on_channel (entries channels) i (λ ch. note_messages self ch note value.number)) }
     {
-        let channel = channels.entry(place.channel)?;
-        self.of_note(channel, place.note, value)
+        let channel = channels.entry(i)?;
+        self.of_note(channel, note, value)
     }
 }
 
-// Writes a message of a key's note on its channel to the buffer's start: nothing for a key that is not found. Refuses 8, also for such a key, and 10.
-#[tactic(auto, unfolding(channels::specs::Places::place))]
+// Writes a message of a key's note on its channel to the buffer's start: nothing for a key that is not found. `found` is where it is: a channel and a note, any
+// numbers. Refuses 8, also for such a key, and 10.
 pub fn send_checked_key(
     channels: ChannelList,
-    found: Option<Place>,
+    found: Option<(u8, i32)>,
     kind: NoteMessage,
     value: u8,
     out: &mut [u8],
 ) -> Result<usize, Refusal>
-    ensures { Answers (key_rule kind (entries channels) value (place found)) out.old (outcome result) out.new }
+    ensures { Answers (key_rule kind (entries channels) value (placed (optional found))) out.old (outcome result) out.new }
 {
     let value = DataByte::try_from(value)?;
-    let Some(message) = found.and_then(|place| kind.at_place(channels, place, value)) else {
+    let Some(message) = found.and_then(|(i, note)| kind.at_place(channels, i, note, value)) else {
         return Ok(0);
     };
     send(&message, out)
@@ -104,6 +103,7 @@ pub fn send_checked_to_all(
         return Ok(0);
     }
     let mut bytes = ArrayVec::<u8, LONGEST_TO_ALL>::new();
+    // By number, as a list tells its channels (`entry`): an iterator of its own would be no plainer.
     for i in 0..channels.len() {
         if let Some(channel) = channels.entry(i) {
             bytes.try_extend_from_slice(&record.on(channel)).unwrap();
@@ -121,9 +121,9 @@ fn is_kept(kind: TuningKind, message: ChannelMessageType) -> bool
 
 // The number that MIDI has for a note, if it has one.
 #[tactic(auto, using(crate::proofs::Notes::number_is, crate::proofs::Notes::number_low))]
-fn number_of(note: Note) -> Option<DataByte>
-    ensures { number_in result ≡ number_of note.number }
+fn number_of(note: i32) -> Option<DataByte>
+    ensures { number_in result ≡ number_of note }
 {
-    let number = midi_number(note.number())?;
+    let number = midi_number(note)?;
     Some(DataByte { number })
 }

@@ -31,7 +31,8 @@ use Rattle.theorems.specs.PlannedKeys.{row, JoinChain, Placed}
 use Rattle.theorems.proofs.Plans.PlannedKeys.{planned_keys}
 use Rattle.theorems.proofs.Plans.Pitches.{pitches_law}
 use Rattle.senders.specs.Lent.{Effect, fitted, Steps, Answers, settled}
-use Rattle.plan_tuner.specs.Aot.{Tuner, view, Planned, tunes, plan_effect, start_rule, set_tuning_of_pitches_rule, found, placed, note_on_rule}
+use Rattle.senders.specs.Tuner.{placed}
+use Rattle.plan_tuner.specs.Aot.{Tuner, view, Planned, tunes, plan_effect, start_rule, set_tuning_of_pitches_rule, found, note_on_rule}
 use Rattle.theorems.specs.Reader.{State}
 use Rattle.theorems.specs.Receiver.{Receiver, Other, hear_bytes}
 use Rattle.theorems.specs.ExpectedEffect.{tuned, note_meant, key_meant, value_in}
