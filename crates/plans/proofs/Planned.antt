@@ -86,28 +86,27 @@ planned_rising m lines ok =
     λ i. cond (leb (n i) (length m.channels)) (h i, tuned (n i)) (empty m.channels m.group_by, untuned (n i))
 
 -- ---- the check of the lists, and the pass behind it
-pub ready_if : (o : Outcome (List Line)) (s : SortedKeys) → Checked o (Ok tt) s → Ready s
+pub ready_if : (o : Outcome (List Line)) (s : SortedKeys) → Checked o (Ok s) → Ready s
 ready_if (value lines) s c = ready s lines c.0 c.1
 ready_if (Outcome.refused k) s c = absurd c
 
 -- lists that are refused
-pub planned_refused : (o : Outcome (List Line)) (s : SortedKeys) (m : Model) (r : Refusal) → Checked o (Err r) s
-    → (m, Answer.refused (number r)) ≡ planned m o
+pub planned_refused : (o : Outcome (List Line)) (m : Model) (r : Refusal) → Checked o (Err r) → (m, Answer.refused (number r)) ≡ planned m o
 unfolding planned
-planned_refused (value lines) s m r c = absurd c
-planned_refused (Outcome.refused k) s m r c = ap (λ (j : ℕ). (m, Answer.refused j)) (sym c)
+planned_refused (value lines) m r c = absurd c
+planned_refused (Outcome.refused k) m r c = ap (λ (j : ℕ). (m, Answer.refused j)) (sym c)
 
 -- and others: the lines in order are planned as the list is
-pub planned_lines : (o : Outcome (List Line)) (s : SortedKeys) (m : Model) → Checked o (Ok tt) s
+pub planned_lines : (o : Outcome (List Line)) (s : SortedKeys) (m : Model) → Checked o (Ok s)
     → Accepted (lines_of s) × (planned m (value (lines_of s)) ≡ planned m o)
 planned_lines (value lines) s m c = (rw c.1.ordered (rising_accepted lines c.0), rw c.1.ordered (planned_rising m lines c.0))
 planned_lines (Outcome.refused k) s m c = absurd c
 
 -- what was checked is accepted
-pub fine : (o : Outcome (List Line)) (s : SortedKeys) (r : Result (Unit {0}) Refusal) → Checked o r s → Fine o
-fine (value lines) s (Ok u) c = c.0
-fine (value lines) s (Err e) c = absurd c
-fine (Outcome.refused k) s r c = tt
+pub fine : (o : Outcome (List Line)) (r : Result SortedKeys Refusal) → Checked o r → Fine o
+fine (value lines) (Ok s) c = c.0
+fine (value lines) (Err e) c = absurd c
+fine (Outcome.refused k) r c = tt
 
 -- ---- what the planning of lists comes to meets demand 3
 pub plan_smallest : (m : Model) (o : Outcome (List Line)) (r : Model × Answer) → Fine o → r ≡ planned m o → Smallest m o r
