@@ -75,7 +75,7 @@ abbrev pub Rises : List Float → List ℕ → Type 0
 Rises ds [] = Unit {0}
 Rises ds (k ∷ ks) = T (positive (get_or ds k nan)) × Each (λ (j : ℕ). T (le (get_or ds k nan) (get_or ds j nan))) ks × Rises ds ks
 
--- how many of the keys stand before the first whose detuning is not at most d: above d, or no number
+-- how many of the keys stand before the first whose detuning is not at most d: one above d, or a NaN, which never stands there
 unfoldable pub before : List Float → Float → List ℕ → ℕ
 before ds d [] = zero
 before ds d (k ∷ ks) = let r = before ds d ks in cond (le (get_or ds k nan) d) (suc r) zero

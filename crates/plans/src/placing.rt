@@ -14,7 +14,8 @@ use channels::keys::{Place, place_of};
 // There are so many notes, and no more groups of any kind.
 const GROUPS: usize = 801;
 
-// A group so far: how many channels it uses, and which key came last, in four bytes, since all groups are cleared for each plan.
+// A group so far: how many channels it uses, and which key came last, in four bytes, since all groups are cleared for each plan. Where `used` is 0,
+// `last` is 0 and says nothing: `channels_with` then sets its detuning aside. An Option<u8> is no plainer: None would say `used == 0` a second time.
 #[derive(Clone, Copy)]
 struct Run {
     used: u16,
