@@ -99,13 +99,6 @@ unfoldable pub channels_with : ℕ → Float → Float → ℕ
 channels_with zero before d = 1
 channels_with (suc n) before d = cond (joins before d) (suc n) (suc (suc n))
 
--- the keys are lines that a pass takes: accepted and in order; no other key has a note
-pub record Ready (s : SortedKeys) : Type 0 where
-  pub ok : Accepted (lines_of s)
-  pub ordered : rising (lines_of s) ≡ lines_of s
-  pub no_other : (k : ℕ) → Each (λ (l : Line). eqb l.key k ≡ false) (lines_of s) → is_note (note_of (get_or s.records k 0)) ≡ false
-  pub long : Long s
-
 -- the records have each key of the list where the walk seats it, if the channels are no more than sixteen, and no other key; the count is the walk's
 pub record Seats (by : GroupBy) (lines : List Line) (rs : List KeyRecord) (n : ℕ) : Type 0 where
   pub count_is : n ≡ count by lines

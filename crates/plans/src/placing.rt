@@ -3,7 +3,7 @@
 ghost use Rattle.std.specs.Prelude.{◌≡◌, ◌<◌};
 ghost use Rattle.plans.specs.Line.{group, joins};
 ghost use Rattle.plans.specs.Plan.{records_in};
-ghost use Rattle.plans.specs.PlanInternal.{Ready, Seats, channels_with, lines_of, slot_of};
+ghost use Rattle.plans.specs.PlanInternal.{Filled, Seats, channels_with, lines_of, slot_of};
 
 use crate::aot::GroupBy;
 use crate::sorted_keys::SortedKeys;
@@ -26,7 +26,7 @@ const NO_KEYS: Run = Run { used: 0, last: 0 };
 
 // Places each key on its channel. Answers how many channels that takes.
 pub(crate) fn place_keys(keys: &mut SortedKeys, by: GroupBy) -> u16
-    requires { Ready keys.old }
+    requires { Filled keys.old }
     ensures { Seats by (lines_of keys.old) (records_in keys.new.records keys.new.detunings) result }
 {
     let SortedKeys {

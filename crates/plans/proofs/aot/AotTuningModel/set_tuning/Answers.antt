@@ -3,7 +3,7 @@ use Rattle.std.proofs.Common.{◌≡◌, length, arith}
 use Rattle.channels.specs.ChannelList.{entries}
 use Rattle.channels.proofs.ChannelLists.{entries_few}
 use Rattle.plans.specs.Plan.{Tunes, plan_of, planned, tuned, untuned}
-use Rattle.plans.proofs.Planned.{ready_if}
+use Rattle.plans.proofs.Planned.{filled_if}
 use Rattle.plans.proofs.Tunings.{refused_tunes, untuned_tunes, tuned_tunes, smallest_of, measurable_of}
 use Rattle.plans.proofs.aot.AotTuningModel.set_tuning.Given.{Over}
 use Rattle.plans.proofs.aot.AotTuningModel.set_tuning.Goals as goal
@@ -15,7 +15,7 @@ returns-in_err-keys-clause-tunes g c =
     c.in_err-keys.ensures
 
 pub place_keys-count-requires : goal.place_keys-count-requires
-place_keys-count-requires g c = ready_if (g.L.TuningLists.lines c.args.lists.now) c.in_ok-keys.keys c.in_ok-keys.ensures
+place_keys-count-requires g c = filled_if (g.L.TuningLists.lines c.args.lists.now) c.in_ok-keys.keys c.in_ok-keys.ensures
 
 -- there are too few channels
 few_tunes : (g : Over) (c : After-new g)
