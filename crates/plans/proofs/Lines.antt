@@ -70,8 +70,8 @@ module _ (o : Outcome (List Line)) (s : SortedKeys) (rows : List (Outcome Line))
         let c = adds t.lines t.ok t.holds in
         rest_is
         ∙ elim (outcome (member x.key (keys t.lines))) [
-          | passed v ↦ let k : Checked (refused 5) (Err r) u = rw v at c in rw v (ap (λ (n : ℕ). refused n) k)
-          | failed v ↦ let k : Checked (value (t.lines ++ (x ∷ []))) (Err r) u = rw v at c in absurd k
+          | passed v ↦ let k : Checked (refused 5) (Err r) = rw v at c in rw v (ap (λ (n : ℕ). refused n) k)
+          | failed v ↦ let k : Checked (value (t.lines ++ (x ∷ []))) (Err r) = rw v at c in absurd k
         ]
 
     -- or there is one line more
@@ -80,27 +80,27 @@ module _ (o : Outcome (List Line)) (s : SortedKeys) (rows : List (Outcome Line))
     turn_next u adds =
         let c = adds t.lines t.ok t.holds in
         elim (outcome (member x.key (keys t.lines))) [
-          | passed v ↦ let k : Checked (refused 5) (Ok tt) u = rw v at c in absurd k
+          | passed v ↦ let k : Checked (refused 5) (Ok u) = rw v at c in absurd k
           | failed v ↦
-              let k : Checked (value (t.lines ++ (x ∷ []))) (Ok tt) u = rw v at c in
+              let k : Checked (value (t.lines ++ (x ∷ []))) (Ok u) = rw v at c in
               record { lines = t.lines ++ (x ∷ []); holds = k.1; ok = k.0; left = rest_is ∙ rw v }
         ]
 
-  pub ended : length rows ≤ i → Checked o (Ok tt) s
+  pub ended : length rows ≤ i → Checked o (Ok s)
   unfolding line_by_line
   ended h = let e : o ≡ value t.lines = t.left ∙ ap (line_by_line t.lines) (drop_of_length-le rows {i = i} h) in rw e (t.ok, t.holds)
 
 -- a refusal is handed on
-pub checked_refused : (o : Outcome (List Line)) (r : Result (Unit {0}) Refusal) (e : Refusal) (s : SortedKeys) → IsErrAnd r (λ d. d ≡ e)
-    → o ≡ refused (number e) → Checked o r s
-checked_refused o (Ok u) e s h i = absurd h
-checked_refused o (Err d) e s h i = rw (h, i)
+pub checked_refused : (o : Outcome (List Line)) (r : Result SortedKeys Refusal) (e : Refusal) → IsErrAnd r (λ d. d ≡ e) → o ≡ refused (number e)
+    → Checked o r
+checked_refused o (Ok s) e h i = absurd h
+checked_refused o (Err d) e h i = rw (h, i)
 
 -- a line that passed by itself, behind lines that are held
 module _ (s : SortedKeys) (x : Line) (sound : Sound x) (lines : List Line) (ok : Accepted lines) (h : Holds s lines) where
-  pub came_before : is_held (place_of (get_or s.records x.key 0)) ≡ true → (t : SortedKeys) → Checked (line_by_line lines (value x ∷ [])) (Err KeyTwice) t
+  pub came_before : is_held (place_of (get_or s.records x.key 0)) ≡ true → Checked (line_by_line lines (value x ∷ [])) (Err KeyTwice)
   unfolding line_by_line
-  came_before e t = let m : member x.key (keys lines) ≡ true = sym (h.marked x.key) ∙ e in rw m
+  came_before e = let m : member x.key (keys lines) ≡ true = sym (h.marked x.key) ∙ e in rw m
 
   module _ (e : is_held (place_of (get_or s.records x.key 0)) ≡ false) where
     pub new : member x.key (keys lines) ≡ false
@@ -109,7 +109,7 @@ module _ (s : SortedKeys) (x : Line) (sound : Sound x) (lines : List Line) (ok :
     pub more_ok : Accepted (lines ++ (x ∷ []))
     more_ok = accepted_snoc lines x ok new sound.byte sound.note sound.above sound.fitting
 
-    pub one_more : (t : SortedKeys) → Holds t (lines ++ (x ∷ [])) → Checked (line_by_line lines (value x ∷ [])) (Ok tt) t
+    pub one_more : (t : SortedKeys) → Holds t (lines ++ (x ∷ [])) → Checked (line_by_line lines (value x ∷ [])) (Ok t)
     unfolding line_by_line
     one_more t k = rw new (more_ok, k)
 

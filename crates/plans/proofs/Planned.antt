@@ -13,6 +13,7 @@ use Rattle.arithmetic.specs.Outcome.{Outcome, value}
 use Rattle.arithmetic.specs.Note.{is_note}
 use Rattle.plans.specs.declared.aot.GroupBy.{GroupBy}
 use Rattle.channels.specs.Lists.{Each, Distinct, member}
+use Rattle.channels.specs.Places.{note_of}
 use Rattle.plans.specs.Line.{Line, rising}
 use Rattle.plans.specs.PlanLists.{key_count, keys}
 use Rattle.plans.specs.Walk.{walk, count, seat, seat_from, entry}
@@ -20,7 +21,7 @@ use Rattle.std.specs.Prelude.{Result, Ok, Err}
 use Rattle.arithmetic.specs.declared.refusal.Refusal.{Refusal}
 use Rattle.arithmetic.specs.Refusal.{number}
 use Rattle.plans.specs.declared.sorted_keys.SortedKeys.{SortedKeys}
-use Rattle.plans.specs.PlanInternal.{Accepted, Checked, Fine, Holds, Ready, lines_of}
+use Rattle.plans.specs.PlanInternal.{Accepted, Checked, Filled, Fine, Long, lines_of}
 use Rattle.plans.specs.Plan.{Model, Answer, tuned, untuned, empty, holding, planned, Smallest}
 use Rattle.channels.proofs.ListLaws.{Pairwise, false→T}
 use Rattle.plans.proofs.Rising.{Other, Each-rising, rising_Each, length_rising, rising_sorted, rising_of_sorted, rising_apart, distinct_apart, absent}
@@ -66,9 +67,16 @@ absent_key : (k : ℕ) (lines : List Line) → Each (λ (l : Line). eqb l.key k 
 absent_key k [] h = refl
 absent_key k (x ∷ lines) h = rw h.0 (absent_key k lines h.1)
 
--- What the check of the lists holds is a list that the pass takes.
-ready : (s : SortedKeys) (lines : List Line) → Accepted lines → Holds s lines → Ready s
-ready s lines ok h = record {
+-- The keys are lines that a pass takes: accepted and in order; no other key has a note.
+pub record Ready (s : SortedKeys) : Type 0 where
+  pub ok : Accepted (lines_of s)
+  pub ordered : rising (lines_of s) ≡ lines_of s
+  pub no_other : (k : ℕ) → Each (λ (l : Line). eqb l.key k ≡ false) (lines_of s) → is_note (note_of (get_or s.records k 0)) ≡ false
+  pub long : Long s
+
+-- Keys that some lines filled are such.
+pub ready : (s : SortedKeys) → Filled s → Ready s
+ready s f = let lines = f.0 in let ok = f.1 in let h = f.2 in record {
   ok = rw h.ordered (rising_accepted lines ok);
   ordered = rw h.ordered (rising_twice lines ok);
   no_other = λ k o.
@@ -86,28 +94,27 @@ planned_rising m lines ok =
     λ i. cond (leb (n i) (length m.channels)) (h i, tuned (n i)) (empty m.channels m.group_by, untuned (n i))
 
 -- ---- the check of the lists, and the pass behind it
-pub ready_if : (o : Outcome (List Line)) (s : SortedKeys) → Checked o (Ok tt) s → Ready s
-ready_if (value lines) s c = ready s lines c.0 c.1
-ready_if (Outcome.refused k) s c = absurd c
+pub filled_if : (o : Outcome (List Line)) (s : SortedKeys) → Checked o (Ok s) → Filled s
+filled_if (value lines) s c = (lines, c.0, c.1)
+filled_if (Outcome.refused k) s c = absurd c
 
 -- lists that are refused
-pub planned_refused : (o : Outcome (List Line)) (s : SortedKeys) (m : Model) (r : Refusal) → Checked o (Err r) s
-    → (m, Answer.refused (number r)) ≡ planned m o
+pub planned_refused : (o : Outcome (List Line)) (m : Model) (r : Refusal) → Checked o (Err r) → (m, Answer.refused (number r)) ≡ planned m o
 unfolding planned
-planned_refused (value lines) s m r c = absurd c
-planned_refused (Outcome.refused k) s m r c = ap (λ (j : ℕ). (m, Answer.refused j)) (sym c)
+planned_refused (value lines) m r c = absurd c
+planned_refused (Outcome.refused k) m r c = ap (λ (j : ℕ). (m, Answer.refused j)) (sym c)
 
 -- and others: the lines in order are planned as the list is
-pub planned_lines : (o : Outcome (List Line)) (s : SortedKeys) (m : Model) → Checked o (Ok tt) s
+pub planned_lines : (o : Outcome (List Line)) (s : SortedKeys) (m : Model) → Checked o (Ok s)
     → Accepted (lines_of s) × (planned m (value (lines_of s)) ≡ planned m o)
 planned_lines (value lines) s m c = (rw c.1.ordered (rising_accepted lines c.0), rw c.1.ordered (planned_rising m lines c.0))
 planned_lines (Outcome.refused k) s m c = absurd c
 
 -- what was checked is accepted
-pub fine : (o : Outcome (List Line)) (s : SortedKeys) (r : Result (Unit {0}) Refusal) → Checked o r s → Fine o
-fine (value lines) s (Ok u) c = c.0
-fine (value lines) s (Err e) c = absurd c
-fine (Outcome.refused k) s r c = tt
+pub fine : (o : Outcome (List Line)) (r : Result SortedKeys Refusal) → Checked o r → Fine o
+fine (value lines) (Ok s) c = c.0
+fine (value lines) (Err e) c = absurd c
+fine (Outcome.refused k) r c = tt
 
 -- ---- what the planning of lists comes to meets demand 3
 pub plan_smallest : (m : Model) (o : Outcome (List Line)) (r : Model × Answer) → Fine o → r ≡ planned m o → Smallest m o r

@@ -18,12 +18,12 @@ use Rattle.plans.proofs.PlanEntries.{planned_positive}
 use Rattle.channels.proofs.ListLaws.{T→true}
 
 -- the very model is left
-pub refused_tunes : (a : AotTuningModel) (o : Outcome (List Line)) (s : SortedKeys) (e : Refusal) (r : Result Planned Refusal) → IsErrAnd r (λ d. d ≡ e)
-    → Checked o (Err e) s → Tunes (planned (plan_of a) o) a a (plan_answer r)
-refused_tunes a o s e (Ok p) h c = absurd h
-refused_tunes a o s e (Err d) h c = (planned_refused o s (plan_of a) d (rw h c), refl)
+pub refused_tunes : (a : AotTuningModel) (o : Outcome (List Line)) (e : Refusal) (r : Result Planned Refusal) → IsErrAnd r (λ d. d ≡ e)
+    → Checked o (Err e) → Tunes (planned (plan_of a) o) a a (plan_answer r)
+refused_tunes a o e (Ok p) h c = absurd h
+refused_tunes a o e (Err d) h c = (planned_refused o (plan_of a) d (rw h c), refl)
 
-module _ (a : AotTuningModel) (o : Outcome (List Line)) (s : SortedKeys) (c : Checked o (Ok tt) s) (cs : List ℕ) (same : cs ≡ (plan_of a).channels)
+module _ (a : AotTuningModel) (o : Outcome (List Line)) (s : SortedKeys) (c : Checked o (Ok s)) (cs : List ℕ) (same : cs ≡ (plan_of a).channels)
     (by : GroupBy) (own : by ≡ (plan_of a).group_by) where
   -- no plan is left
   pub untuned_tunes : (rs : List KeyRecord) (n : ℕ) → Seats by (lines_of s) rs n → length cs < n → (new : AotTuningModel) → plan_of new ≡ empty cs by
@@ -49,12 +49,12 @@ module _ (a : AotTuningModel) (o : Outcome (List Line)) (s : SortedKeys) (c : Ch
       (tuned_model m (lines_of s) p.0 (records_in cells ds) n seated (omega (arith, seated.count_is, ap length same)) (omega arith) ∙ p.1, tt)
 
 -- what follows the rule meets demand 3
-pub smallest_of : (a : AotTuningModel) (o : Outcome (List Line)) (s : SortedKeys) (r : Result (Unit {0}) Refusal) → Checked o r s
+pub smallest_of : (a : AotTuningModel) (o : Outcome (List Line)) (r : Result SortedKeys Refusal) → Checked o r
     → (new : AotTuningModel) (answer : Answer) → Tunes (planned (plan_of a) o) a new answer → Smallest (plan_of a) o (plan_of new, answer)
-smallest_of a o s r c new answer t = plan_smallest (plan_of a) o (plan_of new, answer) (fine o s r c) t.0
+smallest_of a o r c new answer t = plan_smallest (plan_of a) o (plan_of new, answer) (fine o r c) t.0
 
 -- and each of its detunings can be measured
-pub measurable_of : (a : AotTuningModel) (o : Outcome (List Line)) (s : SortedKeys) → Checked o (Ok tt) s → (new : AotTuningModel) (answer : Answer)
+pub measurable_of : (a : AotTuningModel) (o : Outcome (List Line)) (s : SortedKeys) → Checked o (Ok s) → (new : AotTuningModel) (answer : Answer)
     → Tunes (planned (plan_of a) o) a new answer → Measurable (plan_of new)
 measurable_of a (Outcome.refused n) s c new answer t = absurd c
 measurable_of a (value lines) s c new answer t =

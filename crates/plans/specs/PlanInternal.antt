@@ -54,12 +54,12 @@ pub record Holds (s : SortedKeys) (lines : List Line) : Type 0 where
   pub marked : (k : ℕ) → is_held (place_of (get_or s.records k 0)) ≡ member k (keys lines)
   pub long : Long s
 
--- what the check of a plan's lists leaves, and its answer
-abbrev pub Checked : Outcome (List Line) → Result (Unit {0}) Refusal → SortedKeys → Type 0
-Checked (value lines) (Ok u) s = Accepted lines × Holds s lines
-Checked (value lines) (Err r) s = ⊥
-Checked (refused n) (Ok u) s = ⊥
-Checked (refused n) (Err r) s = n ≡ number r
+-- what the check of a plan's lists answers: the keys in order, or the refusal
+abbrev pub Checked : Outcome (List Line) → Result SortedKeys Refusal → Type 0
+Checked (value lines) (Ok s) = Accepted lines × Holds s lines
+Checked (value lines) (Err r) = ⊥
+Checked (refused n) (Ok s) = ⊥
+Checked (refused n) (Err r) = n ≡ number r
 
 -- some lines were accepted, and are held
 abbrev pub Filled : SortedKeys → Type 0
@@ -67,14 +67,15 @@ Filled s = (lines : List Line) × Accepted lines × Holds s lines
 
 -- the check of one line more
 abbrev pub Adds : Line → Result (Unit {0}) Refusal → SortedKeys → SortedKeys → Type 0
-Adds x r s t = (lines : List Line) → Accepted lines → Holds s lines → Checked (line_by_line lines (value x ∷ [])) r t
+Adds x (Ok u) s t = (lines : List Line) → Accepted lines → Holds s lines → Checked (line_by_line lines (value x ∷ [])) (Ok t)
+Adds x (Err r) s t = (lines : List Line) → Accepted lines → Holds s lines → Checked (line_by_line lines (value x ∷ [])) (Err r)
 
 -- the detunings of these keys are above zero and rise
 abbrev pub Rises : List Float → List ℕ → Type 0
 Rises ds [] = Unit {0}
 Rises ds (k ∷ ks) = T (positive (get_or ds k nan)) × Each (λ (j : ℕ). T (le (get_or ds k nan) (get_or ds j nan))) ks × Rises ds ks
 
--- how many of the keys stand before the first with a detuning above d
+-- how many of the keys stand before the first whose detuning is not at most d: one above d, or a NaN, which never stands there
 unfoldable pub before : List Float → Float → List ℕ → ℕ
 before ds d [] = zero
 before ds d (k ∷ ks) = let r = before ds d ks in cond (le (get_or ds k nan) d) (suc r) zero
@@ -97,13 +98,6 @@ slot_of (negsuc n) = 299 - n
 unfoldable pub channels_with : ℕ → Float → Float → ℕ
 channels_with zero before d = 1
 channels_with (suc n) before d = cond (joins before d) (suc n) (suc (suc n))
-
--- the keys are lines that a pass takes: accepted and in order; no other key has a note
-pub record Ready (s : SortedKeys) : Type 0 where
-  pub ok : Accepted (lines_of s)
-  pub ordered : rising (lines_of s) ≡ lines_of s
-  pub no_other : (k : ℕ) → Each (λ (l : Line). eqb l.key k ≡ false) (lines_of s) → is_note (note_of (get_or s.records k 0)) ≡ false
-  pub long : Long s
 
 -- the records have each key of the list where the walk seats it, if the channels are no more than sixteen, and no other key; the count is the walk's
 pub record Seats (by : GroupBy) (lines : List Line) (rs : List KeyRecord) (n : ℕ) : Type 0 where

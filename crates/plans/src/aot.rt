@@ -102,8 +102,7 @@ impl AotTuningModel {
     {
         let channels = self.channels();
         let by = self.group_by();
-        let mut keys = SortedKeys::none();
-        keys.add_all(lists)?;
+        let mut keys = SortedKeys::of(lists)?;
         let count = place_keys(&mut keys, by);
         let present = channels.len() as u16;
         let few = present < count;

@@ -51,7 +51,7 @@ pub trait TuningLists {
     ghost lines_are: { (s : Self) → lines s ≡ (refuse lists_unequal unless equally_long s then line_by_line [] (rows s)) };
 }
 
-// Keys with their notes and detunings. Refuses 12, then line by line 4, 3, 5.
+// Keys with their notes and detunings. Refuses 12, then line by line 4, 3, 5. They are no slice of lines: callers may lend unequally many, which is refusal 12.
 #[derive(Clone, Copy)]
 pub struct NoteLists<'a> {
     pub keys: &'a [u8],
@@ -100,7 +100,7 @@ impl<'a> TuningLists for NoteLists<'a> {
     }
 }
 
-// Keys with their pitches in Hz: each has the nearest note. Refuses 12, then line by line 1, 5.
+// Keys with their pitches in Hz: each has the nearest note. Refuses 12, then line by line 1, 5. They are two slices for the same reason.
 #[derive(Clone, Copy)]
 pub struct PitchLists<'a> {
     pub keys: &'a [u8],

@@ -3,7 +3,7 @@
 ghost use Rattle.std.specs.Prelude.{◌≡◌, ◌<◌};
 ghost use Rattle.plans.specs.Line.{group, joins};
 ghost use Rattle.plans.specs.Plan.{records_in};
-ghost use Rattle.plans.specs.PlanInternal.{Ready, Seats, channels_with, lines_of, slot_of};
+ghost use Rattle.plans.specs.PlanInternal.{Filled, Seats, channels_with, lines_of, slot_of};
 
 use crate::aot::GroupBy;
 use crate::sorted_keys::SortedKeys;
@@ -14,7 +14,8 @@ use channels::keys::{Place, place_of};
 // There are so many notes, and no more groups of any kind.
 const GROUPS: usize = 801;
 
-// A group so far: how many channels it uses, and which key came last, in four bytes, since all groups are cleared for each plan.
+// A group so far: how many channels it uses, and which key came last, in four bytes, since all groups are cleared for each plan. Where `used` is 0,
+// `last` is 0 and says nothing: `channels_with` then sets its detuning aside. An Option<u8> is no plainer: None would say `used == 0` a second time.
 #[derive(Clone, Copy)]
 struct Run {
     used: u16,
@@ -25,7 +26,7 @@ const NO_KEYS: Run = Run { used: 0, last: 0 };
 
 // Places each key on its channel. Answers how many channels that takes.
 pub(crate) fn place_keys(keys: &mut SortedKeys, by: GroupBy) -> u16
-    requires { Ready keys.old }
+    requires { Filled keys.old }
     ensures { Seats by (lines_of keys.old) (records_in keys.new.records keys.new.detunings) result }
 {
     let SortedKeys {

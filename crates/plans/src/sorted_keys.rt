@@ -19,8 +19,21 @@ pub struct SortedKeys {
 }
 
 impl SortedKeys {
+    // The lines of lists in order. Refuses 12, then line by line what a line is refused for by itself, and 5.
+    pub fn of<L: TuningLists>(lists: &L) -> Result<SortedKeys, Refusal>
+        ensures { Checked (L.lines lists.now) result }
+    {
+        let n = lists.len()?;
+        let mut keys = SortedKeys::none();
+        for i in 0..n {
+            let line = lists.line(i)?;
+            keys.add(line)?;
+        }
+        Ok(keys)
+    }
+
     // No keys.
-    pub fn none() -> SortedKeys
+    fn none() -> SortedKeys
         ensures { Holds result [] }
     {
         SortedKeys {
@@ -28,19 +41,6 @@ impl SortedKeys {
             records: [0; KEYS],
             detunings: [0.0; KEYS],
         }
-    }
-
-    // Puts the lines of lists in order. Refuses 12, then line by line what a line is refused for by itself, and 5.
-    pub fn add_all<L: TuningLists>(&mut self, lists: &L) -> Result<(), Refusal>
-        requires { Holds self.old [] }
-        ensures { Checked (L.lines lists.now) result self.new }
-    {
-        let n = lists.len()?;
-        for i in 0..n {
-            let line = lists.line(i)?;
-            self.add(line)?;
-        }
-        Ok(())
     }
 
     // One line more. Refuses 5.

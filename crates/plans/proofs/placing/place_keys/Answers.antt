@@ -14,7 +14,8 @@ use Rattle.plans.specs.declared.sorted_keys.SortedKeys.{SortedKeys}
 use Rattle.plans.specs.Line.{Line, group}
 use Rattle.plans.specs.PlanBlock.{detuning_of}
 use Rattle.plans.specs.Plan.{records_in, records_of}
-use Rattle.plans.specs.PlanInternal.{Ready, Seats, channels_with, line_at, lines_of, slot_of}
+use Rattle.plans.specs.PlanInternal.{Filled, Seats, channels_with, line_at, lines_of, slot_of}
+use Rattle.plans.proofs.Planned.{Ready, ready as ready_keys}
 use Rattle.plans.proofs.Records.{noted_found, noted_at}
 use Rattle.plans.proofs.PlanBlocks.{lines_kept}
 use Rattle.plans.proofs.SortedKeys.{accepted_few, replicated_at}
@@ -26,8 +27,8 @@ use Rattle.plans.proofs.placing.place_keys.Goals.{In-loop-key}
 abbrev in_list : SortedKeys → List ℕ → SortedKeys
 in_list s ks = record { order = record { items = ks }; records = s.records; detunings = s.detunings }
 
-ready_in_list : (s : SortedKeys) (ks : List ℕ) → ks ≡ s.order.items → Ready s → Ready (in_list s ks)
-ready_in_list s ks e h = subst (λ l. Ready (in_list s l)) (sym e) h
+ready_in_list : (s : SortedKeys) (ks : List ℕ) → ks ≡ s.order.items → Filled s → Ready (in_list s ks)
+ready_in_list s ks e h = subst (λ l. Ready (in_list s l)) (sym e) (ready_keys s h)
 
 pub loop-key-init : goal.loop-key-init
 unfolding lines_of

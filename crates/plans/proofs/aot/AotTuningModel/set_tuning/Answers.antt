@@ -3,25 +3,25 @@ use Rattle.std.proofs.Common.{◌≡◌, length, arith}
 use Rattle.channels.specs.ChannelList.{entries}
 use Rattle.channels.proofs.ChannelLists.{entries_few}
 use Rattle.plans.specs.Plan.{Tunes, plan_of, planned, tuned, untuned}
-use Rattle.plans.proofs.Planned.{ready_if}
+use Rattle.plans.proofs.Planned.{filled_if}
 use Rattle.plans.proofs.Tunings.{refused_tunes, untuned_tunes, tuned_tunes, smallest_of, measurable_of}
 use Rattle.plans.proofs.aot.AotTuningModel.set_tuning.Given.{Over}
 use Rattle.plans.proofs.aot.AotTuningModel.set_tuning.Goals as goal
 use Rattle.plans.proofs.aot.AotTuningModel.set_tuning.Goals.{After-new, Else-few}
 
-pub returns-in_err-add_all-clause-tunes : goal.returns-in_err-add_all-clause-tunes
-returns-in_err-add_all-clause-tunes g c =
-    refused_tunes c.args.self.now (g.L.TuningLists.lines c.args.lists.now) c.add_all.new.self _ c.from_residual.result c.from_residual.ensures.1
-    c.in_err-add_all.ensures
+pub returns-in_err-keys-clause-tunes : goal.returns-in_err-keys-clause-tunes
+returns-in_err-keys-clause-tunes g c =
+    refused_tunes c.args.self.now (g.L.TuningLists.lines c.args.lists.now) _ c.from_residual.result c.from_residual.ensures.1
+    c.in_err-keys.ensures
 
 pub place_keys-count-requires : goal.place_keys-count-requires
-place_keys-count-requires g c = ready_if (g.L.TuningLists.lines c.args.lists.now) c.add_all.new.self c.in_ok-add_all.ensures
+place_keys-count-requires g c = filled_if (g.L.TuningLists.lines c.args.lists.now) c.in_ok-keys.keys c.in_ok-keys.ensures
 
 -- there are too few channels
 few_tunes : (g : Over) (c : After-new g)
     → Tunes (planned (plan_of c.args.self.now) (g.L.TuningLists.lines c.args.lists.now)) c.args.self.now c.new.result (untuned c.place_keys-count.result)
 few_tunes g c =
-    untuned_tunes c.args.self.now (g.L.TuningLists.lines c.args.lists.now) c.add_all.new.self c.in_ok-add_all.ensures (entries c.channels-channels.result)
+    untuned_tunes c.args.self.now (g.L.TuningLists.lines c.args.lists.now) c.in_ok-keys.keys c.in_ok-keys.ensures (entries c.channels-channels.result)
     c.channels-channels.ensures c.group_by-by.result c.group_by-by.ensures _ c.place_keys-count.result c.place_keys-count.ensures
     (omega (arith, c.len-present.ensures, c.if-few.true)) c.new.result c.new.ensures
 
@@ -30,7 +30,7 @@ returns-then-few-clause-tunes g c = few_tunes g (goal.at.returns-then-few-clause
 
 pub returns-then-few-clause-smallest : goal.returns-then-few-clause-smallest
 returns-then-few-clause-smallest g c =
-    smallest_of c.args.self.now (g.L.TuningLists.lines c.args.lists.now) c.add_all.new.self _ c.in_ok-add_all.ensures c.new.result _
+    smallest_of c.args.self.now (g.L.TuningLists.lines c.args.lists.now) _ c.in_ok-keys.ensures c.new.result _
     (few_tunes g (goal.at.returns-then-few-clause-smallest g c).After-new)
 
 -- or enough
@@ -47,7 +47,7 @@ module _ (g : Over) (c : Else-few g) where
       })
       (tuned c.place_keys-count.result)
   enough_tunes =
-      tuned_tunes c.args.self.now (g.L.TuningLists.lines c.args.lists.now) c.add_all.new.self c.in_ok-add_all.ensures (entries c.channels-channels.result)
+      tuned_tunes c.args.self.now (g.L.TuningLists.lines c.args.lists.now) c.in_ok-keys.keys c.in_ok-keys.ensures (entries c.channels-channels.result)
       c.channels-channels.ensures c.group_by-by.result c.group_by-by.ensures _ _ c.place_keys-count.result c.place_keys-count.ensures
       (omega (arith, c.len-present.ensures, c.if-few.false)) (entries_few c.channels-channels.result)
 
@@ -56,10 +56,10 @@ returns-clause-tunes g c = enough_tunes g (goal.at.returns-clause-tunes g c).Els
 
 pub returns-clause-smallest : goal.returns-clause-smallest
 returns-clause-smallest g c =
-    smallest_of c.args.self.now (g.L.TuningLists.lines c.args.lists.now) c.add_all.new.self _ c.in_ok-add_all.ensures _ _
+    smallest_of c.args.self.now (g.L.TuningLists.lines c.args.lists.now) _ c.in_ok-keys.ensures _ _
     (enough_tunes g (goal.at.returns-clause-smallest g c).Else-few)
 
 pub returns-clause-measurable : goal.returns-clause-measurable
 returns-clause-measurable g c =
-    measurable_of c.args.self.now (g.L.TuningLists.lines c.args.lists.now) c.add_all.new.self c.in_ok-add_all.ensures _ _
+    measurable_of c.args.self.now (g.L.TuningLists.lines c.args.lists.now) c.in_ok-keys.keys c.in_ok-keys.ensures _ _
     (enough_tunes g (goal.at.returns-clause-measurable g c).Else-few)

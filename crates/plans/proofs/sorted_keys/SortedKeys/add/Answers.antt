@@ -14,7 +14,7 @@ pub returns-then-is_found : goal.returns-then-is_found
 returns-then-is_found c lines ok h =
     let t = c.args.line in
     let b : Sound (key_line t) = record { byte = omega arith; note = t.note.is_note; above = t.above_zero; fitting = search rules } in
-    came_before c.args.self.now (key_line t) b lines ok h (sym c.is_found.ensures ∙ c.if-is_found.true) _
+    came_before c.args.self.now (key_line t) b lines ok h (sym c.is_found.ensures ∙ c.if-is_found.true)
 
 -- the key is another one, so there is room for it
 module _ (c : Else-is_found) where

@@ -1,4 +1,4 @@
--- `SortedKeys::add_all` meets its contract, line by line. Assumes nothing.
+-- `SortedKeys::of` meets its contract, line by line. Assumes nothing.
 use Rattle.std.proofs.Common.{◌≡◌, true, [], add-one, length, ◌∙◌, arith}
 use Rattle.arithmetic.specs.Outcome.{refused}
 use Rattle.arithmetic.proofs.Outcomes.{passed}
@@ -6,9 +6,9 @@ use Rattle.arithmetic.specs.Refusal.{lists_unequal}
 use Rattle.plans.specs.KeyLine.{key_line}
 use Rattle.plans.specs.PlanLists.{line_by_line}
 use Rattle.plans.proofs.Lines.{checked_refused, ended, turn_next, turn_refused, turn_twice}
-use Rattle.plans.proofs.sorted_keys.SortedKeys.add_all.Given.{Over}
-use Rattle.plans.proofs.sorted_keys.SortedKeys.add_all.Goals as goal
-use Rattle.plans.proofs.sorted_keys.SortedKeys.add_all.Goals.{In_ok-n}
+use Rattle.plans.proofs.sorted_keys.SortedKeys.of.Given.{Over}
+use Rattle.plans.proofs.sorted_keys.SortedKeys.of.Goals as goal
+use Rattle.plans.proofs.sorted_keys.SortedKeys.of.Goals.{In_ok-n}
 
 -- the lists are equally long
 module _ (g : Over) (c : In_ok-n g) where
@@ -22,26 +22,26 @@ pub returns-in_err-line : goal.returns-in_err-line
 returns-in_err-line g c =
     let t = (goal.at.returns-in_err-line g c).In_ok-n in
     let rows = g.L.TuningLists.rows c.args.lists.now in
-    let o = turn_refused (line_by_line [] rows) c.loop-i.self rows c.loop-i.i c.loop-i.invariant _ (refused 12) (omega (arith, (counted g t).1)) c.in_err-line.ensures in
-    checked_refused _ c.from_residual-in_err-line.result _ _ c.from_residual-in_err-line.ensures.1 (whole g t ∙ o)
+    let o = turn_refused (line_by_line [] rows) c.loop-i.keys rows c.loop-i.i c.loop-i.invariant _ (refused 12) (omega (arith, (counted g t).1)) c.in_err-line.ensures in
+    checked_refused _ c.from_residual-in_err-line.result _ c.from_residual-in_err-line.ensures.1 (whole g t ∙ o)
 
 pub returns-in_err-add : goal.returns-in_err-add
 returns-in_err-add g c =
     let t = (goal.at.returns-in_err-add g c).In_ok-n in
     let rows = g.L.TuningLists.rows c.args.lists.now in
-    let o = turn_twice (line_by_line [] rows) c.loop-i.self rows c.loop-i.i c.loop-i.invariant (key_line c.in_ok-line.line) (refused 12)
+    let o = turn_twice (line_by_line [] rows) c.loop-i.keys rows c.loop-i.i c.loop-i.invariant (key_line c.in_ok-line.line) (refused 12)
     (omega (arith, (counted g t).1)) c.in_ok-line.ensures _ c.add.new.self c.in_err-add.ensures in
-    checked_refused _ c.from_residual-in_err-add.result _ _ c.from_residual-in_err-add.ensures.1 (whole g t ∙ o)
+    checked_refused _ c.from_residual-in_err-add.result _ c.from_residual-in_err-add.ensures.1 (whole g t ∙ o)
 
 pub loop-i-preserved : goal.loop-i-preserved
 loop-i-preserved g c =
     let t = (goal.at.loop-i-preserved g c).In_ok-n in
     let rows = g.L.TuningLists.rows c.args.lists.now in
-    rw add-one (turn_next (line_by_line [] rows) c.loop-i.self rows c.loop-i.i c.loop-i.invariant (key_line c.in_ok-line.line) (refused 12)
+    rw add-one (turn_next (line_by_line [] rows) c.loop-i.keys rows c.loop-i.i c.loop-i.invariant (key_line c.in_ok-line.line) (refused 12)
     (omega (arith, (counted g t).1)) c.in_ok-line.ensures c.add.new.self c.in_ok-add.ensures)
 
 pub returns : goal.returns
 returns g c =
     let t = (goal.at.returns g c).In_ok-n in
     let rows = g.L.TuningLists.rows c.args.lists.now in
-    rw (whole g t) (ended (line_by_line [] rows) c.loop-i.self rows c.loop-i.i c.loop-i.invariant (omega (arith, (counted g t).1)))
+    rw (whole g t) (ended (line_by_line [] rows) c.loop-i.keys rows c.loop-i.i c.loop-i.invariant (omega (arith, (counted g t).1)))
