@@ -1,5 +1,5 @@
-// Keys: how many there are, where a key is found, and both in one number, the key's record, 0 or note + 301 + 1024 * channel. Models keep records, since they lie in the
-// memory of programs in C; any number there is read as some record, so that a type for one would be no plainer.
+// Keys: how many there are, where a key is found, and both in one number, the key's record, 0 or note + 301 + 1024 * channel.
+// Models keep records, since they lie in the memory of programs in C; any number there is read as some record, so that a type for one would be no plainer.
 
 ghost use Rattle.std.specs.Prelude.{◌≡◌};
 ghost use Rattle.channels.specs.Places.{is_held, note_of, place_of, cell_of, place};

@@ -10,6 +10,8 @@ use arrayvec::ArrayVec;
 use channels::keys::{KEYS, Place, is_found};
 
 // Keys by rising detuning, equal ones in the order of their lines; and by key a record, which has the note, and the detuning.
+// That they are so (`Filled`) is asked by three private functions and is not the type's: `add` changes the fields one after another, `place_keys` the
+// records alone, so that a type that says so would have to be taken apart and made again there, and be no plainer.
 #[derive(Drop)]
 pub struct SortedKeys {
     pub order: ArrayVec<u8, KEYS>,
