@@ -3,20 +3,21 @@
 
 use arithmetic::note::{checked_midi_number, letter, num_semitones_before, octave, plus_semitones};
 use arithmetic::pitch::{Pitch, Ratio};
-use arithmetic::tuning::{detuning, find_by_pitch, pitch_of};
-use show::{Answer, Bits, Or};
-use std::io;
+use arithmetic::tuning::{Approximation, detuning, find_by_pitch, pitch_of};
+use show::{Answer, Bits, Code, Or};
 use std::io::{BufWriter, Write};
+use std::{fmt, io};
 
 // Letter, octave, MIDI's number and pitch.
 fn note(out: &mut impl Write, note: i32) -> io::Result<()> {
+    let number = checked_midi_number(note).map(|number| Or(number, "-"));
     writeln!(
         out,
         "note {note}: {} {} {} {}",
-        Answer(letter(note)),
-        Answer(octave(note)),
-        Answer(checked_midi_number(note).map(|number| Or(number, "-"))),
-        Answer(pitch_of(note).map(Bits))
+        Answer(letter(note).map_err(Code)),
+        Answer(octave(note).map_err(Code)),
+        Answer(number.map_err(Code)),
+        Answer(pitch_of(note).map(Bits).map_err(Code))
     )
 }
 
@@ -24,7 +25,7 @@ fn plus(out: &mut impl Write, note: i32, steps: i32) -> io::Result<()> {
     writeln!(
         out,
         "note {note} plus {steps}: {}",
-        Answer(plus_semitones(note, steps))
+        Answer(plus_semitones(note, steps).map_err(Code))
     )
 }
 
@@ -32,17 +33,24 @@ fn before(out: &mut impl Write, note: i32, other: i32) -> io::Result<()> {
     writeln!(
         out,
         "note {note} before {other}: {}",
-        Answer(num_semitones_before(note, other))
+        Answer(num_semitones_before(note, other).map_err(Code))
     )
 }
 
 // The nearest note and the detuning.
-fn nearest(out: &mut impl Write, hz: f64) -> io::Result<()> {
-    write!(out, "pitch {}: ", Bits(hz))?;
-    match find_by_pitch(Pitch::from_hz(hz)) {
-        Ok(nearest) => writeln!(out, "{} {}", nearest.note.number(), Bits(nearest.detuning)),
-        Err(refusal) => writeln!(out, "R{}", refusal.number()),
+#[derive(Clone, Copy)]
+struct Found(Approximation);
+
+impl fmt::Display for Found {
+    fn fmt<W: fmt::Write>(&self, f: &mut fmt::Formatter<W>) -> fmt::Result {
+        let nearest = &self.0;
+        write!(f, "{} {}", nearest.note.number(), Bits(nearest.detuning))
     }
+}
+
+fn nearest(out: &mut impl Write, hz: f64) -> io::Result<()> {
+    let nearest = find_by_pitch(Pitch::from_hz(hz)).map(Found);
+    writeln!(out, "pitch {}: {}", Bits(hz), Answer(nearest.map_err(Code)))
 }
 
 fn detuned(out: &mut impl Write, hz: f64, note: i32) -> io::Result<()> {
@@ -51,13 +59,18 @@ fn detuned(out: &mut impl Write, hz: f64, note: i32) -> io::Result<()> {
         out,
         "pitch {} note {note}: {}",
         Bits(hz),
-        Answer(detuning.map(Bits))
+        Answer(detuning.map(Bits).map_err(Code))
     )
 }
 
 fn measure(out: &mut impl Write, ratio: f64) -> io::Result<()> {
     let measure = Ratio::from_float(ratio).measure();
-    writeln!(out, "ratio {}: {}", Bits(ratio), Answer(measure))
+    writeln!(
+        out,
+        "ratio {}: {}",
+        Bits(ratio),
+        Answer(measure.map_err(Code))
+    )
 }
 
 fn negligible(out: &mut impl Write, deviation: f64) -> io::Result<()> {

@@ -1,10 +1,10 @@
 // Pitches, ratios and what is sent of them, SPEC 4 and 5, and a channel list, SPEC 1.6.
-use crate::example;
+use crate::{answered, example};
 use arithmetic::pitch::{Pitch, Ratio};
 use arithmetic::tuning::{detuning, find_by_pitch, pitch_of};
 use channels::list::ChannelList;
 use channels::tuning_value::{TuningKind, tuning_of};
-use printing::answers::{Answer, Hertz, Listed, Nearest, Value};
+use printing::answers::{Hertz, Listed, Nearest, Value};
 use printing::decimal::Decimal;
 use std::io;
 use std::io::Write;
@@ -13,7 +13,7 @@ pub fn all(out: &mut impl Write) -> io::Result<()> {
     ratios(out)?;
     tuning(out)?;
     let list = ChannelList::of(&[0, 1, 0]).map(Listed);
-    example(out, "ChannelList::of([0, 1, 0])", Answer(list))?;
+    answered(out, "ChannelList::of([0, 1, 0])", list)?;
     values(out)
 }
 
@@ -30,42 +30,42 @@ fn ratios(out: &mut impl Write) -> io::Result<()> {
         "Ratio::from_float(1.0000005).is_negligible()",
         if negligible { "yes" } else { "no" },
     )?;
-    example(
+    answered(
         out,
         "Ratio::from_float(1.5).measure()",
-        Answer(Ratio::from_float(1.5).measure()),
+        Ratio::from_float(1.5).measure(),
     )?;
-    example(
+    answered(
         out,
         "Ratio::from_float(0).measure()",
-        Answer(Ratio::from_float(0.0).measure()),
+        Ratio::from_float(0.0).measure(),
     )
 }
 
 fn tuning(out: &mut impl Write) -> io::Result<()> {
     let pitch = Pitch::from_hz(455.0);
     let nearest = find_by_pitch(pitch).map(Nearest);
-    example(out, "pitch_of(60)", Answer(pitch_of(60).map(Hertz)))?;
-    example(
+    answered(out, "pitch_of(60)", pitch_of(60).map(Hertz))?;
+    answered(
         out,
         "detuning(455 Hz, 69)",
-        Answer(detuning(pitch, 69).map(Decimal)),
+        detuning(pitch, 69).map(Decimal),
     )?;
-    example(out, "find_by_pitch(455 Hz)", Answer(nearest))?;
+    answered(out, "find_by_pitch(455 Hz)", nearest)?;
     let nearest = find_by_pitch(Pitch::from_hz(0.0)).map(Nearest);
-    example(out, "find_by_pitch(0 Hz)", Answer(nearest))
+    answered(out, "find_by_pitch(0 Hz)", nearest)
 }
 
 fn values(out: &mut impl Write) -> io::Result<()> {
     let ratio = Ratio::from_float(1.03125);
-    example(
+    answered(
         out,
         "tuning_of(FineTuning, 33/32)",
-        Answer(tuning_of(TuningKind::FineTuning, ratio).map(Value)),
+        tuning_of(TuningKind::FineTuning, ratio).map(Value),
     )?;
-    example(
+    answered(
         out,
         "tuning_of(Bend, 33/32)",
-        Answer(tuning_of(TuningKind::Bend, ratio).map(Value)),
+        tuning_of(TuningKind::Bend, ratio).map(Value),
     )
 }

@@ -1,8 +1,8 @@
 // A plan model, SPEC 6.
-use crate::example;
+use crate::{TWO_KEYS, answered, example};
 use plans::aot::{AotTuningModel, GroupBy};
 use plans::lists::{NoteLists, PitchLists, TuningLists};
-use printing::answers::{Answer, At, Entry, Listed, Or, Plan};
+use printing::answers::{At, Entry, Listed, Or, Plan};
 use printing::decimal::Decimal;
 use std::io;
 use std::io::Write;
@@ -19,13 +19,6 @@ fn of_two() -> AotTuningModel {
     AotTuningModel::open(&[0, 1], GroupBy::Channel).0
 }
 
-// Two keys for note 69, the second 33/32 higher.
-const TWO_KEYS: NoteLists<'static> = NoteLists {
-    keys: &[1, 2],
-    notes: &[69, 69],
-    detunings: &[1.0, 1.03125],
-};
-
 fn planned() -> AotTuningModel {
     let mut model = of_two();
     let _ = model.set_tuning(&TWO_KEYS);
@@ -36,15 +29,15 @@ fn planned() -> AotTuningModel {
 fn plan<L: TuningLists>(out: &mut impl Write, question: &str, lists: &L) -> io::Result<()> {
     let mut model = of_two();
     let answer = model.set_tuning(lists).map(Plan);
-    example(out, question, Answer(answer))
+    answered(out, question, answer)
 }
 
 fn open(out: &mut impl Write) -> io::Result<()> {
     let (_, answer) = AotTuningModel::open(&[0, 1], GroupBy::Channel);
-    example(
+    answered(
         out,
         "AotTuningModel::open([0, 1], Channel)",
-        Answer(answer.map(Listed)),
+        answer.map(Listed),
     )
 }
 

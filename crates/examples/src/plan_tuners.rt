@@ -1,14 +1,11 @@
 // The plan tuner, SPEC 9.3.
-use crate::example;
+use crate::{ROOM, TWO_KEYS, answered, sent};
 use channels::tuning_value::TuningKind;
-use plan_tuner::aot::AotTuner;
-use plans::lists::{NoteLists, PitchLists, TuningLists};
-use printing::answers::{Answer, PlanTuned, Sent};
+use plan_tuner::aot::{AotTuner, PlanSent};
+use plans::lists::{PitchLists, TuningLists};
+use printing::answers::PlanTuned;
 use std::io;
 use std::io::Write;
-
-// Enough for each call here.
-const ROOM: usize = 16;
 
 pub fn all(out: &mut impl Write) -> io::Result<()> {
     set_tuning(
@@ -36,13 +33,6 @@ pub fn all(out: &mut impl Write) -> io::Result<()> {
     )
 }
 
-// Two keys for note 69, the second 33/32 higher.
-const TWO_KEYS: NoteLists<'static> = NoteLists {
-    keys: &[1, 2],
-    notes: &[69, 69],
-    detunings: &[1.0, 1.03125],
-};
-
 // A tuner of two channels, by bends.
 fn by_bends() -> AotTuner {
     AotTuner::start(&[0, 1], TuningKind::Bend).0
@@ -52,11 +42,13 @@ fn set_tuning<L: TuningLists>(out: &mut impl Write, question: &str, lists: &L) -
     let mut buffer = [0u8; ROOM];
     let mut tuner = by_bends();
     let answer = tuner.set_tuning(lists, &mut buffer);
-    let tuned = answer.map(|planned| PlanTuned {
-        planned,
-        buffer: &buffer,
+    let tuned = answer.map(|tuned| match tuned {
+        PlanSent::Tuned { channels, written } => {
+            PlanTuned::Tuned(channels, sent(&buffer, written))
+        }
+        PlanSent::Untuned(channels) => PlanTuned::Untuned(channels),
     });
-    example(out, question, Answer(tuned))
+    answered(out, question, tuned)
 }
 
 fn note_on(out: &mut impl Write, question: &str, key: u8) -> io::Result<()> {
@@ -64,9 +56,5 @@ fn note_on(out: &mut impl Write, question: &str, key: u8) -> io::Result<()> {
     let mut tuner = by_bends();
     let _ = tuner.set_tuning(&TWO_KEYS, &mut buffer);
     let answer = tuner.note_on(key, 100, &mut buffer);
-    let sent = answer.map(|count| Sent {
-        count,
-        buffer: &buffer,
-    });
-    example(out, question, Answer(sent))
+    answered(out, question, answer.map(|count| sent(&buffer, count)))
 }

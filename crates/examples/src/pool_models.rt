@@ -1,8 +1,8 @@
 // A pool model, SPEC 7.
-use crate::example;
+use crate::{answered, example};
 use arithmetic::pitch::Pitch;
 use pools::jit::{JitTuningModel, PoolGroupBy, PoolingMode};
-use printing::answers::{Answer, At, Held, Listed, Or, Pressed, Retuned};
+use printing::answers::{At, Held, Listed, Or, Pressed, Retuned};
 use std::io;
 use std::io::Write;
 
@@ -35,15 +35,15 @@ fn press(
 ) -> io::Result<()> {
     let (_, answer) = model.pressed(key, Pitch::from_hz(hz));
     let press = answer.map(|press| Or(press.map(Pressed), "rejected"));
-    example(out, question, Answer(press))
+    answered(out, question, press)
 }
 
 fn open(out: &mut impl Write) -> io::Result<()> {
     let (_, answer) = JitTuningModel::open(&[0, 16], PoolGroupBy::Channel, PoolingMode::Stop);
-    example(
+    answered(
         out,
         "JitTuningModel::open([0, 16], Channel, Stop)",
-        Answer(answer.map(Listed)),
+        answer.map(Listed),
     )
 }
 
@@ -115,10 +115,10 @@ fn repitch(out: &mut impl Write) -> io::Result<()> {
     let repitched = model
         .repitch_key(1, Pitch::from_hz(445.0))
         .map(|repitched| Or(repitched.map(Retuned), "not found"));
-    example(
+    answered(
         out,
         "open([0], Channel, Stop); register_key(1, 440 Hz); repitch_key(1, 445 Hz)",
-        Answer(repitched),
+        repitched,
     )
 }
 
@@ -128,10 +128,10 @@ fn of_two_channels(out: &mut impl Write) -> io::Result<()> {
     let would = model
         .allocate_key(1, Pitch::from_hz(445.0))
         .map(|press| Or(press.map(Pressed), "rejected"));
-    example(
+    answered(
         out,
         "open([0, 1], Channel, Stop); allocate_key(1, 445 Hz)",
-        Answer(would),
+        would,
     )?;
     press(
         out,

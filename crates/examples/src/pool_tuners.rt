@@ -1,17 +1,13 @@
 // The pool tuner, SPEC 9.2 and 9.4.
-use crate::example;
+use crate::{ROOM, answered, sent};
 use arithmetic::pitch::Pitch;
-use arithmetic::refusal::Refusal;
 use channels::tuning_value::TuningKind;
 use pools::jit::PoolingMode;
-use printing::answers::{Answer, Listed, Or, Sent};
+use printing::answers::{Listed, Or};
 use senders::jit::JitTuner;
 use senders::midi::ChannelMessageType;
 use std::io;
 use std::io::Write;
-
-// Enough for each call here.
-const ROOM: usize = 16;
 
 pub fn all(out: &mut impl Write) -> io::Result<()> {
     start(out)?;
@@ -44,23 +40,12 @@ fn held() -> JitTuner {
         .0
 }
 
-// What a call sent.
-fn sent(
-    out: &mut impl Write,
-    question: &str,
-    answer: Result<usize, Refusal>,
-    buffer: &[u8],
-) -> io::Result<()> {
-    let sent = answer.map(|count| Sent { count, buffer });
-    example(out, question, Answer(sent))
-}
-
 fn start(out: &mut impl Write) -> io::Result<()> {
     let (_, answer) = JitTuner::start(&[0, 1], TuningKind::Bend, PoolingMode::Stop);
-    example(
+    answered(
         out,
         "JitTuner::start([0, 1], Bend, Stop)",
-        Answer(answer.map(Listed)),
+        answer.map(Listed),
     )
 }
 
@@ -68,34 +53,29 @@ fn note_on(out: &mut impl Write, question: &str, hz: f64) -> io::Result<()> {
     let mut buffer = [0u8; ROOM];
     let answer = by_bends().note_on(1, Pitch::from_hz(hz), 100, &mut buffer);
     let press = answer.map(|count| {
-        let sent = count.map(|count| Sent {
-            count,
-            buffer: &buffer,
-        });
+        let sent = count.map(|count| sent(&buffer, count));
         Or(sent, "rejected")
     });
-    example(out, question, Answer(press))
+    answered(out, question, press)
 }
 
 fn note_off(out: &mut impl Write) -> io::Result<()> {
     let mut buffer = [0u8; ROOM];
     let answer = held().note_off(1, 64, &mut buffer);
-    sent(
+    answered(
         out,
         "JitTuner::start([0, 1], Bend, Stop); note_on(1, 440 Hz, 100); note_off(1, 64)",
-        answer,
-        &buffer,
+        answer.map(|count| sent(&buffer, count)),
     )
 }
 
 fn note_pitch(out: &mut impl Write) -> io::Result<()> {
     let mut buffer = [0u8; ROOM];
     let answer = held().note_pitch(1, Pitch::from_hz(445.0), &mut buffer);
-    sent(
+    answered(
         out,
         "JitTuner::start([0, 1], Bend, Stop); note_on(1, 440 Hz, 100); note_pitch(1, 445 Hz)",
-        answer,
-        &buffer,
+        answer.map(|count| sent(&buffer, count)),
     )
 }
 
@@ -106,21 +86,19 @@ fn global_attr(out: &mut impl Write) -> io::Result<()> {
         value: 90,
     };
     let answer = by_bends().global_attr(volume, &mut buffer);
-    sent(
+    answered(
         out,
         "JitTuner::start([0, 1], Bend, Stop); global_attr(ControlChange(7, 90))",
-        answer,
-        &buffer,
+        answer.map(|count| sent(&buffer, count)),
     )
 }
 
 fn stop(out: &mut impl Write) -> io::Result<()> {
     let mut buffer = [0u8; ROOM];
     let answer = held().stop(&mut buffer);
-    sent(
+    answered(
         out,
         "JitTuner::start([0, 1], Bend, Stop); note_on(1, 440 Hz, 100); stop()",
-        answer,
-        &buffer,
+        answer.map(|count| sent(&buffer, count)),
     )
 }

@@ -5,6 +5,7 @@
 ghost use Rattle.std.specs.Prelude.{◌≤◌};
 
 use senders::midi::ChannelMessageType;
+use show::{Answer, Code, Hex};
 use std::io;
 use std::io::{BufWriter, Write};
 
@@ -52,79 +53,79 @@ fn bend(value: i16) -> ChannelMessageType {
 }
 
 fn notes(out: &mut impl Write) -> io::Result<()> {
-    show(out, note_off(0, 0), 0, ROOM)?;
-    show(out, note_off(127, 127), 15, ROOM)?;
-    show(out, note_on(0, 0), 0, ROOM)?;
-    show(out, note_on(127, 127), 15, ROOM)?;
-    show(out, note_on(69, 100), 7, ROOM)?;
-    show(out, key_pressure(0, 0), 0, ROOM)?;
-    show(out, key_pressure(127, 127), 15, ROOM)
+    sent(out, note_off(0, 0), 0, ROOM)?;
+    sent(out, note_off(127, 127), 15, ROOM)?;
+    sent(out, note_on(0, 0), 0, ROOM)?;
+    sent(out, note_on(127, 127), 15, ROOM)?;
+    sent(out, note_on(69, 100), 7, ROOM)?;
+    sent(out, key_pressure(0, 0), 0, ROOM)?;
+    sent(out, key_pressure(127, 127), 15, ROOM)
 }
 
 fn controls(out: &mut impl Write) -> io::Result<()> {
-    show(out, control(0, 0), 0, ROOM)?;
-    show(out, control(127, 127), 15, ROOM)?;
-    show(out, program(0), 0, ROOM)?;
-    show(out, program(127), 15, ROOM)?;
-    show(out, pressure(0), 0, ROOM)?;
-    show(out, pressure(127), 15, ROOM)
+    sent(out, control(0, 0), 0, ROOM)?;
+    sent(out, control(127, 127), 15, ROOM)?;
+    sent(out, program(0), 0, ROOM)?;
+    sent(out, program(127), 15, ROOM)?;
+    sent(out, pressure(0), 0, ROOM)?;
+    sent(out, pressure(127), 15, ROOM)
 }
 
 fn bends(out: &mut impl Write) -> io::Result<()> {
-    show(out, bend(-8192), 0, ROOM)?;
-    show(out, bend(-2251), 0, ROOM)?;
-    show(out, bend(-129), 1, ROOM)?;
-    show(out, bend(-128), 1, ROOM)?;
-    show(out, bend(-1), 15, ROOM)?;
-    show(out, bend(0), 15, ROOM)?;
-    show(out, bend(1), 15, ROOM)?;
-    show(out, bend(127), 1, ROOM)?;
-    show(out, bend(128), 1, ROOM)?;
-    show(out, bend(2182), 0, ROOM)?;
-    show(out, bend(8191), 0, ROOM)
+    sent(out, bend(-8192), 0, ROOM)?;
+    sent(out, bend(-2251), 0, ROOM)?;
+    sent(out, bend(-129), 1, ROOM)?;
+    sent(out, bend(-128), 1, ROOM)?;
+    sent(out, bend(-1), 15, ROOM)?;
+    sent(out, bend(0), 15, ROOM)?;
+    sent(out, bend(1), 15, ROOM)?;
+    sent(out, bend(127), 1, ROOM)?;
+    sent(out, bend(128), 1, ROOM)?;
+    sent(out, bend(2182), 0, ROOM)?;
+    sent(out, bend(8191), 0, ROOM)
 }
 
 // 6, before all else.
 fn wrong_channels(out: &mut impl Write) -> io::Result<()> {
-    show(out, note_on(69, 100), 16, ROOM)?;
-    show(out, note_on(128, 128), 255, ROOM)?;
-    show(out, bend(8192), 16, 0)
+    sent(out, note_on(69, 100), 16, ROOM)?;
+    sent(out, note_on(128, 128), 255, ROOM)?;
+    sent(out, bend(8192), 16, 0)
 }
 
 // 8, in either data byte, before 10.
 fn wrong_data(out: &mut impl Write) -> io::Result<()> {
-    show(out, note_off(128, 0), 0, ROOM)?;
-    show(out, note_off(0, 128), 0, ROOM)?;
-    show(out, note_on(255, 255), 15, 0)?;
-    show(out, key_pressure(128, 0), 0, ROOM)?;
-    show(out, key_pressure(0, 128), 0, ROOM)?;
-    show(out, control(128, 0), 0, ROOM)?;
-    show(out, control(0, 128), 0, ROOM)?;
-    show(out, program(128), 0, ROOM)?;
-    show(out, pressure(255), 0, ROOM)
+    sent(out, note_off(128, 0), 0, ROOM)?;
+    sent(out, note_off(0, 128), 0, ROOM)?;
+    sent(out, note_on(255, 255), 15, 0)?;
+    sent(out, key_pressure(128, 0), 0, ROOM)?;
+    sent(out, key_pressure(0, 128), 0, ROOM)?;
+    sent(out, control(128, 0), 0, ROOM)?;
+    sent(out, control(0, 128), 0, ROOM)?;
+    sent(out, program(128), 0, ROOM)?;
+    sent(out, pressure(255), 0, ROOM)
 }
 
 // 9, before 10.
 fn wrong_bends(out: &mut impl Write) -> io::Result<()> {
-    show(out, bend(-8193), 0, ROOM)?;
-    show(out, bend(8192), 0, ROOM)?;
-    show(out, bend(-32768), 0, ROOM)?;
-    show(out, bend(32767), 15, 0)
+    sent(out, bend(-8193), 0, ROOM)?;
+    sent(out, bend(8192), 0, ROOM)?;
+    sent(out, bend(-32768), 0, ROOM)?;
+    sent(out, bend(32767), 15, 0)
 }
 
 // 10, up to the byte that is missing.
 fn short_buffers(out: &mut impl Write) -> io::Result<()> {
-    show(out, note_on(69, 100), 0, 0)?;
-    show(out, note_on(69, 100), 0, 2)?;
-    show(out, note_on(69, 100), 0, 3)?;
-    show(out, program(5), 0, 2)?;
-    show(out, program(5), 0, 3)?;
-    show(out, bend(0), 0, 2)?;
-    show(out, bend(0), 0, 3)
+    sent(out, note_on(69, 100), 0, 0)?;
+    sent(out, note_on(69, 100), 0, 2)?;
+    sent(out, note_on(69, 100), 0, 3)?;
+    sent(out, program(5), 0, 2)?;
+    sent(out, program(5), 0, 3)?;
+    sent(out, bend(0), 0, 2)?;
+    sent(out, bend(0), 0, 3)
 }
 
 // Lends the first bytes of a buffer to a call, and prints what it answered and the whole buffer.
-fn show(
+fn sent(
     out: &mut impl Write,
     message: ChannelMessageType,
     channel: u8,
@@ -133,12 +134,6 @@ fn show(
     requires { room ≤ 4 }
 {
     let mut buffer = [0xaau8; ROOM];
-    match message.to_raw_message(channel, &mut buffer[..room]) {
-        Ok(count) => write!(out, "{count}")?,
-        Err(refusal) => write!(out, "R{}", refusal.number())?,
-    }
-    for byte in buffer {
-        write!(out, " {byte:02x}")?;
-    }
-    writeln!(out)
+    let answer = message.to_raw_message(channel, &mut buffer[..room]);
+    writeln!(out, "{} {}", Answer(answer.map_err(Code)), Hex(&buffer))
 }

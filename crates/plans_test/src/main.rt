@@ -5,15 +5,46 @@ ghost use Rattle.std.specs.Prelude.{◌≤◌};
 
 use plans::aot::{AotTuningModel, GroupBy, Planned};
 use plans::lists::{NoteLists, PitchLists, TuningLists};
-use show::{Bits, Or};
-use std::io;
+use show::{Answer, Bits, Code, Or, Spot};
 use std::io::{BufWriter, Write};
+use std::{fmt, io};
 
-fn yes_or_no(on: bool) -> &'static str {
-    if on { "yes" } else { "no" }
+// What a tuning comes to.
+#[derive(Clone, Copy)]
+struct Outcome(Planned);
+
+impl fmt::Display for Outcome {
+    fn fmt<W: fmt::Write>(&self, f: &mut fmt::Formatter<W>) -> fmt::Result {
+        match self.0 {
+            Planned::Tuned(n) => write!(f, "tuned {n}"),
+            Planned::Untuned(n) => write!(f, "untuned {n}"),
+        }
+    }
 }
 
-// Plans from a model: writes the answer, and the new model's count of channels and whether it is tuned.
+// A model's count of channels, and whether it is tuned.
+#[derive(Clone, Copy)]
+struct State<'a>(&'a AotTuningModel);
+
+impl fmt::Display for State<'_> {
+    fn fmt<W: fmt::Write>(&self, f: &mut fmt::Formatter<W>) -> fmt::Result {
+        let tuned = if self.0.tuned() { "yes" } else { "no" };
+        write!(f, "model {} {tuned}", self.0.num_channels())
+    }
+}
+
+// A group's number and its detuning.
+#[derive(Clone, Copy)]
+struct Entry((i32, f64));
+
+impl fmt::Display for Entry {
+    fn fmt<W: fmt::Write>(&self, f: &mut fmt::Formatter<W>) -> fmt::Result {
+        let (group, detuning) = self.0;
+        write!(f, "{group} {}", Bits(detuning))
+    }
+}
+
+// Plans from a model: writes the answer and the new model's state.
 fn plan<L: TuningLists>(
     out: &mut impl Write,
     name: &str,
@@ -21,13 +52,8 @@ fn plan<L: TuningLists>(
     lists: &L,
 ) -> io::Result<AotTuningModel> {
     let mut model = *from;
-    match model.set_tuning(lists) {
-        Ok(Planned::Tuned(n)) => write!(out, "{name} tuned {n}")?,
-        Ok(Planned::Untuned(n)) => write!(out, "{name} untuned {n}")?,
-        Err(refusal) => write!(out, "{name} R{}", refusal.number())?,
-    }
-    let n = model.num_channels();
-    writeln!(out, ", model {n} {}", yes_or_no(model.tuned()))?;
+    let answer = Answer(model.set_tuning(lists).map(Outcome).map_err(Code));
+    writeln!(out, "{name} {answer}, {}", State(&model))?;
     Ok(model)
 }
 
@@ -64,29 +90,15 @@ fn opened(
     group_by: GroupBy,
 ) -> io::Result<AotTuningModel> {
     let (model, answer) = AotTuningModel::open(channels, group_by);
-    match answer {
-        Ok(list) => write!(out, "{name} {}", list.len())?,
-        Err(refusal) => write!(out, "{name} R{}", refusal.number())?,
-    }
-    let n = model.num_channels();
+    let answer = Answer(answer.map(|list| list.len()).map_err(Code));
     let listed = model.channels().len();
-    writeln!(out, ", model {n} {} {listed}", yes_or_no(model.tuned()))?;
+    writeln!(out, "{name} {answer}, {} {listed}", State(&model))?;
     Ok(model)
 }
 
 fn key(out: &mut impl Write, model: &AotTuningModel, key: u8) -> io::Result<()> {
-    match model.access_key(key) {
-        Some(place) => writeln!(out, "  key {key} {} {}", place.channel, place.note.number()),
-        None => writeln!(out, "  key {key} -"),
-    }
-}
-
-// The first entry of a channel from a group on.
-fn entry(out: &mut impl Write, model: &AotTuningModel, channel: u16, from: i32) -> io::Result<()> {
-    match model.next_detuning(channel, from) {
-        Some((group, detuning)) => write!(out, " {group} {}", Bits(detuning)),
-        None => write!(out, " -"),
-    }
+    let place = model.access_key(key).map(Spot);
+    writeln!(out, "  key {key} {}", Or(place, "-"))
 }
 
 // One entry of a channel.
@@ -99,7 +111,8 @@ fn at(out: &mut impl Write, model: &AotTuningModel, channel: u16, group: i32) ->
 fn entries(out: &mut impl Write, model: &AotTuningModel, channel: u16) -> io::Result<()> {
     write!(out, "  channel {channel}")?;
     for from in [-300, 1, 61, 62, 73] {
-        entry(out, model, channel, from)?;
+        let entry = model.next_detuning(channel, from).map(Entry);
+        write!(out, " {}", Or(entry, "-"))?;
     }
     writeln!(out)
 }

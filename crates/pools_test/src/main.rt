@@ -1,82 +1,163 @@
-// Plays pools: a channel freed and taken again, one stolen, every pooling mode, letter pools, zero channels, the refusals, calls by value, and a model of no sense.
-// Writes what each call answers.
+// Plays pools: a channel freed and taken again, one stolen, every pooling mode, letter pools, zero channels and the refusals. Writes what each call answers.
+// Each press, release, lookup and stop is also made by value, on a copy, and a word is written where that answers or leaves another.
 #![tactic(auto)]
 
+use arithmetic::note::Note;
 use arithmetic::pitch::Pitch;
 use arithmetic::refusal::Refusal;
 use channels::keys::{HeldKey, Place};
-use pools::jit::{JitTuningModel, PoolGroupBy, PoolingMode, Registered};
-use show::Bits;
-use std::io;
+use channels::list::ChannelList;
+use pools::jit::{JitTuningModel, PoolGroupBy, PoolingMode, Registered, Repitched};
+use show::{Answer, At, Bits, Code, Or};
 use std::io::{BufWriter, Write};
+use std::num::f64_to_bits_with_nan;
+use std::{fmt, io};
 
-fn found(out: &mut impl Write, place: Place) -> io::Result<()> {
-    write!(
-        out,
-        ": channel {}, note {}",
-        place.channel,
-        place.note.number()
-    )
-}
+// ---- what is written of an answer
 
-fn accessed(out: &mut impl Write, place: Option<Place>) -> io::Result<()> {
-    match place {
-        Some(place) => found(out, place)?,
-        None => write!(out, ": not found")?,
-    }
-    writeln!(out)
-}
+// An accepted press.
+#[derive(Clone, Copy)]
+struct Accepted(Registered);
 
-fn pressed(out: &mut impl Write, answer: Result<Option<Registered>, Refusal>) -> io::Result<()> {
-    match answer {
-        Ok(Some(press)) => accepted(out, press),
-        Ok(None) => writeln!(out, ": rejected"),
-        Err(refusal) => writeln!(out, ": R{}", refusal.number()),
+impl fmt::Display for Accepted {
+    fn fmt<W: fmt::Write>(&self, f: &mut fmt::Formatter<W>) -> fmt::Result {
+        let press = &self.0;
+        let place = Place {
+            channel: press.channel,
+            note: press.started_note,
+        };
+        write!(f, "{}", At(place))?;
+        if let Some(note) = press.stopped_note {
+            write!(f, ", stops note {}", note.number())?;
+        }
+        write!(f, ", detuning {}", Bits(press.detuning))
     }
 }
 
-fn accepted(out: &mut impl Write, press: Registered) -> io::Result<()> {
-    let place = Place {
-        channel: press.channel,
-        note: press.started_note,
-    };
-    found(out, place)?;
-    if let Some(note) = press.stopped_note {
-        write!(out, ", stops note {}", note.number())?;
+#[derive(Clone, Copy)]
+struct Retuned(Repitched);
+
+impl fmt::Display for Retuned {
+    fn fmt<W: fmt::Write>(&self, f: &mut fmt::Formatter<W>) -> fmt::Result {
+        let repitched = &self.0;
+        write!(
+            f,
+            "{}, detuning {}",
+            At(repitched.place),
+            Bits(repitched.detuning)
+        )
     }
-    writeln!(out, ", detuning {}", Bits(press.detuning))
 }
+
+#[derive(Clone, Copy)]
+struct Held(HeldKey);
+
+impl fmt::Display for Held {
+    fn fmt<W: fmt::Write>(&self, f: &mut fmt::Formatter<W>) -> fmt::Result {
+        write!(f, "{}: {}", self.0.key, At(self.0.place))
+    }
+}
+
+#[derive(Clone, Copy)]
+struct Listed(ChannelList);
+
+impl fmt::Display for Listed {
+    fn fmt<W: fmt::Write>(&self, f: &mut fmt::Formatter<W>) -> fmt::Result {
+        let list = &self.0;
+        write!(f, "channels {}", list.len())?;
+        match list.entry(1) {
+            Some(channel) => write!(f, ", channel 1 is MIDI channel {}", channel.number()),
+            None => write!(f, ", no channel 1"),
+        }
+    }
+}
+
+fn told(answer: Result<Option<Registered>, Refusal>) -> Answer<Or<Accepted>, Code> {
+    let press = answer.map(|press| Or(press.map(Accepted), "rejected"));
+    Answer(press.map_err(Code))
+}
+
+fn where_found(place: Option<Place>) -> Or<At> {
+    Or(place.map(At), "not found")
+}
+
+// ---- calls by value
+
+// Words where a call by value does not do the same.
+fn unless(same: bool) -> &'static str {
+    if same { "" } else { " by value: another" }
+}
+
+fn same_place(a: Option<Place>, b: Option<Place>) -> bool {
+    a.map(Place::record) == b.map(Place::record)
+}
+
+fn same_press(a: Registered, b: Registered) -> bool {
+    a.channel == b.channel
+        && a.started_note.number() == b.started_note.number()
+        && a.stopped_note.map(Note::number) == b.stopped_note.map(Note::number)
+        && f64_to_bits_with_nan(a.detuning) == f64_to_bits_with_nan(b.detuning)
+}
+
+fn same_answer(
+    a: Result<Option<Registered>, Refusal>,
+    b: Result<Option<Registered>, Refusal>,
+) -> bool {
+    match (a, b) {
+        (Ok(Some(a)), Ok(Some(b))) => same_press(a, b),
+        (Ok(None), Ok(None)) => true,
+        (Err(a), Err(b)) => a == b,
+        _ => false,
+    }
+}
+
+// Whether each key is found at the same place.
+fn same_model(model: &JitTuningModel, copy: JitTuningModel) -> bool {
+    let mut same = true;
+    for key in 0..=255 {
+        same = same && same_place(model.access_key(key), copy.looked_up(key));
+    }
+    same
+}
+
+// ---- calls
 
 fn press(out: &mut impl Write, model: &mut JitTuningModel, key: u8, hz: f64) -> io::Result<()> {
-    write!(out, "  press {key}")?;
-    pressed(out, model.register_key(key, Pitch::from_hz(hz)))
+    let pitch = Pitch::from_hz(hz);
+    let (copy, by_value) = model.pressed(key, pitch);
+    let answer = model.register_key(key, pitch);
+    let same = same_answer(answer, by_value) && same_model(model, copy);
+    writeln!(out, "  press {key}: {}{}", told(answer), unless(same))
 }
 
 fn release(out: &mut impl Write, model: &mut JitTuningModel, key: u8) -> io::Result<()> {
-    write!(out, "  release {key}")?;
-    accessed(out, model.deregister_key(key))
+    let (copy, by_value) = model.released(key);
+    let place = model.deregister_key(key);
+    let same = same_place(place, by_value) && same_model(model, copy);
+    writeln!(
+        out,
+        "  release {key}: {}{}",
+        where_found(place),
+        unless(same)
+    )
 }
 
 fn look(out: &mut impl Write, model: &JitTuningModel, key: u8) -> io::Result<()> {
-    write!(out, "  lookup {key}")?;
-    accessed(out, model.access_key(key))
+    let place = model.access_key(key);
+    let same = same_place(place, model.looked_up(key));
+    writeln!(
+        out,
+        "  lookup {key}: {}{}",
+        where_found(place),
+        unless(same)
+    )
 }
 
 fn repitch(out: &mut impl Write, model: &JitTuningModel, key: u8, hz: f64) -> io::Result<()> {
-    write!(out, "  repitch {key}")?;
-    match model.repitch_key(key, Pitch::from_hz(hz)) {
-        Ok(Some(repitched)) => {
-            found(out, repitched.place)?;
-            writeln!(out, ", detuning {}", Bits(repitched.detuning))
-        }
-        Ok(None) => writeln!(out, ": not found"),
-        Err(refusal) => writeln!(out, ": R{}", refusal.number()),
-    }
-}
-
-fn held(out: &mut impl Write, key: HeldKey) -> io::Result<()> {
-    write!(out, " {}", key.key)?;
-    found(out, key.place)
+    let answer = model
+        .repitch_key(key, Pitch::from_hz(hz))
+        .map(|repitched| Or(repitched.map(Retuned), "not found"));
+    writeln!(out, "  repitch {key}: {}", Answer(answer.map_err(Code)))
 }
 
 // The first two found keys, and then all are released.
@@ -84,18 +165,15 @@ fn stop(out: &mut impl Write, model: &mut JitTuningModel) -> io::Result<()> {
     write!(out, "  found")?;
     match model.next_key(0) {
         Some(first) => {
-            held(out, first)?;
-            write!(out, ";")?;
-            match model.next_key(first.key as usize + 1) {
-                Some(second) => held(out, second)?,
-                None => write!(out, " no more")?,
-            }
+            let second = model.next_key(first.key as usize + 1).map(Held);
+            write!(out, " {}; {}", Held(first), Or(second, "no more"))?;
         }
         None => write!(out, " none")?,
     }
-    writeln!(out, "; all stopped")?;
+    let copy = model.stopped();
     model.stop();
-    Ok(())
+    let same = same_model(model, copy);
+    writeln!(out, "; all stopped{}", unless(same))
 }
 
 fn open(
@@ -106,16 +184,8 @@ fn open(
     pooling_mode: PoolingMode,
 ) -> io::Result<JitTuningModel> {
     let (model, answer) = JitTuningModel::open(channels, group_by, pooling_mode);
-    match answer {
-        Ok(list) => {
-            write!(out, "{name}: channels {}", list.len())?;
-            match list.entry(1) {
-                Some(channel) => writeln!(out, ", channel 1 is MIDI channel {}", channel.number())?,
-                None => writeln!(out, ", no channel 1")?,
-            }
-        }
-        Err(refusal) => writeln!(out, "{name}: R{}", refusal.number())?,
-    }
+    let listed = Answer(answer.map(Listed).map_err(Code));
+    writeln!(out, "{name}: {listed}")?;
     Ok(model)
 }
 
@@ -238,8 +308,8 @@ fn refusals(out: &mut impl Write) -> io::Result<()> {
 }
 
 fn would_press(out: &mut impl Write, model: &JitTuningModel, key: u8, hz: f64) -> io::Result<()> {
-    write!(out, "  would press {key}")?;
-    pressed(out, model.allocate_key(key, Pitch::from_hz(hz)))
+    let answer = model.allocate_key(key, Pitch::from_hz(hz));
+    writeln!(out, "  would press {key}: {}", told(answer))
 }
 
 fn press_note(
@@ -248,8 +318,8 @@ fn press_note(
     key: u8,
     note: i32,
 ) -> io::Result<()> {
-    write!(out, "  press {key}")?;
-    pressed(out, model.register_note(key, note, 1.0))
+    let answer = model.register_note(key, note, 1.0);
+    writeln!(out, "  press {key}: {}", told(answer))
 }
 
 // What a press would answer changes nothing, and a press for its note is that press.

@@ -2,25 +2,22 @@
 use crate::decimal::Decimal;
 use arithmetic::refusal::Refusal;
 use arithmetic::tuning::Approximation;
-use channels::keys::{HeldKey, Place};
+use channels::keys::HeldKey;
 use channels::list::ChannelList;
 use channels::tuning_value::Tuning;
-use plan_tuner::aot::PlanSent;
 use plans::aot::Planned;
 use pools::jit::{Registered, Repitched};
-pub use show::Or;
+use show::Hex;
+pub use show::{Answer, At, Or};
 use std::fmt;
 
-// What a call answers, or its refusal.
+// A refusal by its number, in words.
 #[derive(Clone, Copy)]
-pub struct Answer<T>(pub Result<T, Refusal>);
+pub struct Refused(pub Refusal);
 
-impl<T: fmt::Display> fmt::Display for Answer<T> {
+impl fmt::Display for Refused {
     fn fmt<W: fmt::Write>(&self, f: &mut fmt::Formatter<W>) -> fmt::Result {
-        match &self.0 {
-            Ok(answer) => write!(f, "{answer}"),
-            Err(refusal) => write!(f, "refused ({})", refusal.number()),
-        }
+        write!(f, "refused ({})", self.0.number())
     }
 }
 
@@ -88,16 +85,6 @@ impl fmt::Display for Value {
             Tuning::Fine(value) => write!(f, "fine value {value}"),
             Tuning::Bend(value) => write!(f, "bend {value}"),
         }
-    }
-}
-
-#[derive(Clone, Copy)]
-pub struct At(pub Place);
-
-impl fmt::Display for At {
-    fn fmt<W: fmt::Write>(&self, f: &mut fmt::Formatter<W>) -> fmt::Result {
-        let place = &self.0;
-        write!(f, "channel {}, note {}", place.channel, place.note.number())
     }
 }
 
@@ -175,46 +162,31 @@ impl fmt::Display for Retuned {
 
 // ---- messages and tuners
 
-// The bytes that a call wrote at the start of the buffer that was lent to it.
+// The bytes that a call wrote.
 #[derive(Clone, Copy)]
-pub struct Sent<'a> {
-    pub count: usize,
-    pub buffer: &'a [u8],
-}
+pub struct Sent<'a>(pub &'a [u8]);
 
 impl fmt::Display for Sent<'_> {
     fn fmt<W: fmt::Write>(&self, f: &mut fmt::Formatter<W>) -> fmt::Result {
-        if self.count == 0 {
-            return write!(f, "no bytes");
+        match self.0 {
+            [] => write!(f, "no bytes"),
+            bytes => write!(f, "{}", Hex(bytes)),
         }
-        for (i, byte) in self.buffer.iter().take(self.count).enumerate() {
-            if i != 0 {
-                write!(f, " ")?;
-            }
-            write!(f, "{byte:02x}")?;
-        }
-        Ok(())
     }
 }
 
-// What a tuning of a plan tuner sent.
+// What a tuning of a plan tuner came to, and the bytes that it sent.
 #[derive(Clone, Copy)]
-pub struct PlanTuned<'a> {
-    pub planned: PlanSent,
-    pub buffer: &'a [u8],
+pub enum PlanTuned<'a> {
+    Tuned(u16, Sent<'a>),
+    Untuned(u16),
 }
 
 impl fmt::Display for PlanTuned<'_> {
     fn fmt<W: fmt::Write>(&self, f: &mut fmt::Formatter<W>) -> fmt::Result {
-        match self.planned {
-            PlanSent::Tuned { channels, written } => {
-                let sent = Sent {
-                    count: written,
-                    buffer: self.buffer,
-                };
-                write!(f, "{}: {sent}", Plan(Planned::Tuned(channels)))
-            }
-            PlanSent::Untuned(channels) => write!(f, "{}", Plan(Planned::Untuned(channels))),
+        match self {
+            PlanTuned::Tuned(n, sent) => write!(f, "{}: {sent}", Plan(Planned::Tuned(*n))),
+            PlanTuned::Untuned(n) => write!(f, "{}", Plan(Planned::Untuned(*n))),
         }
     }
 }

@@ -22,7 +22,7 @@ pub struct Decimal(pub f64);
 impl fmt::Display for Decimal {
     fn fmt<W: fmt::Write>(&self, f: &mut fmt::Formatter<W>) -> fmt::Result {
         let Decimal(x) = *self;
-        if x != x {
+        if x.is_nan() {
             return write!(f, "NaN");
         }
         if f64_to_bits_with_nan(x) < SIGN {

@@ -33,6 +33,11 @@ impl<'a> Input<'a> {
         (self.number() % 256) as u8
     }
 
+    // A setting, by the number that the engine has for it.
+    pub fn setting<T: From<u16>>(&mut self) -> T {
+        T::from((self.number() % 65536) as u16)
+    }
+
     // The list has no number of more than 32 bits.
     pub fn float(&mut self) -> f64 {
         let low = (self.number() % 4294967296) as u32;

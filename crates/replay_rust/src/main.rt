@@ -17,10 +17,10 @@ use channels::tuning_value::{Tuning, TuningKind, tuning_of};
 use plans::aot::{AotTuningModel, GroupBy, Planned};
 use plans::lists::PitchLists;
 use pools::jit::{JitTuningModel, PoolGroupBy, PoolingMode, Registered};
-use show::Answer;
+use show::{Answer, Code, Or, Spot};
 use std::alloc::Global;
-use std::io;
 use std::io::{BufWriter, Read, Write};
+use std::{fmt, io};
 
 const CHANNELS: [u8; 16] = [0, 1, 2, 3, 4, 5, 6, 7, 8, 9, 10, 11, 12, 13, 14, 15];
 
@@ -37,7 +37,7 @@ fn main(rt: HostRuntime) -> io::Result<()> {
     out.flush()
 }
 
-// The answer to the next question.
+// The answer to the next question. Which it is stands there in numbers, as the file has them.
 fn replay(out: &mut impl Write, input: &mut Input<'_>, alloc: Global) -> io::Result<()> {
     match input.number() {
         1 => nearest(out, input),
@@ -58,14 +58,16 @@ fn channels(present: u64) -> &'static [u8] {
 fn nearest(out: &mut impl Write, input: &mut Input<'_>) -> io::Result<()> {
     let nearest = find_by_pitch(Pitch::from_hz(input.hertz()));
     let note = nearest.map(|nearest| nearest.note.number());
-    write!(out, "note {}", Answer(note))
+    write!(out, "note {}", Answer(note.map_err(Code)))
 }
 
 // A detuning in millionths: its fine value and its bend.
 fn values(out: &mut impl Write, input: &mut Input<'_>) -> io::Result<()> {
     let ratio = Ratio::from_float(input.float() / 1000000.0);
-    let fine = tuning_of(TuningKind::FineTuning, ratio).map(steps);
-    let bend = tuning_of(TuningKind::Bend, ratio).map(steps);
+    let fine = tuning_of(TuningKind::FineTuning, ratio)
+        .map(steps)
+        .map_err(Code);
+    let bend = tuning_of(TuningKind::Bend, ratio).map(steps).map_err(Code);
     write!(out, "values {} {}", Answer(fine), Answer(bend))
 }
 
@@ -78,35 +80,28 @@ fn steps(tuning: Tuning) -> i32 {
 
 // The kind of group, the count of channels, the count of keys, and each key with its pitch in millihertz: the answer, and each key's channel and note.
 fn plan(out: &mut impl Write, input: &mut Input<'_>, alloc: Global) -> io::Result<()> {
-    let group_by = match input.number() {
-        0 => GroupBy::Note,
-        1 => GroupBy::NoteLetter,
-        _ => GroupBy::Channel,
-    };
+    let group_by: GroupBy = input.setting();
     let (mut model, _) = AotTuningModel::open(channels(input.number()), group_by);
     let (keys, pitches) = input.lines(alloc)?;
     let lists = PitchLists {
         keys: &keys,
         pitches: &pitches,
     };
-    match model.set_tuning(&lists) {
-        Ok(Planned::Tuned(count)) => write!(out, "tuned {count}")?,
-        Ok(Planned::Untuned(count)) => write!(out, "untuned {count}")?,
-        Err(refusal) => write!(out, " R{}", refusal.number())?,
-    }
+    write!(out, "{}", Outcome(model.set_tuning(&lists)))?;
     for key in &keys {
-        accessed(out, model.access_key(*key))?;
+        write!(out, "{}", Found(model.access_key(*key)))?;
     }
     Ok(())
 }
 
 // 1 for letters, the mode, the count of channels, the count of events, and each event: 0 a press, 1 a release, else a lookup, the key, the pitch.
 fn pool(out: &mut impl Write, input: &mut Input<'_>) -> io::Result<()> {
+    // The file has the engine's numbers for these two the other way round.
     let group_by = match input.number() {
         1 => PoolGroupBy::NoteLetter,
         _ => PoolGroupBy::Channel,
     };
-    let mode = pooling_mode(input.number());
+    let mode: PoolingMode = input.setting();
     let (mut model, _) = JitTuningModel::open(channels(input.number()), group_by, mode);
     write!(out, "pool")?;
     for _ in 0..input.number() {
@@ -114,39 +109,53 @@ fn pool(out: &mut impl Write, input: &mut Input<'_>) -> io::Result<()> {
         let key = input.byte();
         let pitch = Pitch::from_hz(input.hertz());
         match event {
-            0 => pressed(out, model.register_key(key, pitch))?,
-            1 => accessed(out, model.deregister_key(key))?,
-            _ => accessed(out, model.access_key(key))?,
+            0 => write!(out, "{}", Press(model.register_key(key, pitch)))?,
+            1 => write!(out, "{}", Found(model.deregister_key(key)))?,
+            _ => write!(out, "{}", Found(model.access_key(key)))?,
         }
     }
     Ok(())
 }
 
-fn pooling_mode(number: u64) -> PoolingMode {
-    match number {
-        0 => PoolingMode::Block,
-        1 => PoolingMode::Stop,
-        _ => PoolingMode::Ignore,
-    }
-}
+// ---- what is written of an answer, behind the one before
 
-fn pressed(out: &mut impl Write, answer: Result<Option<Registered>, Refusal>) -> io::Result<()> {
-    match answer {
-        Ok(Some(press)) => {
-            write!(out, ", {} {}", press.channel, press.started_note.number())?;
-            if let Some(note) = press.stopped_note {
-                write!(out, " stops {}", note.number())?;
-            }
-            Ok(())
+#[derive(Clone, Copy)]
+struct Outcome(Result<Planned, Refusal>);
+
+impl fmt::Display for Outcome {
+    fn fmt<W: fmt::Write>(&self, f: &mut fmt::Formatter<W>) -> fmt::Result {
+        match self.0 {
+            Ok(Planned::Tuned(count)) => write!(f, "tuned {count}"),
+            Ok(Planned::Untuned(count)) => write!(f, "untuned {count}"),
+            Err(refusal) => write!(f, " {}", Code(refusal)),
         }
-        Ok(None) => write!(out, ", rejected"),
-        Err(refusal) => write!(out, " R{}", refusal.number()),
     }
 }
 
-fn accessed(out: &mut impl Write, place: Option<Place>) -> io::Result<()> {
-    match place {
-        Some(place) => write!(out, ", {} {}", place.channel, place.note.number()),
-        None => write!(out, ", -"),
+#[derive(Clone, Copy)]
+struct Press(Result<Option<Registered>, Refusal>);
+
+impl fmt::Display for Press {
+    fn fmt<W: fmt::Write>(&self, f: &mut fmt::Formatter<W>) -> fmt::Result {
+        match self.0 {
+            Ok(Some(press)) => {
+                write!(f, ", {} {}", press.channel, press.started_note.number())?;
+                match press.stopped_note {
+                    Some(note) => write!(f, " stops {}", note.number()),
+                    None => Ok(()),
+                }
+            }
+            Ok(None) => write!(f, ", rejected"),
+            Err(refusal) => write!(f, " {}", Code(refusal)),
+        }
+    }
+}
+
+#[derive(Clone, Copy)]
+struct Found(Option<Place>);
+
+impl fmt::Display for Found {
+    fn fmt<W: fmt::Write>(&self, f: &mut fmt::Formatter<W>) -> fmt::Result {
+        write!(f, ", {}", Or(self.0.map(Spot), "-"))
     }
 }

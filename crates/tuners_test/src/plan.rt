@@ -1,19 +1,21 @@
 // Whole passages on the plan tuner: both tuning kinds, both kinds of list, notes without a number, keys that are not in the plan, messages to all, `stop`,
 // and every refusal. Each call that sends bytes is first made with a buffer one byte short, and the tuner looked at thereafter.
 
-use crate::shown::{Played, play, sent, written};
+use crate::shown::{Answer, Played, lists, lookup, play};
 use arithmetic::refusal::Refusal;
 use channels::keys::Place;
+use channels::list::ChannelList;
 use channels::tuning_value::TuningKind;
 use plan_tuner::aot::{AotTuner, PlanSent};
 use plans::lists::{NoteLists, PitchLists};
 use senders::midi::ChannelMessageType;
+use show::{Or, Spot};
 use std::io;
 use std::io::Write;
 
 // ---- the calls
 
-// Data, as those of pool.rt are. Five are named alike there: they call other methods, with other arguments and answers, so that one enum for both would be no plainer.
+// Data, for pool.rt's reason. Five are named alike there; each tuner's calls stand in one enum, so that `play` takes any of them.
 #[derive(Clone, Copy)]
 pub enum Call {
     // A list by its number, which the output names: a list in its place would be no plainer.
@@ -25,78 +27,64 @@ pub enum Call {
     Stop,
 }
 
-#[derive(Clone, Copy)]
-pub enum Answer {
-    Planned(Result<PlanSent, Refusal>),
-    Other(Result<usize, Refusal>),
-}
-
 impl Played for AotTuner {
     type Call = Call;
 
-    type Answer = Answer;
-
-    fn perform(&mut self, call: Call, out: &mut [u8]) -> Answer {
-        match call {
-            Call::Set(list) => Answer::Planned(set(self, list, out)),
-            Call::On { key, velocity } => Answer::Other(self.note_on(key, velocity, out)),
-            Call::Off { key, velocity } => Answer::Other(self.note_off(key, velocity, out)),
-            Call::Attr { key, pressure } => Answer::Other(self.note_attr(key, pressure, out)),
-            Call::All(message) => Answer::Other(self.global_attr(message, out)),
-            Call::Stop => Answer::Other(self.stop(out)),
-        }
+    fn opened(channels: &[u8]) -> (AotTuner, Result<ChannelList, Refusal>) {
+        AotTuner::start(channels, TuningKind::FineTuning)
     }
 
-    fn count(answer: Answer) -> usize {
-        match answer {
-            Answer::Planned(
-                Ok(
-                    PlanSent::Tuned {
-                        channels: _,
-                        written,
-                    },
-                ),
-            ) => written,
-            Answer::Planned(_) => 0,
-            Answer::Other(sent) => sent.unwrap_or(0),
-        }
+    fn begin(&mut self, out: &mut impl Write) -> io::Result<()> {
+        tune(out, self, 6)?;
+        tune(out, self, 7)?;
+        tune(out, self, 11)?;
+        press(out, self, 5, 9)?;
+        lookup(out, self, 5)
     }
 
-    fn show(answer: Answer, out: &mut impl Write, buffer: &[u8]) -> io::Result<()> {
-        match answer {
-            Answer::Planned(
-                Ok(
-                    PlanSent::Tuned {
-                        channels,
-                        written: count,
-                    },
-                ),
-            ) => {
-                write!(out, " tuned {channels}")?;
-                written(out, count, buffer)
+    fn perform(&mut self, call: Call, out: &mut [u8]) -> Result<Answer, Refusal> {
+        let sent = match call {
+            Call::Set(list) => {
+                return set(self, list, out).map(planned);
             }
-            Answer::Planned(Ok(PlanSent::Untuned(channels))) => {
-                write!(out, " untuned {channels}")?;
-                written(out, 0, buffer)
-            }
-            Answer::Planned(Err(refusal)) => sent(out, Err(refusal), buffer),
-            Answer::Other(answer) => sent(out, answer, buffer),
-        }
+            Call::On { key, velocity } => self.note_on(key, velocity, out),
+            Call::Off { key, velocity } => self.note_off(key, velocity, out),
+            Call::Attr { key, pressure } => self.note_attr(key, pressure, out),
+            Call::All(message) => self.global_attr(message, out),
+            Call::Stop => self.stop(out),
+        };
+        sent.map(Answer::Sent)
+    }
+
+    // It has no calls by value.
+    fn by_value(
+        self,
+        _call: Call,
+        _out: &mut [u8],
+    ) -> Option<(AotTuner, Result<Answer, Refusal>)> {
+        None
+    }
+
+    fn find(&self, key: u8) -> Option<Place> {
+        self.access_key(key)
+    }
+
+    fn find_by_value(self, key: u8) -> Option<Place> {
+        self.access_key(key)
     }
 
     // Whether there is a plan, and where key 5 is.
     fn show_state(&self, out: &mut impl Write) -> io::Result<()> {
         let plan = if self.tuned() { "tuned" } else { "no plan" };
-        write!(out, " ({plan}")?;
-        found(out, self.access_key(5))?;
-        write!(out, ")")
+        let found = Or(self.access_key(5).map(Spot), "not found");
+        write!(out, " ({plan} {found})")
     }
 }
 
-fn found(out: &mut impl Write, place: Option<Place>) -> io::Result<()> {
-    match place {
-        Some(place) => write!(out, " {} {}", place.channel, place.note.number()),
-        None => write!(out, " not found"),
+fn planned(planned: PlanSent) -> Answer {
+    match planned {
+        PlanSent::Tuned { channels, written } => Answer::Tuned { channels, written },
+        PlanSent::Untuned(channels) => Answer::Untuned(channels),
     }
 }
 
@@ -200,12 +188,6 @@ fn stop(out: &mut impl Write, tuner: &mut AotTuner) -> io::Result<()> {
     play(out, tuner, Call::Stop)
 }
 
-fn lookup(out: &mut impl Write, tuner: &AotTuner, key: u8) -> io::Result<()> {
-    write!(out, "  key {key}:")?;
-    found(out, tuner.access_key(key))?;
-    writeln!(out)
-}
-
 // ---- the passages
 
 pub fn all(out: &mut impl Write) -> io::Result<()> {
@@ -214,10 +196,7 @@ pub fn all(out: &mut impl Write) -> io::Result<()> {
     writeln!(out, "plan, bend")?;
     passage(out, TuningKind::Bend)?;
     writeln!(out, "plan, lists")?;
-    started(out, &[])?;
-    started(out, &[15, 16])?;
-    started(out, &[4, 4, 16])?;
-    started(out, &[15, 14, 13, 12, 11, 10, 9, 8, 7, 6, 5, 4, 3, 2, 1, 0])
+    lists::<AotTuner>(out)
 }
 
 fn passage(out: &mut impl Write, kind: TuningKind) -> io::Result<()> {
@@ -298,17 +277,4 @@ fn messages(out: &mut impl Write, tuner: &mut AotTuner) -> io::Result<()> {
         tuner,
         ChannelMessageType::PitchBendChange { value: 8192 },
     )
-}
-
-// ---- channel lists
-
-fn started(out: &mut impl Write, channels: &[u8]) -> io::Result<()> {
-    let (mut tuner, answer) = AotTuner::start(channels, TuningKind::FineTuning);
-    let listed = answer.map(|list| list.len());
-    writeln!(out, "  start: {}", show::Answer(listed))?;
-    tune(out, &mut tuner, 6)?;
-    tune(out, &mut tuner, 7)?;
-    tune(out, &mut tuner, 11)?;
-    press(out, &mut tuner, 5, 9)?;
-    lookup(out, &tuner, 5)
 }

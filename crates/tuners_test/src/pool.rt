@@ -1,8 +1,10 @@
 // Whole passages on the pool tuner: the console's sample session, every mode and both tuning kinds, notes without a number, unknown keys, messages to all,
 // `stop`, and every refusal. Each call that sends bytes is first made with a buffer one byte short.
 
-use crate::shown::{Played, play, sent};
+use crate::shown::{Answer, Played, lists, lookup, play};
 use arithmetic::refusal::Refusal;
+use channels::keys::Place;
+use channels::list::ChannelList;
 use channels::tuning_value::TuningKind;
 use channels::{Pitch, Ratio};
 use pools::jit::PoolingMode;
@@ -14,7 +16,8 @@ use std::io::Write;
 
 // ---- the calls
 
-// Data, since each is made twice, and on a copy of the tuner: closures would hide which call is made, and be no plainer.
+// Data and not closures: `play`, the same for both tuners, makes each call up to three times, on the tuner and on copies of it, and `by_value` picks those
+// that stand by value too.
 #[derive(Clone, Copy)]
 pub enum Call {
     On { key: u8, hz: f64, velocity: u8 },
@@ -29,13 +32,22 @@ pub enum Call {
 
 impl Played for JitTuner {
     type Call = Call;
-    // How many bytes were sent, or nothing for a press that is rejected.
-    type Answer = Result<Option<usize>, Refusal>;
 
-    fn perform(&mut self, call: Call, out: &mut [u8]) -> Result<Option<usize>, Refusal> {
+    fn opened(channels: &[u8]) -> (JitTuner, Result<ChannelList, Refusal>) {
+        JitTuner::start(channels, TuningKind::Bend, PoolingMode::Stop)
+    }
+
+    fn begin(&mut self, out: &mut impl Write) -> io::Result<()> {
+        press(out, self, 5, 440.0, 9)?;
+        to_all(out, self, ChannelMessageType::ProgramChange { program: 5 })?;
+        stop(out, self)?;
+        lookup(out, self, 5)
+    }
+
+    fn perform(&mut self, call: Call, out: &mut [u8]) -> Result<Answer, Refusal> {
         let sent = match call {
             Call::On { key, hz, velocity } => {
-                return self.note_on(key, Pitch::from_hz(hz), velocity, out);
+                return pressed(self.note_on(key, Pitch::from_hz(hz), velocity, out));
             }
             Call::Off { key, velocity } => self.note_off(key, velocity, out),
             Call::Pitch { key, hz } => self.note_pitch(key, Pitch::from_hz(hz), out),
@@ -49,28 +61,47 @@ impl Played for JitTuner {
                 channel_pitch_bend(channel, Ratio::from_float(detuning), out)
             }
         };
-        sent.map(Some)
+        sent.map(Answer::Sent)
     }
 
-    fn count(answer: Result<Option<usize>, Refusal>) -> usize {
-        answer.unwrap_or(None).unwrap_or(0)
-    }
-
-    fn show(
-        answer: Result<Option<usize>, Refusal>,
-        out: &mut impl Write,
-        buffer: &[u8],
-    ) -> io::Result<()> {
-        match answer {
-            Ok(None) => write!(out, " rejected"),
-            Ok(Some(count)) => sent(out, Ok(count), buffer),
-            Err(refusal) => sent(out, Err(refusal), buffer),
+    fn by_value(
+        self,
+        call: Call,
+        out: &mut [u8],
+    ) -> Option<(JitTuner, Result<Answer, Refusal>)> {
+        match call {
+            Call::On { key, hz, velocity } => {
+                let (tuner, answer) =
+                    self.pressed(key, Pitch::from_hz(hz), velocity, out);
+                Some((tuner, pressed(answer)))
+            }
+            Call::Off { key, velocity } => {
+                let (tuner, answer) = self.released(key, velocity, out);
+                Some((tuner, answer.map(Answer::Sent)))
+            }
+            Call::Stop => {
+                let (tuner, answer) = self.stopped(out);
+                Some((tuner, answer.map(Answer::Sent)))
+            }
+            _ => None,
         }
+    }
+
+    fn find(&self, key: u8) -> Option<Place> {
+        self.access_key(key)
+    }
+
+    fn find_by_value(self, key: u8) -> Option<Place> {
+        self.looked_up(key)
     }
 
     fn show_state(&self, _out: &mut impl Write) -> io::Result<()> {
         Ok(())
     }
+}
+
+fn pressed(answer: Result<Option<usize>, Refusal>) -> Result<Answer, Refusal> {
+    answer.map(|sent| sent.map_or(Answer::Rejected, Answer::Sent))
 }
 
 fn press(
@@ -113,25 +144,14 @@ fn stop(out: &mut impl Write, tuner: &mut JitTuner) -> io::Result<()> {
     play(out, tuner, Call::Stop)
 }
 
-fn lookup(out: &mut impl Write, tuner: &JitTuner, key: u8) -> io::Result<()> {
-    match tuner.access_key(key) {
-        Some(place) => writeln!(
-            out,
-            "  key {key}: {} {}",
-            place.channel,
-            place.note.number()
-        ),
-        None => writeln!(out, "  key {key}: not found"),
-    }
-}
-
 // ---- the passages
 
 pub fn all(out: &mut impl Write) -> io::Result<()> {
     sample(out)?;
     passages(out, TuningKind::FineTuning)?;
     passages(out, TuningKind::Bend)?;
-    lists(out)?;
+    writeln!(out, "lists")?;
+    lists::<JitTuner>(out)?;
     detunings(out)
 }
 
@@ -265,30 +285,6 @@ fn messages(out: &mut impl Write, tuner: &mut JitTuner) -> io::Result<()> {
         tuner,
         ChannelMessageType::PitchBendChange { value: 8192 },
     )
-}
-
-// ---- channel lists
-
-fn lists(out: &mut impl Write) -> io::Result<()> {
-    writeln!(out, "lists")?;
-    started(out, &[])?;
-    started(out, &[15, 16])?;
-    started(out, &[4, 4, 16])?;
-    started(out, &[15, 14, 13, 12, 11, 10, 9, 8, 7, 6, 5, 4, 3, 2, 1, 0])
-}
-
-fn started(out: &mut impl Write, channels: &[u8]) -> io::Result<()> {
-    let (mut tuner, answer) = JitTuner::start(channels, TuningKind::Bend, PoolingMode::Stop);
-    let listed = answer.map(|list| list.len());
-    writeln!(out, "  start: {}", show::Answer(listed))?;
-    press(out, &mut tuner, 5, 440.0, 9)?;
-    to_all(
-        out,
-        &mut tuner,
-        ChannelMessageType::ProgramChange { program: 5 },
-    )?;
-    stop(out, &mut tuner)?;
-    lookup(out, &tuner, 5)
 }
 
 // ---- a detuning passed: 6, 2, 10

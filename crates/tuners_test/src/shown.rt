@@ -1,41 +1,95 @@
-// How a call's bytes are shown. A buffer is lent full of aa, and what a call did not send must stay so.
+// How a call's answer and its bytes are shown. A buffer is lent full of aa, and what a call did not send must stay so.
 
 use arithmetic::refusal::Refusal;
-use std::io;
+use channels::keys::Place;
+use channels::list::ChannelList;
+use show::{Code, Hex, Or, Spot};
 use std::io::Write;
+use std::{fmt, io};
 
 // The byte that fills a buffer before it is lent.
 const FILLER: u8 = 0xaa;
 
-// The bytes sent, and a word for each byte behind them that has not kept its content.
-fn bytes(out: &mut impl Write, buffer: &[u8], count: usize) -> io::Result<()> {
-    for (i, byte) in buffer.iter().enumerate() {
-        if i < count {
-            write!(out, " {byte:02x}")?;
-        } else if *byte != FILLER {
-            write!(out, " touched")?;
+// What a call answers that is not refused.
+#[derive(Clone, Copy, PartialEq, Eq)]
+pub enum Answer {
+    // How many bytes it sent.
+    Sent(usize),
+    // Nothing, for a press that is rejected.
+    Rejected,
+    // How many channels a plan uses, and how many bytes its tuning sent.
+    Tuned { channels: u16, written: usize },
+    // How many channels a plan would need.
+    Untuned(u16),
+}
+
+impl Answer {
+    // How many bytes the call sent.
+    fn count(self) -> usize {
+        match self {
+            Answer::Sent(count) => count,
+            Answer::Tuned {
+                channels: _,
+                written,
+            } => written,
+            Answer::Rejected | Answer::Untuned(_) => 0,
         }
     }
-    Ok(())
 }
 
-pub fn written(out: &mut impl Write, count: usize, buffer: &[u8]) -> io::Result<()> {
-    if count == 0 {
-        write!(out, " -")?;
+fn sent_by(answer: Result<Answer, Refusal>) -> usize {
+    answer.map(Answer::count).unwrap_or(0)
+}
+
+// The bytes that a call sent, if any.
+#[derive(Clone, Copy)]
+struct Bytes<'a>(&'a [u8]);
+
+impl fmt::Display for Bytes<'_> {
+    fn fmt<W: fmt::Write>(&self, f: &mut fmt::Formatter<W>) -> fmt::Result {
+        match self.0 {
+            [] => write!(f, "-"),
+            bytes => write!(f, "{}", Hex(bytes)),
+        }
     }
-    bytes(out, buffer, count)
 }
 
-fn refused(out: &mut impl Write, refusal: Refusal, buffer: &[u8]) -> io::Result<()> {
-    write!(out, " R{}", refusal.number())?;
-    bytes(out, buffer, 0)
+// An answer with the bytes that it sent, and a word for each byte behind them that has not kept its content.
+#[derive(Clone, Copy)]
+struct Shown<'a> {
+    answer: Result<Answer, Refusal>,
+    sent: &'a [u8],
+    rest: &'a [u8],
 }
 
-// What a call that sends answered.
-pub fn sent(out: &mut impl Write, answer: Result<usize, Refusal>, buffer: &[u8]) -> io::Result<()> {
-    match answer {
-        Ok(count) => written(out, count, buffer),
-        Err(refusal) => refused(out, refusal, buffer),
+impl<'a> Shown<'a> {
+    fn of(answer: Result<Answer, Refusal>, buffer: &'a [u8]) -> Shown<'a> {
+        let count = sent_by(answer);
+        let (sent, rest) = buffer.split_at_checked(count).unwrap_or((buffer, &[]));
+        Shown { answer, sent, rest }
+    }
+}
+
+impl fmt::Display for Shown<'_> {
+    fn fmt<W: fmt::Write>(&self, f: &mut fmt::Formatter<W>) -> fmt::Result {
+        match self.answer {
+            Ok(Answer::Sent(_)) => write!(f, " {}", Bytes(self.sent))?,
+            Ok(Answer::Rejected) => write!(f, " rejected")?,
+            Ok(
+                Answer::Tuned {
+                    channels,
+                    written: _,
+                },
+            ) => write!(f, " tuned {channels} {}", Bytes(self.sent))?,
+            Ok(Answer::Untuned(channels)) => write!(f, " untuned {channels} -")?,
+            Err(refusal) => write!(f, " {}", Code(refusal))?,
+        }
+        for byte in self.rest {
+            if *byte != FILLER {
+                write!(f, " touched")?;
+            }
+        }
+        Ok(())
     }
 }
 
@@ -43,16 +97,25 @@ pub fn sent(out: &mut impl Write, answer: Result<usize, Refusal>, buffer: &[u8])
 pub trait Played: Copy {
     type Call: Copy;
 
-    type Answer: Copy;
+    fn opened(channels: &[u8]) -> (Self, Result<ChannelList, Refusal>);
 
-    fn perform(&mut self, call: Self::Call, out: &mut [u8]) -> Self::Answer;
+    // What is played on each that was opened.
+    fn begin(&mut self, out: &mut impl Write) -> io::Result<()>;
 
-    // How many bytes the call sent.
-    fn count(answer: Self::Answer) -> usize;
+    fn perform(&mut self, call: Self::Call, out: &mut [u8]) -> Result<Answer, Refusal>;
 
-    // Shows an answer, the buffer that was lent for it, and what is to be seen of the tuner after a call that was a byte short.
-    fn show(answer: Self::Answer, out: &mut impl Write, buffer: &[u8]) -> io::Result<()>;
+    // The same by value, where the tuner has it so.
+    fn by_value(
+        self,
+        call: Self::Call,
+        out: &mut [u8],
+    ) -> Option<(Self, Result<Answer, Refusal>)>;
 
+    fn find(&self, key: u8) -> Option<Place>;
+
+    fn find_by_value(self, key: u8) -> Option<Place>;
+
+    // What is to be seen of the tuner after a call that was a byte short.
     fn show_state(&self, out: &mut impl Write) -> io::Result<()>;
 }
 
@@ -64,8 +127,13 @@ pub fn play<T: Played>(out: &mut impl Write, tuner: &mut T, call: T::Call) -> io
     let before = *tuner;
     let mut buffer = [FILLER; ROOM];
     let answer = tuner.perform(call, &mut buffer);
-    try_short(out, before, call, T::count(answer).saturating_sub(1))?;
-    T::show(answer, out, &buffer)?;
+    try_short(out, before, call, sent_by(answer).saturating_sub(1))?;
+    write!(out, "{}", Shown::of(answer, &buffer))?;
+    let mut other = [FILLER; ROOM];
+    if let Some((copy, by_value)) = before.by_value(call, &mut other) {
+        let same = by_value == answer && other == buffer && same_keys(*tuner, copy);
+        write!(out, "{}", unless(same))?;
+    }
     writeln!(out)
 }
 
@@ -81,8 +149,48 @@ fn try_short<T: Played>(
     if room < ROOM {
         let lent = &mut buffer[..room];
         let answer = tuner.perform(call, lent);
-        T::show(answer, out, lent)?;
+        write!(out, "{}", Shown::of(answer, lent))?;
         tuner.show_state(out)?;
     }
     Ok(())
+}
+
+// Words where a call by value does not do the same.
+fn unless(same: bool) -> &'static str {
+    if same { "" } else { " by value: another" }
+}
+
+fn same_place(a: Option<Place>, b: Option<Place>) -> bool {
+    a.map(Place::record) == b.map(Place::record)
+}
+
+// Whether each key is found at the same place.
+fn same_keys<T: Played>(tuner: T, copy: T) -> bool {
+    let mut same = true;
+    for key in 0..=255 {
+        same = same && same_place(tuner.find(key), copy.find_by_value(key));
+    }
+    same
+}
+
+pub fn lookup<T: Played>(out: &mut impl Write, tuner: &T, key: u8) -> io::Result<()> {
+    let place = tuner.find(key);
+    let same = same_place(place, tuner.find_by_value(key));
+    let found = Or(place.map(Spot), "not found");
+    writeln!(out, "  key {key}: {found}{}", unless(same))
+}
+
+// Channel lists: an empty one, two that are refused, and a full one.
+pub fn lists<T: Played>(out: &mut impl Write) -> io::Result<()> {
+    started::<T>(out, &[])?;
+    started::<T>(out, &[15, 16])?;
+    started::<T>(out, &[4, 4, 16])?;
+    started::<T>(out, &[15, 14, 13, 12, 11, 10, 9, 8, 7, 6, 5, 4, 3, 2, 1, 0])
+}
+
+fn started<T: Played>(out: &mut impl Write, channels: &[u8]) -> io::Result<()> {
+    let (mut tuner, answer) = T::opened(channels);
+    let listed = answer.map(|list| list.len()).map_err(Code);
+    writeln!(out, "  start: {}", show::Answer(listed))?;
+    tuner.begin(out)
 }
