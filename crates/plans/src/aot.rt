@@ -75,6 +75,7 @@ impl AotTuningModel {
 
     // A model with no keys, for the channels of a list. Refuses, entry by entry, 6 a channel over 15 and 7 one that came before;
     // the model has no channels then.
+    // (A pool model has an `open` of its own, with other settings: what both share is `ChannelList::of`, and a trait over both would be no plainer.)
     // Example: AotTuningModel::open([0, 1], Channel) is channels listed 2
     #[tactic(auto, unfolding(crate::specs::Plan::open_rule))]
     pub fn open(
