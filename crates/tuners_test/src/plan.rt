@@ -1,7 +1,7 @@
 // Whole passages on the plan tuner: both tuning kinds, both kinds of list, notes without a number, keys that are not in the plan, messages to all, `stop`,
 // and every refusal. Each call that sends bytes is first made with a buffer one byte short, and the tuner looked at thereafter.
 
-use crate::shown::{Answer, Played, lists, lookup, play};
+use crate::shown::{Answer, LISTS, Played, lookup, play, started};
 use arithmetic::refusal::Refusal;
 use channels::keys::Place;
 use channels::list::ChannelList;
@@ -34,14 +34,6 @@ impl Played for AotTuner {
         AotTuner::start(channels, TuningKind::FineTuning)
     }
 
-    fn begin(&mut self, out: &mut impl Write) -> io::Result<()> {
-        tune(out, self, 6)?;
-        tune(out, self, 7)?;
-        tune(out, self, 11)?;
-        press(out, self, 5, 9)?;
-        lookup(out, self, 5)
-    }
-
     fn perform(&mut self, call: Call, out: &mut [u8]) -> Result<Answer, Refusal> {
         let sent = match call {
             Call::Set(list) => {
@@ -57,11 +49,7 @@ impl Played for AotTuner {
     }
 
     // It has no calls by value.
-    fn by_value(
-        self,
-        _call: Call,
-        _out: &mut [u8],
-    ) -> Option<(AotTuner, Result<Answer, Refusal>)> {
+    fn by_value(self, _call: Call, _out: &mut [u8]) -> Option<(AotTuner, Result<Answer, Refusal>)> {
         None
     }
 
@@ -196,7 +184,20 @@ pub fn all(out: &mut impl Write) -> io::Result<()> {
     writeln!(out, "plan, bend")?;
     passage(out, TuningKind::Bend)?;
     writeln!(out, "plan, lists")?;
-    lists::<AotTuner>(out)
+    for channels in LISTS {
+        let mut tuner: AotTuner = started(out, channels)?;
+        begin(out, &mut tuner)?;
+    }
+    Ok(())
+}
+
+// What is played on a tuner of each list.
+fn begin(out: &mut impl Write, tuner: &mut AotTuner) -> io::Result<()> {
+    tune(out, tuner, 6)?;
+    tune(out, tuner, 7)?;
+    tune(out, tuner, 11)?;
+    press(out, tuner, 5, 9)?;
+    lookup(out, tuner, 5)
 }
 
 fn passage(out: &mut impl Write, kind: TuningKind) -> io::Result<()> {

@@ -1,7 +1,7 @@
 // Whole passages on the pool tuner: the console's sample session, every mode and both tuning kinds, notes without a number, unknown keys, messages to all,
 // `stop`, and every refusal. Each call that sends bytes is first made with a buffer one byte short.
 
-use crate::shown::{Answer, Played, lists, lookup, play};
+use crate::shown::{Answer, LISTS, Played, lookup, play, started};
 use arithmetic::refusal::Refusal;
 use channels::keys::Place;
 use channels::list::ChannelList;
@@ -37,13 +37,6 @@ impl Played for JitTuner {
         JitTuner::start(channels, TuningKind::Bend, PoolingMode::Stop)
     }
 
-    fn begin(&mut self, out: &mut impl Write) -> io::Result<()> {
-        press(out, self, 5, 440.0, 9)?;
-        to_all(out, self, ChannelMessageType::ProgramChange { program: 5 })?;
-        stop(out, self)?;
-        lookup(out, self, 5)
-    }
-
     fn perform(&mut self, call: Call, out: &mut [u8]) -> Result<Answer, Refusal> {
         let sent = match call {
             Call::On { key, hz, velocity } => {
@@ -64,15 +57,10 @@ impl Played for JitTuner {
         sent.map(Answer::Sent)
     }
 
-    fn by_value(
-        self,
-        call: Call,
-        out: &mut [u8],
-    ) -> Option<(JitTuner, Result<Answer, Refusal>)> {
+    fn by_value(self, call: Call, out: &mut [u8]) -> Option<(JitTuner, Result<Answer, Refusal>)> {
         match call {
             Call::On { key, hz, velocity } => {
-                let (tuner, answer) =
-                    self.pressed(key, Pitch::from_hz(hz), velocity, out);
+                let (tuner, answer) = self.pressed(key, Pitch::from_hz(hz), velocity, out);
                 Some((tuner, pressed(answer)))
             }
             Call::Off { key, velocity } => {
@@ -150,8 +138,7 @@ pub fn all(out: &mut impl Write) -> io::Result<()> {
     sample(out)?;
     passages(out, TuningKind::FineTuning)?;
     passages(out, TuningKind::Bend)?;
-    writeln!(out, "lists")?;
-    lists::<JitTuner>(out)?;
+    lists(out)?;
     detunings(out)
 }
 
@@ -285,6 +272,25 @@ fn messages(out: &mut impl Write, tuner: &mut JitTuner) -> io::Result<()> {
         tuner,
         ChannelMessageType::PitchBendChange { value: 8192 },
     )
+}
+
+// ---- channel lists
+
+fn lists(out: &mut impl Write) -> io::Result<()> {
+    writeln!(out, "lists")?;
+    for channels in LISTS {
+        let mut tuner: JitTuner = started(out, channels)?;
+        begin(out, &mut tuner)?;
+    }
+    Ok(())
+}
+
+// What is played on a tuner of each.
+fn begin(out: &mut impl Write, tuner: &mut JitTuner) -> io::Result<()> {
+    press(out, tuner, 5, 440.0, 9)?;
+    to_all(out, tuner, ChannelMessageType::ProgramChange { program: 5 })?;
+    stop(out, tuner)?;
+    lookup(out, tuner, 5)
 }
 
 // ---- a detuning passed: 6, 2, 10

@@ -99,17 +99,10 @@ pub trait Played: Copy {
 
     fn opened(channels: &[u8]) -> (Self, Result<ChannelList, Refusal>);
 
-    // What is played on each that was opened.
-    fn begin(&mut self, out: &mut impl Write) -> io::Result<()>;
-
     fn perform(&mut self, call: Self::Call, out: &mut [u8]) -> Result<Answer, Refusal>;
 
     // The same by value, where the tuner has it so.
-    fn by_value(
-        self,
-        call: Self::Call,
-        out: &mut [u8],
-    ) -> Option<(Self, Result<Answer, Refusal>)>;
+    fn by_value(self, call: Self::Call, out: &mut [u8]) -> Option<(Self, Result<Answer, Refusal>)>;
 
     fn find(&self, key: u8) -> Option<Place>;
 
@@ -181,16 +174,17 @@ pub fn lookup<T: Played>(out: &mut impl Write, tuner: &T, key: u8) -> io::Result
 }
 
 // Channel lists: an empty one, two that are refused, and a full one.
-pub fn lists<T: Played>(out: &mut impl Write) -> io::Result<()> {
-    started::<T>(out, &[])?;
-    started::<T>(out, &[15, 16])?;
-    started::<T>(out, &[4, 4, 16])?;
-    started::<T>(out, &[15, 14, 13, 12, 11, 10, 9, 8, 7, 6, 5, 4, 3, 2, 1, 0])
-}
+pub const LISTS: [&'static [u8]; 4] = [
+    &[],
+    &[15, 16],
+    &[4, 4, 16],
+    &[15, 14, 13, 12, 11, 10, 9, 8, 7, 6, 5, 4, 3, 2, 1, 0],
+];
 
-fn started<T: Played>(out: &mut impl Write, channels: &[u8]) -> io::Result<()> {
-    let (mut tuner, answer) = T::opened(channels);
+// A tuner of a channel list.
+pub fn started<T: Played>(out: &mut impl Write, channels: &[u8]) -> io::Result<T> {
+    let (tuner, answer) = T::opened(channels);
     let listed = answer.map(|list| list.len()).map_err(Code);
     writeln!(out, "  start: {}", show::Answer(listed))?;
-    tuner.begin(out)
+    Ok(tuner)
 }
