@@ -1,4 +1,5 @@
 // Plans: every kind of group, both kinds of list, each refusal, full lists, and the detuning entries of the channels. Writes a line for each call.
+// A function is given what it plays and where it writes: a struct of both would be no plainer.
 #![tactic(auto)]
 
 ghost use Rattle.std.specs.Prelude.{◌≤◌};

@@ -1,5 +1,6 @@
 // Plays pools: a channel freed and taken again, one stolen, every pooling mode, letter pools, zero channels and the refusals. Writes what each call answers.
 // Each press, release, lookup and stop is also made by value, on a copy, and a word is written where that answers or leaves another.
+// A function is given what it plays and where it writes: a struct of both would be no plainer.
 #![tactic(auto)]
 
 use arithmetic::note::Note;

@@ -2,6 +2,7 @@
 // on a line for each its kind (1 to 6) and its parts. What is written is held to the file `stdout`. A line there is the Rust's answer. Where the port's rules
 // want another, the line has that, and behind `#` what the Rust answers and why the two differ: the whole answer, or what stands in it between two commas,
 // by its number from 0. The question has the same remark, which is written behind the answer as it is.
+// A function is given what it plays and where it writes: a struct of both would be no plainer.
 #![tactic(auto)]
 
 mod input;

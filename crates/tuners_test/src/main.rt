@@ -1,4 +1,5 @@
 // Plays whole passages on both tuners and writes what they sent.
+// A function is given what it plays and where it writes: a struct of both would be no plainer.
 #![tactic(auto)]
 
 mod plan;
