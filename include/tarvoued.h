@@ -9,7 +9,8 @@
 
    Pointers are not null, also where a length is 0, and point to as many elements as the length beside them says, aligned as their type asks. Memory that is
    lent to be changed overlaps no other argument. A channel is an index into the channel list that the block was opened with. A setting that is a number, or
-   a message's kind, is read as 0 where it names none. What each function does is proved in crates/capi_c; this file puts it in words. */
+   a message's kind, is read as 0 where it names none. What each function does is proved in crates/capi_c; this file puts it in words, and "SPEC 9.2" is a
+   paragraph of docs/SPEC.md, which has the rules. This interface is SPEC 12. */
 #ifndef TARVOUED_H
 #define TARVOUED_H
 
@@ -29,7 +30,7 @@ enum {
     TARVOUED_REFUSED = 4    /* `refusal` says why, and nothing has changed */
 };
 
-/* Why a call is refused: `refusal`. */
+/* Why a call is refused: `refusal` (SPEC 2). */
 enum {
     TARVOUED_PITCH_OUT_OF_RANGE = 1,    /* not from 2^-20 to 2^40 Hz */
     TARVOUED_NOT_MEASURABLE = 2,        /* a detuning that is not positive and finite */
@@ -45,10 +46,10 @@ enum {
     TARVOUED_LISTS_UNEQUAL = 12         /* lists of unequal length */
 };
 
-/* How channels are tuned: `tuning_kind`. */
+/* How channels are tuned: `tuning_kind` (SPEC 5.4). Bends are for a receiver whose pitch bend sensitivity is two semitones, the usual default (SPEC 5.2b). */
 enum { TARVOUED_FINE_TUNING = 0, TARVOUED_BEND = 1 };
 
-/* What a press does that finds no free channel: `pooling_mode`. It is rejected; it releases the key held longest; it takes that key's channel. */
+/* What a press does that finds no free channel: `pooling_mode`. It is rejected; it releases the key held longest; it takes that key's channel (SPEC 7.3). */
 enum { TARVOUED_BLOCK = 0, TARVOUED_STOP = 1, TARVOUED_IGNORE = 2 };
 
 /* ---- the answers */
@@ -90,19 +91,20 @@ typedef struct {
 
 /* ---- values */
 
-/* The note nearest to a pitch in Hz, and the pitch's detuning: the ratio of the pitch to the note's. Refuses 1. */
+/* The note nearest to a pitch in Hz, and the pitch's detuning: the ratio of the pitch to the note's. Refuses 1 (SPEC 4.4a). */
 tarvoued_note tarvoued_nearest_note(double hz);
 
-/* The pitch of a note in Hz; note 69 is 440 Hz. Refuses 4. */
+/* The pitch of a note in Hz; note 69 is 440 Hz. Refuses 4 (SPEC 4.3). */
 tarvoued_pitch tarvoued_note_pitch(int32_t note);
 
-/* The measure of a detuning: its logarithm to base 2 in steps of 2^-24. Refuses 2. */
+/* The measure of a detuning: its logarithm to base 2 in steps of 2^-24. Refuses 2 (SPEC 4.1). */
 tarvoued_number tarvoued_measure(double detuning);
 
-/* The value in which a detuning is sent: a fine value, 0 to 16383 with centre 8192, or a bend, -8192 to 8191. Refuses 2. */
+/* The value in which a detuning is sent: a fine value, 0 to 16383 with centre 8192, or a bend, -8192 to 8191. Refuses 2 (SPEC 5). */
 tarvoued_number tarvoued_tuning_value(uint8_t tuning_kind, double detuning);
 
-/* ---- messages, three bytes each on the wire */
+/* ---- messages (SPEC 8). Each is written as three bytes. Program changes and channel pressures have one data byte and end in 00, which MIDI does not have:
+   a receiver that keeps running status takes it for program 0 or pressure 0, so leave the third byte of these out where you send to one. */
 
 /* A message without its channel; the functions below make one of each kind. */
 typedef struct {
@@ -118,13 +120,13 @@ tarvoued_message tarvoued_message_program_change(uint8_t program);
 tarvoued_message tarvoued_message_channel_pressure(uint8_t pressure);
 tarvoued_message tarvoued_message_pitch_bend_change(int16_t value);
 
-/* Writes a message on a MIDI channel. Refuses 6, 8, 9, 10. */
+/* Writes a message on a MIDI channel. Refuses 6, 8, 9, 10 (SPEC 8.4). */
 tarvoued_answer tarvoued_message_write(uint8_t channel, tarvoued_message message, uint8_t *out, size_t room);
 
-/* Writes the messages that tune a MIDI channel by a detuning. Refuses 6, 2, 10. */
+/* Writes the messages that tune a MIDI channel by a detuning. Refuses 6, 2, 10 (SPEC 8.5). */
 tarvoued_answer tarvoued_channel_tuning(uint8_t tuning_kind, uint8_t channel, double detuning, uint8_t *out, size_t room);
 
-/* ---- the pool tuner: channels are handed out while somebody plays */
+/* ---- the pool tuner: channels are handed out while somebody plays (SPEC 9.2) */
 
 #define TARVOUED_POOL_CELLS 676
 
@@ -147,7 +149,7 @@ tarvoued_answer tarvoued_pool_note_pitch(const tarvoued_pool *pool, uint8_t key,
 /* The pressure of a key that is found. Refuses 8, 10. */
 tarvoued_answer tarvoued_pool_note_attr(const tarvoued_pool *pool, uint8_t key, uint8_t pressure, uint8_t *out, size_t room);
 
-/* A message to every channel; bends are not passed on by a tuner that tunes by bends. Refuses 8, 9, 10. */
+/* A message to every channel; bends are not passed on by a tuner that tunes by bends. Refuses 8, 9, 10 (SPEC 9.4). */
 tarvoued_answer tarvoued_pool_global_attr(const tarvoued_pool *pool, tarvoued_message message, uint8_t *out, size_t room);
 
 /* Every key that is found is released, by rising key. Refuses 10. */
@@ -156,7 +158,7 @@ tarvoued_answer tarvoued_pool_stop(tarvoued_pool *pool, uint8_t *out, size_t roo
 /* The channel and the note of a key: DONE or NOT_FOUND. */
 tarvoued_note tarvoued_pool_lookup(const tarvoued_pool *pool, uint8_t key);
 
-/* ---- the pool model: the same block, and nothing is sent */
+/* ---- the pool model: the same block, and nothing is sent (SPEC 7) */
 
 /* Which notes share a pool: `group_by` of a pool model. */
 enum { TARVOUED_POOL_BY_LETTER = 0, TARVOUED_POOL_BY_CHANNEL = 1 };
@@ -173,7 +175,7 @@ tarvoued_note tarvoued_pool_model_deregister_key(tarvoued_pool *pool, uint8_t ke
 /* The channel and the note of a key, and the detuning of another pitch for that note: DONE or NOT_FOUND. Refuses 1. */
 tarvoued_note tarvoued_pool_model_repitch_key(const tarvoued_pool *pool, uint8_t key, double hz);
 
-/* ---- the plan tuner: every key has a channel and a note before anyone plays */
+/* ---- the plan tuner: every key has a channel and a note before anyone plays (SPEC 9.3) */
 
 #define TARVOUED_PLAN_CELLS 324
 
@@ -185,7 +187,7 @@ typedef struct {
 tarvoued_answer tarvoued_plan_open(tarvoued_plan *plan, const uint8_t *channels, size_t count, uint8_t tuning_kind);
 
 /* Plans keys with their notes and detunings, and tunes each channel that the plan takes; DONE or UNTUNED, with how many channels it takes or would take:
-   nobody who places the keys on channels by hand needs fewer. Refuses 12, then line by line 4, 3, 5; then 10. */
+   nobody who places the keys on channels by hand needs fewer (SPEC 6.6). Refuses 12, then line by line 4, 3, 5; then 10. */
 tarvoued_answer tarvoued_plan_set_tuning(tarvoued_plan *plan, const uint8_t *keys, size_t key_count, const int32_t *notes, size_t note_count,
                                          const double *detunings, size_t detuning_count, uint8_t *out, size_t room);
 
@@ -202,7 +204,7 @@ tarvoued_answer tarvoued_plan_note_off(const tarvoued_plan *plan, uint8_t key, u
 /* The pressure of a key of the plan. Refuses 8, 10. */
 tarvoued_answer tarvoued_plan_note_attr(const tarvoued_plan *plan, uint8_t key, uint8_t pressure, uint8_t *out, size_t room);
 
-/* A message to every channel; bends are not passed on by a tuner that tunes by bends. Refuses 8, 9, 10. */
+/* A message to every channel; bends are not passed on by a tuner that tunes by bends. Refuses 8, 9, 10 (SPEC 9.4). */
 tarvoued_answer tarvoued_plan_global_attr(const tarvoued_plan *plan, tarvoued_message message, uint8_t *out, size_t room);
 
 /* Sends nothing: a plan tuner does not know which keys are pressed, so whoever pressed one releases it. */
@@ -217,7 +219,7 @@ tarvoued_note tarvoued_plan_detuning(const tarvoued_plan *plan, uint16_t channel
 /* The first of a channel's detunings whose group (`note` of the answer) is `from` or higher, DONE or NOT_FOUND. */
 tarvoued_note tarvoued_plan_next_detuning(const tarvoued_plan *plan, uint16_t channel, int32_t from);
 
-/* ---- the plan model: the same block, and nothing is sent */
+/* ---- the plan model: the same block, and nothing is sent (SPEC 6) */
 
 /* What a sound module retunes together: `group_by` of a plan model. */
 enum { TARVOUED_PLAN_BY_NOTE = 0, TARVOUED_PLAN_BY_LETTER = 1, TARVOUED_PLAN_BY_CHANNEL = 2 };

@@ -48,7 +48,7 @@ pub fn rust_message(message: Message) -> ChannelMessageType {
     }
 }
 
-/// Document 01's refusal of a message's data: 8 from left, 9; 0 where there is none.
+/// The refusal of a message's data by SPEC 8.4: 8 from the left, 9; 0 where there is none.
 pub fn judge_message(message: Message) -> u8 {
     let Message { kind, first, second, bend } = message;
     match kind {
@@ -60,8 +60,8 @@ pub fn judge_message(message: Message) -> u8 {
     }
 }
 
-/// How document 01's bytes for a pitch differ from the Rust's: not at all, by one step of a tuning or its clamp, or otherwise. A step more comes of detunings
-/// that differ in their last bits, where the Rust's lies below a whole number of steps and document 01's does not.
+/// How the rules' bytes for a pitch differ from the Rust's: not at all, by one step of a tuning or its clamp, or otherwise. A step more comes of detunings
+/// that differ in their last bits, where the Rust's lies below a whole number of steps and the rules' does not.
 pub fn difference(rule: &[u8], rust: &[u8]) -> Option<Kind> {
     if rule == rust {
         return None;
@@ -139,7 +139,7 @@ fn messages(rows: &mut Vec<Row>) {
     }
     rows.push(row);
 
-    // The Rust writes these as they are, or answers `None`: document 01 is the judge. 6, 8 from left, 9, 10.
+    // The Rust writes these as they are, or answers `None`: SPEC 8.4 is the judge. 6, 8 from the left, 9, 10.
     let mut row = Row::new("messages: damaged ones");
     for kind in 0x8..=0xe {
         for channel in [0, 15, 16, 255] {

@@ -1,14 +1,13 @@
 //! A sample of questions, as a list that a program of the repository replays with no Rust at hand: its standard input, and what it must write.
 //!
-//! Every question drawn is stored, and the port is never asked. What must be written is the Rust's answer. Where document 01's, by `rule`, is another, that
-//! is written, and behind `#` what the Rust answers and why document 01 lets the two differ; a difference without such a reason ends the making of the list.
-//! Pitches are whole millihertz, of at most 32 bits, and detunings whole millionths.
+//! The head of crates/replay_rust/src/main.rt has the grammar. Every question drawn is stored, and the port is never asked. The answer that is stored is that
+//! of the rules of docs/SPEC.md, by `rule`. Where the Rust's is another, the line has it behind `#`, with the reason that lets the two differ; a difference
+//! without such a reason ends the making of the list. Pitches are whole millihertz, of at most 32 bits, and detunings whole millionths.
 
 use std::collections::BTreeMap;
 use std::fmt::Write as _;
 use std::path::Path;
 
-use tune::note::Note;
 use tune::pitch::Pitch;
 use tune::tuner::AccessKeyResult;
 use tune::tuner::AotTuningModel;
@@ -22,7 +21,6 @@ use crate::nearest;
 use crate::ours;
 use crate::ours::Event;
 use crate::plan_tuners;
-use crate::plan_tuners::Lines;
 use crate::plans;
 use crate::plans::GROUPS;
 use crate::pool_tuners;
@@ -32,56 +30,75 @@ use crate::rule;
 use crate::steps;
 use crate::tuners::Answer;
 
-/// A part of an answer: what document 01 says, what the Rust says, and why the two may differ.
-struct Part {
+/// What a reader of the list has to know.
+const LEGEND: &str = "\
+# What the tuning engine is asked, a line for each question, key or event. In the file stdout the answer stands behind a colon.
+# The Rust crate tune answers the same, except where # stands behind the answer: there is the Rust's, and why the two differ.
+# A plan gives each key a channel and a note before anything is played; a pool gives a key its channel when it is pressed. A tuner sends the MIDI
+# messages of a plan or a pool: a plan tuner those of the tuning, and then a press of each key. A blank line ends each of them.
+# Keys and channels are numbered from 0, notes as in MIDI: 69 is the A of 440 Hz, which is 440000 mHz. A detuning is a pitch over that of its note;
+# its fine value is 0 to 16383, with 8192 for none, its bend -8192 to 8191. Bytes are in hexadecimal. R1 is refusal 1 of README.md's table.
+";
+
+/// A line of the list: what it asks, what the rules and the Rust answer, and why the two may differ. The heading of a pool has no answer.
+struct Line {
+    asked: String,
     rule: String,
     rust: String,
     reasons: Vec<Kind>,
 }
 
-impl Part {
-    fn new(rule: String, rust: String, reason: Option<Kind>) -> Part {
-        Part { rule, rust, reasons: reason.into_iter().collect() }
+impl Line {
+    fn new(asked: String, rule: String, rust: String, reason: Option<Kind>) -> Line {
+        Line { asked, rule, rust, reasons: reason.into_iter().collect() }
     }
 
-    /// The word that an answer begins with.
-    fn word(word: &str) -> Part {
-        Part::new(word.to_string(), word.to_string(), None)
+    fn heading(asked: String) -> Line {
+        Line::new(asked, String::new(), String::new(), None)
     }
 }
 
 #[derive(Default)]
 struct List {
-    count: usize,
+    lines: usize,
     inputs: String,
     answers: String,
-    /// How many cases differ, by their reasons.
+    /// In how many lines the two differ, by their reasons.
     differ: BTreeMap<Kind, usize>,
 }
 
 impl List {
-    fn push(&mut self, input: &str, parts: Vec<Part>) {
-        self.count += 1;
-        // The Rust's parts that differ, by their reasons, each with its number from 0 where there are more.
-        let mut differ: BTreeMap<&[Kind], Vec<String>> = BTreeMap::new();
-        for (i, part) in parts.iter().enumerate().filter(|(_, part)| part.rule != part.rust) {
-            let reasons = part.reasons.as_slice();
-            assert!(!reasons.is_empty() && !reasons.contains(&Kind::Unexpected), "{input}: {} and the Rust's {} differ without a reason", part.rule, part.rust);
-            let place = if parts.len() > 1 { format!(" at {i}: ") } else { ": ".to_string() };
-            differ.entry(reasons).or_default().push(format!("{place}{}", part.rust));
+    fn push_legend(&mut self) {
+        for text in [&mut self.inputs, &mut self.answers] {
+            text.push_str(LEGEND);
+            text.push('\n');
         }
+    }
+
+    /// The lines of a question, or of several that have one line each, and a blank one.
+    fn push(&mut self, lines: Vec<Line>) {
+        for line in lines {
+            self.push_line(line);
+        }
+        self.inputs.push('\n');
+        self.answers.push('\n');
+    }
+
+    fn push_line(&mut self, line: Line) {
+        let Line { asked, rule, rust, reasons } = line;
+        self.lines += 1;
         let mut remark = String::new();
-        for (reasons, rust) in differ {
+        if rule != rust {
+            assert!(!reasons.is_empty() && !reasons.contains(&Kind::Unexpected), "{asked}: {rule} and the Rust's {rust} differ without a reason");
             let texts: Vec<&str> = reasons.iter().map(|kind| kind.text()).collect();
-            let start = if remark.is_empty() { " # the Rust" } else { ";" };
-            let _ = write!(remark, "{start}{} ({})", rust.join(","), texts.join("; "));
-            for &kind in reasons {
+            remark = format!(" # the Rust: {rust} ({})", texts.join("; "));
+            for kind in reasons {
                 *self.differ.entry(kind).or_default() += 1;
             }
         }
-        let answer: Vec<&str> = parts.iter().map(|part| part.rule.as_str()).collect();
-        let _ = writeln!(self.inputs, "{input}{remark}");
-        let _ = writeln!(self.answers, "{}{remark}", answer.join(", "));
+        let answer = if rule.is_empty() { String::new() } else { format!(": {rule}") };
+        let _ = writeln!(self.inputs, "{asked}{remark}");
+        let _ = writeln!(self.answers, "{asked}{answer}{remark}");
     }
 }
 
@@ -123,31 +140,55 @@ fn step_differs(bends: bool, hz: f64) -> bool {
     note == rust_note && value != rust_value
 }
 
+const TUNING_KINDS: [&str; 2] = ["FineTuning", "Bend"];
+
+fn place(channel: usize, note: i32) -> String {
+    format!("channel {channel}, note {note}")
+}
+
 fn accessed(result: AccessKeyResult) -> String {
     match result {
-        AccessKeyResult::Found { channel, found_note } => format!("{channel} {}", found_note.midi_number()),
-        AccessKeyResult::NotFound => "-".to_string(),
+        AccessKeyResult::Found { channel, found_note } => place(channel, found_note.midi_number()),
+        AccessKeyResult::NotFound => "not found".to_string(),
     }
 }
 
 fn pressed(result: RegisterKeyResult) -> String {
     match result {
         RegisterKeyResult::Accepted { channel, stopped_note, started_note, .. } => {
-            let stopped = stopped_note.map(Note::midi_number).map_or(String::new(), |note| format!(" stops {note}"));
-            format!("{channel} {}{stopped}", started_note.midi_number())
+            let stopped = stopped_note.map_or(String::new(), |note| format!(", stopped note {}", note.midi_number()));
+            place(channel, started_note.midi_number()) + &stopped
         }
         RegisterKeyResult::Rejected => "rejected".to_string(),
     }
 }
 
-fn note(list: &mut List, (whole, hz): Millihertz) {
+/// What a plan comes to that needs so many channels.
+fn planned(is_tuned: bool, channels: usize) -> String {
+    if is_tuned { format!("tuned, channels used {channels}") } else { format!("untuned, channels needed {channels}") }
+}
+
+/// A key of a plan and its pitch.
+fn key((key, (whole, _)): (u8, Millihertz)) -> String {
+    format!("  key {key} at {whole} mHz")
+}
+
+/// The bytes of a call, or words for none.
+fn bytes(answer: &Answer) -> String {
+    match answer.kind {
+        ours::NOTHING => "rejected".to_string(),
+        _ if answer.bytes.is_empty() => "no bytes".to_string(),
+        _ => answer.bytes.iter().map(|b| format!("{b:02x}")).collect::<Vec<_>>().join(" "),
+    }
+}
+
+fn note((whole, hz): Millihertz) -> Line {
+    let asked = format!("nearest {whole} mHz");
     let rust = format!("note {}", nearest::found(hz).0);
-    let part = if whole == 0 {
-        Part::new("note R1".to_string(), rust, Some(Kind::Refusal))
-    } else {
-        Part::new(format!("note {}", rule::nearest(hz).0), rust, nearest::excused(hz).then_some(Kind::NoteAtBoundary))
-    };
-    list.push(&format!("1 {whole}"), vec![part]);
+    if whole == 0 {
+        return Line::new(asked, "R1".to_string(), rust, Some(Kind::Refusal));
+    }
+    Line::new(asked, format!("note {}", rule::nearest(hz).0), rust, nearest::excused(hz).then_some(Kind::NoteAtBoundary))
 }
 
 fn detuning(millionths: u64) -> f64 {
@@ -159,87 +200,77 @@ fn value_differs(millionths: u64) -> bool {
     rule::fine(detuning(millionths)) != steps::fine(detuning(millionths))
 }
 
-fn values(list: &mut List, millionths: u64) {
+fn values(millionths: u64) -> Line {
+    let asked = format!("values of {millionths} millionths");
     let detuning = detuning(millionths);
     let (fine, bend) = (steps::fine(detuning), steps::bend(detuning));
-    let rust = format!("values {fine} {bend}");
-    let part = if millionths == 0 {
-        Part::new("values R2 R2".to_string(), rust, Some(Kind::Refusal))
-    } else {
-        let mut reasons = Vec::new();
-        for (is_bend, rule, rust) in [(false, rule::fine(detuning), fine), (true, rule::bend(detuning), bend)] {
-            if rule != rust {
-                reasons.push(steps::excused(is_bend, detuning, rule, rust).unwrap_or(Kind::Unexpected));
-            }
+    let rust = format!("fine {fine}, bend {bend}");
+    if millionths == 0 {
+        return Line::new(asked, "fine R2, bend R2".to_string(), rust, Some(Kind::Refusal));
+    }
+    let mut reasons = Vec::new();
+    for (is_bend, rule, rust) in [(false, rule::fine(detuning), fine), (true, rule::bend(detuning), bend)] {
+        if rule != rust {
+            reasons.push(steps::excused(is_bend, detuning, rule, rust).unwrap_or(Kind::Unexpected));
         }
-        reasons.dedup();
-        Part { rule: format!("values {} {}", rule::fine(detuning), rule::bend(detuning)), rust, reasons }
-    };
-    list.push(&format!("2 {millionths}"), vec![part]);
+    }
+    reasons.dedup();
+    Line { asked, rule: format!("fine {}, bend {}", rule::fine(detuning), rule::bend(detuning)), rust, reasons }
 }
 
-/// Of a plan of these pitches with this kind of group, by the count of channels and by each key's channel and note.
-fn plan(list: &mut List, group: usize, present: usize, lines: &[(u8, Millihertz)]) {
+/// A plan of these pitches with this kind of group: the count of channels, and each key's channel and note.
+fn plan(group: usize, present: usize, lines: &[(u8, Millihertz)]) -> Vec<Line> {
     let (number, group_by, _) = GROUPS[group];
     let keys: Vec<u8> = lines.iter().map(|line| line.0).collect();
     let pitches: Vec<f64> = lines.iter().map(|line| line.1.1).collect();
     let reason = plans::excused(number, &pitches);
     let rule = plans::plan_of_pitches(number, &keys, &pitches);
     let (model, detunings) = AotTuningModel::apply_tuning(group_by, &plans::mapping(&keys, &pitches), keys.iter().copied());
-    let count = |n: usize| format!("{} {n}", if n <= present { "tuned" } else { "untuned" });
-    let place = |n: usize, place: Option<(usize, i32)>| match place {
-        Some((channel, note)) if n <= present => format!("{channel} {note}"),
-        _ => "-".to_string(),
+    let count = |n: usize| planned(n <= present, n);
+    let found = |n: usize, found: Option<(usize, i32)>| match found {
+        Some((channel, note)) if n <= present => place(channel, note),
+        _ => "not found".to_string(),
     };
-    let mut parts = vec![Part::new(count(rule.count), count(detunings.len()), reason)];
-    for &key in &keys {
-        let rust = model.get_channel_and_note_for_key(key).map(|(channel, note)| (channel, note.midi_number()));
-        parts.push(Part::new(place(rule.count, rule.places[usize::from(key)]), place(detunings.len(), rust), reason));
+    let heading = format!("plan by {group_by:?}, channels {present}");
+    let mut asked = vec![Line::new(heading, count(rule.count), count(detunings.len()), reason)];
+    for &line in lines {
+        let rust = model.get_channel_and_note_for_key(line.0).map(|(channel, note)| (channel, note.midi_number()));
+        asked.push(Line::new(key(line), found(rule.count, rule.places[usize::from(line.0)]), found(detunings.len(), rust), reason));
     }
-    let asked: String = lines.iter().map(|(key, (whole, _))| format!(" {key} {whole}")).collect();
-    list.push(&format!("3 {number} {present} {}{asked}", lines.len()), parts);
+    asked
 }
 
-/// Two pools of the Rust, one told document 01's notes.
-fn pool(list: &mut List, chance: &mut Chance, letters: bool, mode: u8, channels: usize) {
+/// Two pools of the Rust, one told the rules' notes.
+fn pool(chance: &mut Chance, letters: bool, mode: u8, channels: usize) -> Vec<Line> {
     let opened = || JitTuningModel::new(channels, pools::rust_group(letters), pools::rust_mode(mode));
     let (mut rule, mut rust) = (opened(), opened());
-    let mut events = String::new();
-    let mut parts = vec![Part::word("pool")];
+    let heading = format!("pool by {:?}, mode {:?}, channels {channels}", pools::rust_group(letters), pools::rust_mode(mode));
+    let mut lines = vec![Line::heading(heading)];
     let mut reason = None;
     for _ in 0..50 {
         let key = chance.below(channels * 2 + 3) as u8;
         let held = [&rule, &rust].iter().any(|model| matches!(model.access_key(key), AccessKeyResult::Found { .. }));
-        let (kind, whole, answers) = match chance.below(5) {
+        let (event, answers) = match chance.below(5) {
             0..=2 if !held => {
                 let (whole, hz) = if chance.below(8) == 0 { beside(chance, 110) } else { pitch(chance) };
                 if nearest::excused(hz) {
                     reason = Some(Kind::NoteAtBoundary);
                 }
                 let told = Pitch::from_hz(rule::note_pitch(rule::nearest(hz).0));
-                (0, whole, (pressed(rule.register_key(key, told)), pressed(rust.register_key(key, Pitch::from_hz(hz)))))
+                let answers = (pressed(rule.register_key(key, told)), pressed(rust.register_key(key, Pitch::from_hz(hz))));
+                (format!("press key {key} at {whole} mHz"), answers)
             }
-            0 | 1 | 3 => (1, 0, (accessed(rule.deregister_key(key)), accessed(rust.deregister_key(key)))),
-            _ => (2, 0, (accessed(rule.access_key(key)), accessed(rust.access_key(key)))),
+            0 | 1 | 3 => (format!("release key {key}"), (accessed(rule.deregister_key(key)), accessed(rust.deregister_key(key)))),
+            _ => (format!("lookup key {key}"), (accessed(rule.access_key(key)), accessed(rust.access_key(key)))),
         };
-        let _ = write!(events, " {kind} {key} {whole}");
-        parts.push(Part::new(answers.0, answers.1, reason));
+        lines.push(Line::new(format!("  {event}"), answers.0, answers.1, reason));
     }
-    list.push(&format!("4 {} {mode} {channels} 50{events}", u8::from(letters)), parts);
+    lines
 }
 
-/// The bytes of a call, or `-` for none.
-fn bytes(answer: &Answer) -> String {
-    match answer.kind {
-        ours::NOTHING => "rejected".to_string(),
-        _ if answer.bytes.is_empty() => "-".to_string(),
-        _ => answer.bytes.iter().map(|b| format!("{b:02x}")).collect::<Vec<_>>().join(" "),
-    }
-}
-
-fn pool_tuner(list: &mut List, chance: &mut Chance, bends: bool, mode: u8, channels: u8) {
+fn pool_tuner(chance: &mut Chance, bends: bool, mode: u8, channels: u8) -> Vec<Line> {
     let mut sequence = pool_tuners::Sequence::new(&(0..channels).collect::<Vec<u8>>(), bends, mode);
-    let mut calls = String::new();
+    let mut asked = Vec::new();
     for _ in 0..30 {
         let key = chance.below(usize::from(channels) * 2 + 2) as u8;
         let value = chance.below(128) as u8;
@@ -248,38 +279,46 @@ fn pool_tuner(list: &mut List, chance: &mut Chance, bends: bool, mode: u8, chann
             2 => wanted(chance, |chance| beside(chance, 12), nearest::excused),
             _ => pitch(chance),
         };
-        let (kind, event) = match chance.below(12) {
-            0..=5 if !sequence.held().contains(&key) => (0, Event::Press(key, hz, value)),
-            0..=7 => (1, Event::Release(key, value)),
-            8 | 9 => (2, Event::Repitch(key, hz)),
-            10 => (3, Event::Pressure(key, value)),
-            _ => (4, Event::Stop),
+        let (text, event) = match chance.below(12) {
+            0..=5 if !sequence.held().contains(&key) => (format!("press key {key} at {whole} mHz, velocity {value}"), Event::Press(key, hz, value)),
+            0..=7 => (format!("release key {key}, velocity {value}"), Event::Release(key, value)),
+            8 | 9 => (format!("repitch key {key} at {whole} mHz"), Event::Repitch(key, hz)),
+            10 => (format!("pressure key {key}, value {value}"), Event::Pressure(key, value)),
+            _ => ("stop".to_string(), Event::Stop),
         };
         sequence.call(event);
-        let _ = write!(calls, " {kind} {key} {whole} {value}");
+        asked.push(format!("  {text}"));
     }
-    let mut parts = vec![Part::word("pool tuner")];
-    parts.extend(sequence.calls().iter().map(|call| Part::new(bytes(&call.rule), bytes(&call.rust), call.difference())));
-    list.push(&format!("5 {} {mode} {channels} 30{calls}", u8::from(bends)), parts);
+    let heading = format!("pool tuner by {}, mode {:?}, channels {channels}", TUNING_KINDS[usize::from(bends)], pools::rust_mode(mode));
+    let mut lines = vec![Line::heading(heading)];
+    for (asked, call) in asked.into_iter().zip(sequence.calls()) {
+        lines.push(Line::new(asked, bytes(&call.rule), bytes(&call.rust), call.difference()));
+    }
+    lines
 }
 
-fn plan_tuner(list: &mut List, bends: bool, channels: u8, lines: &[(u8, Millihertz)]) {
-    let asked: String = lines.iter().map(|(key, (whole, _))| format!(" {key} {whole}")).collect();
-    let by_pitches: Lines = lines.iter().map(|&(key, (_, hz))| (key, hz)).collect();
-    let mut sequence = plan_tuners::Sequence::new(&(0..channels).collect::<Vec<u8>>(), bends, by_pitches, Lines::new());
+/// A tuning, and a press of each of its keys.
+fn plan_tuner(bends: bool, channels: u8, keys: &[(u8, Millihertz)]) -> Vec<Line> {
+    const VELOCITY: u8 = 64;
+    let by_pitches = keys.iter().map(|&(key, (_, hz))| (key, hz)).collect();
+    let mut sequence = plan_tuners::Sequence::new(&(0..channels).collect::<Vec<u8>>(), bends, by_pitches, plan_tuners::Lines::new());
     sequence.call(Event::TuneByPitches);
-    for line in lines {
-        sequence.call(Event::Press(line.0, 0.0, 64));
+    for key in keys {
+        sequence.call(Event::Press(key.0, 0.0, VELOCITY));
     }
+    let tuned = |answer: &Answer| match answer.kind {
+        ours::NOTHING => planned(false, answer.channels.into()),
+        _ => format!("{}: {}", planned(true, answer.channels.into()), bytes(answer)),
+    };
     let calls = sequence.calls();
-    let count = |answer: &Answer| format!("plan tuner{} {}", if answer.kind == ours::NOTHING { " untuned" } else { "" }, answer.channels);
-    let tuning = &calls[0];
-    let mut parts = vec![Part::new(count(&tuning.rule), count(&tuning.rust), tuning.excuse)];
-    // A tuning's bytes are told where there is one.
-    let first = usize::from(tuning.rule.kind == ours::NOTHING);
-    assert_eq!(tuning.rule.kind, tuning.rust.kind, "one of two plans is untuned");
-    parts.extend(calls[first..].iter().map(|call| Part::new(bytes(&call.rule), bytes(&call.rust), call.difference())));
-    list.push(&format!("6 {} {channels} {}{asked}", u8::from(bends), lines.len()), parts);
+    let (tuning, presses) = calls.split_first().unwrap();
+    let heading = format!("plan tuner by {}, channels {channels}", TUNING_KINDS[usize::from(bends)]);
+    let mut lines = vec![Line::new(heading, tuned(&tuning.rule), tuned(&tuning.rust), tuning.difference())];
+    for (&pressed, call) in keys.iter().zip(presses) {
+        let asked = format!("{}, velocity {VELOCITY}", key(pressed));
+        lines.push(Line::new(asked, bytes(&call.rule), bytes(&call.rust), call.difference()));
+    }
+    lines
 }
 
 /// Two keys whose pitches' quotient is 1.000001 but for the last bits, and a third; such that they join on both sides or on neither, or on one alone.
@@ -294,20 +333,21 @@ fn at_limit(chance: &mut Chance, differ: bool) -> Vec<(u8, Millihertz)> {
     }
 }
 
-pub fn write(folder: &Path) {
-    let mut chance = Chance(20261103);
-    let mut list = List::default();
-    note(&mut list, (0, 0.0));
+fn notes(chance: &mut Chance) -> Vec<Line> {
+    let mut lines = vec![note((0, 0.0))];
     for _ in 0..350 {
         let any = (32.0 * chance.unit()).exp2().floor() as u64;
-        let drawn = if chance.below(2) == 0 { pitch(&mut chance) } else { (any, any as f64 / 1000.0) };
-        note(&mut list, drawn);
+        let drawn = if chance.below(2) == 0 { pitch(chance) } else { (any, any as f64 / 1000.0) };
+        lines.push(note(drawn));
     }
     for turn in 0..50 {
-        let drawn = wanted(&mut chance, |chance| beside(chance, 110), |hz| turn % 2 == 0 || nearest::excused(hz));
-        note(&mut list, drawn);
+        lines.push(note(wanted(chance, |chance| beside(chance, 110), |hz| turn % 2 == 0 || nearest::excused(hz))));
     }
-    values(&mut list, 0);
+    lines
+}
+
+fn all_values(chance: &mut Chance) -> Vec<Line> {
+    let mut lines = vec![values(0)];
     for turn in 0..400 {
         let (from, count) = match turn % 8 {
             0 => (500_000, 1_000_000),
@@ -319,8 +359,17 @@ pub fn write(folder: &Path) {
         while turn % 16 == 1 && !value_differs(millionths) {
             millionths = draw();
         }
-        values(&mut list, millionths);
+        lines.push(values(millionths));
     }
+    lines
+}
+
+pub fn write(folder: &Path) {
+    let mut chance = Chance(20261103);
+    let mut list = List::default();
+    list.push_legend();
+    list.push(notes(&mut chance));
+    list.push(all_values(&mut chance));
     for temperament in temperaments().iter().step_by(4) {
         for group in 0..3 {
             let reference = chance.pick(&REFERENCES);
@@ -328,26 +377,26 @@ pub fn write(folder: &Path) {
             let present = chance.pick(&[1, 4, 16]);
             let order = chance.keys();
             let lines: Vec<_> = (0..n).map(|i| (order[i as usize], millihertz(temperament.pitch(reference, i - n / 2)))).collect();
-            plan(&mut list, group, present, &lines);
+            list.push(plan(group, present, &lines));
         }
     }
     for turn in 0..12 {
         let lines = at_limit(&mut chance, turn % 2 == 0);
-        plan(&mut list, turn % 3, 4, &lines);
+        list.push(plan(turn % 3, 4, &lines));
         let lines: Vec<_> = (0..3).map(|key| (key, beside(&mut chance, 110))).collect();
-        plan(&mut list, turn % 3, 4, &lines);
+        list.push(plan(turn % 3, 4, &lines));
     }
     for letters in [false, true] {
         for mode in 0..3 {
             for channels in [0, 1, 2, 5, 16] {
-                pool(&mut list, &mut chance, letters, mode, channels);
+                list.push(pool(&mut chance, letters, mode, channels));
             }
         }
     }
     for bends in [false, true] {
         for mode in 0..3 {
             for channels in [0, 2, 16] {
-                pool_tuner(&mut list, &mut chance, bends, mode, channels);
+                list.push(pool_tuner(&mut chance, bends, mode, channels));
             }
         }
         for temperament in temperaments().iter().step_by(8) {
@@ -355,18 +404,19 @@ pub fn write(folder: &Path) {
             let present = chance.pick(&[1, 4, 16]);
             let order = chance.keys();
             let lines: Vec<_> = (0..12).map(|i| (order[i as usize], millihertz(temperament.pitch(reference, i - 6)))).collect();
-            plan_tuner(&mut list, bends, present, &lines);
+            list.push(plan_tuner(bends, present, &lines));
         }
         for turn in 0..4 {
             let lines = at_limit(&mut chance, turn % 2 == 0);
-            plan_tuner(&mut list, bends, 4, &lines);
+            list.push(plan_tuner(bends, 4, &lines));
             let differing = wanted(&mut chance, pitch, |hz| step_differs(bends, hz));
-            plan_tuner(&mut list, bends, 4, &[(1, differing), (2, pitch(&mut chance)), (3, beside(&mut chance, 12))]);
+            let keys = [(1, differing), (2, pitch(&mut chance)), (3, beside(&mut chance, 12))];
+            list.push(plan_tuner(bends, 4, &keys));
         }
     }
-    std::fs::write(folder.join("stdin"), format!("{}\n{}", list.count, list.inputs)).unwrap();
+    std::fs::write(folder.join("stdin"), &list.inputs).unwrap();
     std::fs::write(folder.join("stdout"), &list.answers).unwrap();
-    println!("{} cases stored, {} bytes; in these document 01 and the Rust differ:", list.count, list.inputs.len());
+    println!("{} lines stored, {} bytes; in these the rules and the Rust differ:", list.lines, list.inputs.len());
     for (kind, count) in list.differ {
         println!("{count:>4} {}", kind.text());
     }

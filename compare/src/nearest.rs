@@ -29,19 +29,19 @@ pub fn from_boundary(hz: f64) -> f64 {
 pub const NEAR: f64 = 2e-6;
 pub const GAP: f64 = 1e-12;
 
-/// Whether a detuning by document 01 is the Rust's but for its last bits.
+/// Whether a detuning by SPEC 4.4 is the Rust's but for its last bits.
 pub fn close(rule: f64, rust: f64) -> bool {
     (rule / rust - 1.0).abs() < GAP
 }
 
-/// Whether the nearest note by document 01 may differ from the Rust's: the other note beside a boundary, with the detuning that belongs to it.
+/// Whether the nearest note by SPEC 4.2 may differ from the Rust's: the other note beside a boundary, with the detuning that belongs to it.
 pub fn excused(hz: f64) -> bool {
     let ((note, detuning), (rust_note, rust_detuning)) = (rule::nearest(hz), found(hz));
     let semitone = (f64::from(rust_note - note) / 12.0).exp2();
     (note - rust_note).abs() == 1 && from_boundary(hz) <= NEAR && close(detuning / semitone, rust_detuning)
 }
 
-/// The port is held to document 01, and document 01 to the Rust.
+/// The port is held to the rules, and the rules to the Rust.
 fn compare(row: &mut Row, pitches: &[f64]) {
     let mut ours = Nearest::room(pitches.len());
     ours.find(pitches);

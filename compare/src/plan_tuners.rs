@@ -48,7 +48,7 @@ pub struct Sequence {
     by_pitches: Lines,
     by_notes: Lines,
     lists: Lists,
-    /// Document 01's plan: each key's channel and note.
+    /// The plan of SPEC 6.3: each key's channel and note.
     places: Vec<Option<(usize, i32)>>,
     /// Why the plan may differ from the Rust's.
     excuse: Option<Kind>,
@@ -80,7 +80,7 @@ impl Sequence {
         }
     }
 
-    /// Document 01's refusal, 0 where there is none: the Rust has none, and is not called then.
+    /// The rules' refusal, 0 where there is none: the Rust has none, and is not called then.
     fn judge(&self, event: Event) -> u8 {
         match event {
             Event::Press(_, _, value) | Event::Release(_, value) | Event::Pressure(_, value) if value > 127 => 8,
@@ -91,7 +91,7 @@ impl Sequence {
         }
     }
 
-    /// What document 01 answers to a tuning.
+    /// What SPEC 9.3 answers to a tuning.
     fn tuned(&mut self, plan: rule::Plan) -> Answer {
         let channels = plan.count as u16;
         if plan.count > self.channels.len() {
@@ -103,7 +103,7 @@ impl Sequence {
         Answer { bytes, channels, ..Answer::default() }
     }
 
-    /// What document 01 answers.
+    /// What the rules answer.
     fn rule(&mut self, event: Event) -> Answer {
         let note = |kind: u8, key: u8, value: u8| {
             let place = self.places[usize::from(key)];
@@ -250,7 +250,7 @@ fn any_call(chance: &mut Chance) -> Event {
     }
 }
 
-/// Lists with a fault: document 01 is the judge, and the plan from before stays.
+/// Lists with a fault: SPEC 2.2 is the judge, and the plan from before stays.
 fn damaged(chance: &mut Chance, row: &mut Row, bends: bool) {
     let channels = channel_list(chance, 3);
     let good: Lines = vec![(1, 440.0), (2, 450.0), (3, 880.0)];

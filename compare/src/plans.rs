@@ -126,7 +126,7 @@ fn expected(plan: &Plan) -> Tuning {
     if plan.tuned { Tuning::Tuned(plan.count) } else { Tuning::Untuned(plan.count) }
 }
 
-/// What document 01 answers to a plan that needs so many channels, where so many are present.
+/// What SPEC 6.4 answers to a plan that needs so many channels, where so many are present.
 fn answer_of(plan: &rule::Plan, present: usize) -> Tuning {
     if plan.count <= present { Tuning::Tuned(plan.count) } else { Tuning::Untuned(plan.count) }
 }
@@ -221,7 +221,7 @@ pub fn excused(group: u8, pitches: &[f64]) -> Option<Kind> {
     }
 }
 
-/// Document 01's plan of keys with pitches.
+/// The plan of keys with pitches by SPEC 6.3.
 pub fn plan_of_pitches(group: u8, keys: &[u8], pitches: &[f64]) -> rule::Plan {
     let (notes, detunings): (Vec<i32>, Vec<f64>) = pitches.iter().map(|&hz| rule::nearest(hz)).unzip();
     rule::plan(group, keys, &notes, &detunings)
@@ -249,7 +249,7 @@ fn palette(notes: &[f64], detunings: &[f64]) -> Vec<f64> {
     notes.iter().flat_map(|n| detunings.iter().map(move |d| n * d)).collect()
 }
 
-/// What document 01 answers to lists with a fault: 12; then line by line 4, 3, 5.
+/// What SPEC 2.2 answers to lists with a fault: 12; then line by line 4, 3, 5.
 pub fn judge_notes(keys: &[u8], notes: &[i32], detunings: &[f64]) -> Option<u8> {
     if keys.len() != notes.len() || keys.len() != detunings.len() {
         return Some(12);
@@ -343,7 +343,7 @@ fn damaged(row: &mut Row, chance: &mut Chance) {
     }
 }
 
-/// Detunings of the whole of 0.5 to 2, which no pitch has, against the walk as document 01 tells it.
+/// Detunings of the whole of 0.5 to 2, which no pitch has, against the walk of SPEC 6.3.
 fn walked(row: &mut Row, chance: &mut Chance) {
     for turn in 0..6000 {
         let n = chance.pick(&[1, 2, 3, 5, 16, 17, 40, 256]);

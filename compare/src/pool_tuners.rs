@@ -42,7 +42,7 @@ pub struct Sequence {
     mode: u8,
     tuner: JitTuner<u8, TunableMidi<Handler>>,
     written: Written,
-    /// The pool inside document 01's tuner: the Rust's, told document 01's notes.
+    /// The pool inside the rules' tuner: the Rust's, given the rules' notes.
     pool: JitTuningModel<u8>,
     /// Whether a pitch was pressed whose note differs.
     beside: bool,
@@ -70,7 +70,7 @@ impl Sequence {
         keys
     }
 
-    /// Document 01's refusal, 0 where there is none: the Rust has none, and is not called then.
+    /// The rules' refusal, 0 where there is none: the Rust has none, and is not called then.
     fn judge(&self, event: Event) -> u8 {
         let no_pitch = |hz: f64| !((-20f64).exp2()..=40f64.exp2()).contains(&hz);
         match event {
@@ -82,7 +82,7 @@ impl Sequence {
         }
     }
 
-    /// What document 01 answers to a press.
+    /// What SPEC 9.2 answers to a press.
     fn press(&mut self, key: u8, hz: f64, velocity: u8) -> Answer {
         let (note, detuning) = rule::nearest(hz);
         match self.pool.register_key(key, Pitch::from_hz(rule::note_pitch(note))) {
@@ -110,7 +110,7 @@ impl Sequence {
         self.found(result, |channel, note| rule::note_message(0x8, channel, note, velocity))
     }
 
-    /// What document 01 answers.
+    /// What the rules answer.
     fn rule(&mut self, event: Event) -> Answer {
         let bytes = match event {
             Event::Press(key, hz, velocity) => return self.press(key, hz, velocity),

@@ -74,7 +74,7 @@ pub fn rust_group(letters: bool) -> GroupBy {
 struct Sequence {
     rust: JitTuningModel<u8>,
     events: Events,
-    /// Of the Rust, but with document 01's detunings, which are the Rust's but for their last bits.
+    /// Of the Rust, but with the rules' detunings, which are the Rust's but for their last bits.
     answers: Vec<Answer>,
 }
 

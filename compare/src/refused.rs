@@ -1,4 +1,4 @@
-//! Refused calls, on blocks of every content: each returns the number that document 01 gives, and the block and the buffer are as they were.
+//! Refused calls, on blocks of every content: each returns the number that SPEC 2.2 gives, and the block and the buffer are as they were.
 
 use crate::bytes::judge_message;
 use crate::inputs::Chance;
@@ -22,7 +22,7 @@ const NO_PITCHES: [f64; 7] = [0.0, -1.0, f64::NAN, f64::INFINITY, f64::NEG_INFIN
 
 const TURNS: usize = 5000;
 
-/// Holds an answer to the refusal that document 01 gives for the arguments alone.
+/// Holds an answer to the refusal that SPEC 2.2 gives for the arguments alone.
 fn one(row: &mut Row, what: &str, number: u8, refusal: u8, untouched: bool) {
     row.cases += 1;
     if (number, untouched) != (refusal, true) {

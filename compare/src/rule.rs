@@ -1,4 +1,5 @@
-//! Document 01's rules, told once more in whole numbers, by which every answer is known to the last bit. Nothing here asks the port, and nothing the Rust.
+//! The rules of docs/SPEC.md, stated once more in whole numbers, by which every answer is known to the last bit. Nothing here asks the port, and
+//! nothing the Rust.
 
 use std::sync::LazyLock;
 

@@ -43,8 +43,8 @@ pub fn bend(detuning: f64) -> i32 {
     i32::from(bytes[1]) + i32::from(bytes[2]) * 128 - 8192
 }
 
-/// Why a value by document 01 may differ from the Rust's, if it may: the clamp of a bend at 8191, or one step less where the exact value lies within
-/// document 01's bound of 1/64 of a step above a whole number.
+/// Why a value by SPEC 5 may differ from the Rust's, if it may: the clamp of a bend at 8191, or one step less where the exact value lies within
+/// the bound of SPEC 5.1a, 1/64 of a step above a whole number.
 pub fn excused(is_bend: bool, detuning: f64, value: i32, rust: i32) -> Option<Kind> {
     let exact = detuning.log2() * if is_bend { 49152.0 } else { 98304.0 };
     match () {
@@ -54,7 +54,7 @@ pub fn excused(is_bend: bool, detuning: f64, value: i32, rust: i32) -> Option<Ki
     }
 }
 
-/// The port is held to document 01, and document 01 to the Rust.
+/// The port is held to the rules, and the rules to the Rust.
 fn compare(row: &mut Row, is_bend: bool, detunings: &[f64]) {
     let mut ours = Values::room(detunings.len());
     ours.find(detunings);

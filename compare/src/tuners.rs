@@ -20,7 +20,7 @@ pub struct Answer {
     pub channels: u16,
 }
 
-/// What document 01 says of a call, what the Rust answers, and why the two may differ.
+/// What the rules say of a call, what the Rust answers, and why the two may differ.
 pub struct Told {
     pub event: Event,
     pub rule: Answer,
@@ -30,7 +30,7 @@ pub struct Told {
 }
 
 impl Told {
-    /// How document 01's answer differs from the Rust's.
+    /// How the rules' answer differs from the Rust's.
     pub fn difference(&self) -> Option<Kind> {
         if self.rule == self.rust {
             return None;
@@ -57,7 +57,7 @@ fn name(event: Event) -> &'static str {
     }
 }
 
-/// Holds every call of the port to document 01, and document 01 to the Rust. `lines` is how many lines the tuner's lists have.
+/// Holds every call of the port to the rules, and the rules to the Rust. `lines` is how many lines the tuner's lists have.
 pub fn hold(row: &mut Row, setting: &str, lines: usize, calls: &[Told], play: impl Fn(&mut Calls)) {
     let events: Vec<Event> = calls.iter().map(|call| call.event).collect();
     let room = calls.iter().map(|call| call.rule.bytes.len()).sum::<usize>() + 200;
@@ -96,8 +96,8 @@ pub fn hold(row: &mut Row, setting: &str, lines: usize, calls: &[Told], play: im
     }
 }
 
-/// Plays calls in buffers that end within the last one: it is refused by 10, as document 01 says, and leaves the tuner as it was, which pressures of
-/// these keys show. In a buffer that just holds it, it is not refused. What the calls answer in a long buffer is document 01's, by `rules`.
+/// Plays calls in buffers that end within the last one: it is refused by 10, as SPEC 9.1b says, and leaves the tuner as it was, which pressures of
+/// these keys show. In a buffer that just holds it, it is not refused. What the calls answer in a long buffer is the rules', by `rules`.
 pub fn short_buffers(
     row: &mut Row,
     setting: &str,
@@ -134,7 +134,7 @@ pub fn short_buffers(
     }
 }
 
-/// What document 01 sends for a message to all channels.
+/// What SPEC 9.4 sends for a message to all channels.
 pub fn to_all(message: Message, bends: bool, channels: &[u8]) -> Vec<u8> {
     if bends && message.kind == 0xe {
         return Vec::new();

@@ -1,5 +1,5 @@
 //! The console program in Rust: the same lines in and out, over the Rust that the port replaces (its own files, unchanged, from the `shared` folder
-//! beside the repository). It has no refusal 11: the Rust does not tell that a key is held. With the word `rule` it answers by document 01, as the comparison's
+//! beside the repository). It has no refusal 11: the Rust does not tell that a key is held. With the word `rule` it answers by SPEC 10, as the comparison's
 //! driver tells it, to the last bit.
 #![allow(dead_code, clippy::all)]
 
@@ -99,7 +99,7 @@ fn write_lines(count: usize) {
     }
 }
 
-/// Document 01's refusal or bytes, by the Rust's pool told document 01's notes.
+/// The refusal or bytes of SPEC 10, by the Rust's pool given the rules' notes.
 fn by_rule(pool: &mut JitTuningModel<u8>, event: Option<Event>) -> (u8, Vec<u8>) {
     let found = |result, bytes: &dyn Fn(u8, i32) -> Vec<u8>| match result {
         AccessKeyResult::Found { channel, found_note } => bytes(channel as u8, found_note.midi_number()),

@@ -1,17 +1,5 @@
-pub mod Outcomes
-pub mod Integers
-pub mod Quotients
-pub mod Powers
-pub mod Tables
+-- Laws of the definitions, and the theorems about them, in folders named for what they are about.
+pub mod Rules
+pub mod Numbers
 pub mod Notes
-pub mod Pitches
-pub mod FloatDivision
-pub mod Boundaries
-pub mod Bounds
-pub mod Order
 pub mod Measure
-pub mod Scaled
-pub mod Fields
-pub mod Range
-pub mod Nearest
-pub mod Refusals

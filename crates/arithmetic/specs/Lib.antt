@@ -1,4 +1,4 @@
--- What the crate's contracts cite, a file for each rule; `Inside` is for its private functions.
+-- What the crate's contracts cite, SPEC 2.1, 3 and 4, a file for each subject; `Internal` is for its private functions.
 pub mod Refusal
 pub mod Outcome
 pub mod Division
@@ -7,5 +7,6 @@ pub mod Pitch
 pub mod Powers
 pub mod Measure
 pub mod Nearest
+pub mod Detuning
 pub mod Answers
-pub mod Inside
+pub mod Internal

@@ -1,62 +1,61 @@
--- The refusals, each by its number. Assumes nothing.
+-- The refusals, each by its number, SPEC 2.1.
 use Rattle.std.specs.Prelude.{ℕ}
 use Rattle.arithmetic.specs.declared.refusal.Refusal.{Refusal}
-use Rattle.arithmetic.specs.declared.refusal.Refusal.TheVariants.{PitchOutOfRange, NotMeasurable, DetuningOutOfRange, NoteOutOfRange, KeyTwice, ChannelOver15, ChannelTwice}
-use Rattle.arithmetic.specs.declared.refusal.Refusal.TheVariants.{DataByteOver127, BendOutOfRange, BufferTooShort, KeyHeld, ListsUnequal, LineMalformed}
+use Rattle.arithmetic.specs.declared.refusal.Refusal.TheVariants.{PitchOutOfRange, NotMeasurable, DetuningOutOfRange, NoteOutOfRange, KeyTwice, ChannelOver15, ChannelTwice, DataByteOver127, BendOutOfRange, BufferTooShort, KeyHeld, ListsUnequal, LineMalformed}
 
--- pitch out of range or NaN
+-- The pitch is out of range or NaN.
 abbrev pub pitch_out_of_range : ℕ
 pitch_out_of_range = 1
 
--- measured detuning not positive and finite
+-- A detuning that is measured is not positive and finite.
 abbrev pub not_measurable : ℕ
 not_measurable = 2
 
--- planned detuning outside 0.5..2 or NaN
+-- A detuning in a plan's list is outside 0.5 to 2 or NaN.
 abbrev pub detuning_out_of_range : ℕ
 detuning_out_of_range = 3
 
--- note outside -300..500
+-- The note is outside -300 to 500.
 abbrev pub note_out_of_range : ℕ
 note_out_of_range = 4
 
--- key twice in a list
+-- The key comes twice in a list.
 abbrev pub key_twice : ℕ
 key_twice = 5
 
--- MIDI channel over 15
+-- The MIDI channel is over 15.
 abbrev pub channel_over15 : ℕ
 channel_over15 = 6
 
--- MIDI channel twice in the channel list
+-- The MIDI channel comes twice in a channel list.
 abbrev pub channel_twice : ℕ
 channel_twice = 7
 
--- data byte over 127
+-- The data byte is over 127.
 abbrev pub data_byte_over127 : ℕ
 data_byte_over127 = 8
 
--- bend outside -8192..8191
+-- The bend is outside -8192 to 8191.
 abbrev pub bend_out_of_range : ℕ
 bend_out_of_range = 9
 
--- output buffer shorter than this answer's bytes
+-- The buffer is shorter than the bytes of this answer.
 abbrev pub buffer_too_short : ℕ
 buffer_too_short = 10
 
--- press of a held key
+-- The key is held already.
 abbrev pub key_held : ℕ
 key_held = 11
 
--- lists of unequal length
+-- The lists are of unequal length.
 abbrev pub lists_unequal : ℕ
 lists_unequal = 12
 
--- malformed program line
+-- The line of the console is malformed.
 abbrev pub line_malformed : ℕ
 line_malformed = 13
 
--- the number of the code's refusal
+-- The number of the code's refusal.
 abbrev pub number : Refusal → ℕ
 number PitchOutOfRange = pitch_out_of_range
 number NotMeasurable = not_measurable

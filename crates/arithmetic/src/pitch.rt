@@ -7,11 +7,11 @@ ghost use Rattle.arithmetic.specs.Pitch.{is_pitch, negligible};
 ghost use Rattle.arithmetic.specs.Measure.{digits, measure, measure_rule};
 ghost use Rattle.arithmetic.specs.Outcome.{value};
 ghost use Rattle.arithmetic.specs.Answers.{outcome, outcome_by};
-ghost use Rattle.arithmetic.specs.Inside.{range_rule, Writes, WritesOut};
+ghost use Rattle.arithmetic.specs.Internal.{range_rule, Writes, WritesOut};
 
 use crate::refusal::Refusal;
 
-// A pitch in Hz. It holds any f64; what needs one from 2^-20 to 2^40 refuses (1) others.
+// A pitch in Hz. It holds any f64; what needs one from 2^-20 to 2^40 refuses (1) others (SPEC 4.6).
 #[derive(Clone, Copy, PartialEq, PartialOrd)]
 pub struct Pitch {
     hz: f64,
@@ -38,14 +38,14 @@ impl Pitch {
         self.hz
     }
 
-    // From 2^-20 to 2^40 Hz.
+    // Whether it lies from 2^-20 to 2^40 Hz (SPEC 1.2).
     pub fn is_in_range(self) -> bool
         ensures { result ≡ is_pitch self.hz }
     {
         LOWEST_PITCH <= self && self <= HIGHEST_PITCH
     }
 
-    // The pitch, if it is in range. Refuses 1.
+    // The pitch, if it is in range. Refuses 1 (SPEC 1.2).
     pub(crate) fn in_range(self) -> Result<Pitch, Refusal>
         ensures { outcome_by (λ pitch. pitch.hz) result ≡ range_rule self.hz }
     {
@@ -56,13 +56,13 @@ impl Pitch {
     }
 }
 
-// A ratio of two pitches, 1 for equal ones. It holds any f64.
+// A ratio of two pitches, 1 for equal ones. It holds any f64 (SPEC 4.6).
 #[derive(Clone, Copy, PartialEq, PartialOrd)]
 pub struct Ratio {
     float_value: f64,
 }
 
-// The nearest f64 of 0.999999 and 1.000001.
+// The nearest f64 of 0.999999 and 1.000001 (SPEC 1.8).
 const NEGLIGIBLE_FROM: Ratio = Ratio {
     float_value: 0.999999,
 };
@@ -110,7 +110,7 @@ impl Ratio {
         self.float_value
     }
 
-    // At least 0.999999 and less than 1.000001: too close to 1 to be heard.
+    // At least 0.999999 and less than 1.000001: too close to 1 to be heard (SPEC 4.5).
     // Example: Ratio::from_float(1.0000005).is_negligible() is yes
     pub fn is_negligible(self) -> bool
         ensures { result ≡ negligible self.float_value }
@@ -118,7 +118,7 @@ impl Ratio {
         NEGLIGIBLE_FROM <= self && self < NEGLIGIBLE_BELOW
     }
 
-    // The base-2 logarithm in steps of 2^-24, cut off. Refuses 2 a ratio that is not positive and finite.
+    // The measure: the base-2 logarithm in steps of 2^-24, truncated. Refuses 2 a ratio that is not positive and finite (SPEC 4.1).
     // Example: Ratio::from_float(1.5).measure() is 9814042
     // Example: Ratio::from_float(0).measure() is refused (2)
     pub fn measure(self) -> Result<i64, Refusal>
@@ -165,7 +165,7 @@ fn first_digits(m: u64, k: u64) -> Binary
     }
 }
 
-// The 24 digits of y, the first highest.
+// The 24 digits of y, the first highest (SPEC 4.1).
 fn squarings(y: u64) -> u64
     requires { y < 2 ^ 32 }
     ensures { result ≡ digits 24 y }

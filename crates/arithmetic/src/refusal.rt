@@ -1,4 +1,4 @@
-// Why a call is refused. Each refusal has a number, which the console shows and the interface for C returns; `specs/Refusal.antt` has the same list.
+// Why a call is refused. Each refusal has a number, which the console shows and the interface for C returns (SPEC 2.1); `specs/Refusal.antt` has the same list.
 
 ghost use Rattle.std.specs.Prelude.{◌≡◌};
 ghost use Rattle.arithmetic.specs.Refusal.{number};
@@ -24,7 +24,7 @@ pub enum Refusal {
 }
 
 impl Refusal {
-    // Its number.
+    // Its number (SPEC 2.1).
     pub fn number(self) -> u8
         ensures { result ≡ number self }
     {

@@ -4,7 +4,7 @@ ghost use Rattle.std.specs.Prelude.{◌≡◌, true, ◌^◌, ◌<◌, pos, negs
 ghost use Rattle.arithmetic.specs.Note.{is_note};
 ghost use Rattle.arithmetic.specs.Pitch.{is_pitch, octave_pitch, pitch_of, pitch_rule, detuning_of, detuning_rule};
 ghost use Rattle.arithmetic.specs.Nearest.{nearest_note, nearest_rule, nearest};
-ghost use Rattle.arithmetic.specs.Inside.{within, factor_to12, note_at};
+ghost use Rattle.arithmetic.specs.Internal.{within, factor_to12, note_at};
 ghost use Rattle.arithmetic.specs.Answers.{outcome, outcome_by};
 
 use crate::note::{A4, Note};
@@ -45,8 +45,8 @@ impl Place {
 
 const A4_HZ: f64 = 440.0;
 
-// Where the nearest note changes within an octave: the least numbers of 32 binary digits whose measure, times 12, has come to the middle of two notes and 290
-// steps more, 1.000001 as a ratio. A pitch so little above the middle goes to the lower note.
+// Where the nearest note changes within an octave (SPEC 4.2): the least numbers of 32 binary digits whose measure, times 12, has come to the middle of two
+// notes and 290 steps more, 1.000001 as a ratio. A pitch so little above the middle goes to the lower note.
 static BOUNDARIES: [u64; 12] = [
     2210411945, 2341849944, 2481103554, 2628637612, 2784944615, 2950545999, 3125994551, 3311875951,
     3508810295, 3717454961, 3938506445, 4172702168,
@@ -55,7 +55,7 @@ static BOUNDARIES: [u64; 12] = [
 // The octaves that the notes lie in, counted from A4.
 const LOWEST_OCTAVE: i32 = -31;
 
-// 440 Hz times 2^j, j from -31 to 35.
+// 440 Hz times 2^j, j from -31 to 35 (SPEC 4.3b).
 static OCTAVE_PITCHES: [f64; 67] = [
     2.0489096641540527e-07,
     4.0978193283081055e-07,
@@ -126,7 +126,7 @@ static OCTAVE_PITCHES: [f64; 67] = [
     15118284881920.0,
 ];
 
-// R[k]: the factors of 0 to 12 semitones.
+// R[k]: the factors of 0 to 12 semitones (SPEC 4.3a).
 static SEMITONE_FACTORS: [f64; 13] = [
     1.0,
     1.0594630943592953,
@@ -143,7 +143,7 @@ static SEMITONE_FACTORS: [f64; 13] = [
     2.0,
 ];
 
-// The pitch of a note, in Hz. Refuses 4.
+// The pitch of a note, in Hz. Refuses 4 (SPEC 4.3).
 // Example: pitch_of(60) is 261.625565... Hz
 pub fn pitch_of(note: i32) -> Result<f64, Refusal>
     ensures { outcome result ≡ pitch_rule note }
@@ -152,7 +152,7 @@ pub fn pitch_of(note: i32) -> Result<f64, Refusal>
     Ok(note_pitch(note).as_hz())
 }
 
-// The ratio of a pitch to a note's. Refuses 1, then 4.
+// The ratio of a pitch to a note's. Refuses 1, then 4 (SPEC 4.4).
 // Example: detuning(455 Hz, 69) is 1.034090...
 pub fn detuning(pitch: Pitch, note: i32) -> Result<f64, Refusal>
     ensures { outcome result ≡ detuning_rule pitch.hz note }
@@ -162,14 +162,14 @@ pub fn detuning(pitch: Pitch, note: i32) -> Result<f64, Refusal>
     Ok(detuning_from(pitch, note))
 }
 
-// The ratio of a pitch to a note's.
+// The ratio of a pitch to a note's (SPEC 4.4).
 pub fn detuning_from(pitch: Pitch, note: Note) -> f64
     ensures { result ≡ detuning_of pitch.hz note.number }
 {
     Ratio::between_pitches(note_pitch(note), pitch).as_float()
 }
 
-// The nearest note, and the ratio of the pitch to its pitch. Refuses 1.
+// The nearest note, and the ratio of the pitch to its pitch. Refuses 1 (SPEC 4.4a).
 // Example: find_by_pitch(455 Hz) is note 70, detuning 0.976051...
 // Example: find_by_pitch(0 Hz) is refused (1)
 pub fn find_by_pitch(pitch: Pitch) -> Result<Approximation, Refusal>

@@ -1,65 +1,62 @@
-// Notes, pitches and the measure, with the ends of each range and every refusal. Writes a line for each call.
+// Notes, pitches and the measure, with the ends of each range and every refusal. Writes a line for each call, with what was asked and what it answered, below
+// the rule of docs/SPEC.md that is tried.
 #![tactic(auto)]
 
 use arithmetic::note::{checked_midi_number, letter, num_semitones_before, octave, plus_semitones};
 use arithmetic::pitch::{Pitch, Ratio};
-use arithmetic::tuning::{Approximation, detuning, find_by_pitch, pitch_of};
-use show::{Answer, Bits, Code, Or};
+use arithmetic::tuning::{detuning, find_by_pitch, pitch_of};
+use printing::answers::{Answer, Hertz, Nearest, Note, Or, Refused, Semitones};
+use printing::decimal::Float;
+use printing::decimal::Form::WithBits;
+use std::io;
 use std::io::{BufWriter, Write};
-use std::{fmt, io};
 
-// Letter, octave, MIDI's number and pitch.
 fn note(out: &mut impl Write, note: i32) -> io::Result<()> {
-    let number = checked_midi_number(note).map(|number| Or(number, "-"));
+    let number = checked_midi_number(note).map(|number| Or(number, "none"));
+    let pitch = pitch_of(note).map(|hz| Hertz(hz, WithBits));
     writeln!(
         out,
-        "note {note}: {} {} {} {}",
-        Answer(letter(note).map_err(Code)),
-        Answer(octave(note).map_err(Code)),
-        Answer(number.map_err(Code)),
-        Answer(pitch_of(note).map(Bits).map_err(Code))
+        "note {note}: letter {}, octave {}, MIDI number {}, pitch {}",
+        Answer(letter(note).map_err(Refused)),
+        Answer(octave(note).map_err(Refused)),
+        Answer(number.map_err(Refused)),
+        Answer(pitch.map_err(Refused))
     )
 }
 
 fn plus(out: &mut impl Write, note: i32, steps: i32) -> io::Result<()> {
+    let sum = plus_semitones(note, steps).map(Note);
     writeln!(
         out,
-        "note {note} plus {steps}: {}",
-        Answer(plus_semitones(note, steps).map_err(Code))
+        "note {note} plus {steps} semitones: {}",
+        Answer(sum.map_err(Refused))
     )
 }
 
 fn before(out: &mut impl Write, note: i32, other: i32) -> io::Result<()> {
+    let steps = num_semitones_before(note, other).map(Semitones);
     writeln!(
         out,
-        "note {note} before {other}: {}",
-        Answer(num_semitones_before(note, other).map_err(Code))
+        "note {note} is before note {other} by: {}",
+        Answer(steps.map_err(Refused))
     )
 }
 
-// The nearest note and the detuning.
-#[derive(Clone, Copy)]
-struct Found(Approximation);
-
-impl fmt::Display for Found {
-    fn fmt<W: fmt::Write>(&self, f: &mut fmt::Formatter<W>) -> fmt::Result {
-        let nearest = &self.0;
-        write!(f, "{} {}", nearest.note.number(), Bits(nearest.detuning))
-    }
-}
-
 fn nearest(out: &mut impl Write, hz: f64) -> io::Result<()> {
-    let nearest = find_by_pitch(Pitch::from_hz(hz)).map(Found);
-    writeln!(out, "pitch {}: {}", Bits(hz), Answer(nearest.map_err(Code)))
+    let nearest = find_by_pitch(Pitch::from_hz(hz)).map(|nearest| Nearest(nearest, WithBits));
+    writeln!(
+        out,
+        "nearest note of {hz:?} Hz: {}",
+        Answer(nearest.map_err(Refused))
+    )
 }
 
 fn detuned(out: &mut impl Write, hz: f64, note: i32) -> io::Result<()> {
-    let detuning = detuning(Pitch::from_hz(hz), note);
+    let detuning = detuning(Pitch::from_hz(hz), note).map(|ratio| Float(ratio, WithBits));
     writeln!(
         out,
-        "pitch {} note {note}: {}",
-        Bits(hz),
-        Answer(detuning.map(Bits).map_err(Code))
+        "detuning of {hz:?} Hz for note {note}: {}",
+        Answer(detuning.map_err(Refused))
     )
 }
 
@@ -67,19 +64,18 @@ fn measure(out: &mut impl Write, ratio: f64) -> io::Result<()> {
     let measure = Ratio::from_float(ratio).measure();
     writeln!(
         out,
-        "ratio {}: {}",
-        Bits(ratio),
-        Answer(measure.map_err(Code))
+        "measure of {ratio:?}: {}",
+        Answer(measure.map_err(Refused))
     )
 }
 
-fn negligible(out: &mut impl Write, deviation: f64) -> io::Result<()> {
-    let heard = if Ratio::from_float(deviation).is_negligible() {
-        "negligible"
+fn negligible(out: &mut impl Write, ratio: f64) -> io::Result<()> {
+    let negligible = if Ratio::from_float(ratio).is_negligible() {
+        "yes"
     } else {
-        "audible"
+        "no"
     };
-    writeln!(out, "deviation {}: {heard}", Bits(deviation))
+    writeln!(out, "negligible {ratio:?}: {negligible}")
 }
 
 // Steps from note 69 and from note -300, and the distance from note 69.
@@ -91,6 +87,10 @@ fn steps(out: &mut impl Write, steps: i32) -> io::Result<()> {
 
 // The ends of an i32, the notes beside the ends of the range and of MIDI's numbers, and some between: note -1 is B of octave -2.
 fn notes(out: &mut impl Write) -> io::Result<()> {
+    writeln!(
+        out,
+        "-- SPEC 1.4, 3.3, 4.3: letter, octave, MIDI number and pitch of a note; 3.1: no note is refused (4)"
+    )?;
     for n in [
         -2147483648,
         -301,
@@ -109,6 +109,10 @@ fn notes(out: &mut impl Write) -> io::Result<()> {
     ] {
         note(out, n)?;
     }
+    writeln!(
+        out,
+        "-- SPEC 3.2: a note plus semitones, and the difference of two notes; what is no note is refused (4)"
+    )?;
     for n in [-2147483648, -370, -369, -1, 0, 431, 432, 800, 2147483647] {
         steps(out, n)?;
     }
@@ -118,6 +122,10 @@ fn notes(out: &mut impl Write) -> io::Result<()> {
 
 // Examples 6 to 8, the neighbours of the range's ends, the last pitch nearest to 69 and the first to 70, and what is no pitch.
 fn pitches(out: &mut impl Write, nan: f64, infinite: f64) -> io::Result<()> {
+    writeln!(
+        out,
+        "-- SPEC 4.2, 4.4: the nearest note, and the detuning for it; 1.2: no pitch is refused (1)"
+    )?;
     for hz in [
         440.0,
         455.0,
@@ -145,6 +153,10 @@ fn pitches(out: &mut impl Write, nan: f64, infinite: f64) -> io::Result<()> {
 
 // The ends of both ranges, and refusal 1 before 4.
 fn detunings(out: &mut impl Write, nan: f64) -> io::Result<()> {
+    writeln!(
+        out,
+        "-- SPEC 4.4: the detuning for a note is the pitch divided by the note's pitch; 2.2: refused (1) before (4)"
+    )?;
     detuned(out, 440.0, 69)?;
     detuned(out, 440.0, 70)?;
     detuned(out, 9.5367431640625e-7, 500)?;
@@ -156,6 +168,10 @@ fn detunings(out: &mut impl Write, nan: f64) -> io::Result<()> {
 
 // The ratios of examples 1 to 5, the smallest and the largest values, and what has no measure.
 fn ratios(out: &mut impl Write, nan: f64, infinite: f64) -> io::Result<()> {
+    writeln!(
+        out,
+        "-- SPEC 4.1, 11.1: the measure, near 2^24 times the logarithm to base 2; not positive and finite is refused (2)"
+    )?;
     for ratio in [
         1.0,
         2.0,
@@ -180,6 +196,10 @@ fn ratios(out: &mut impl Write, nan: f64, infinite: f64) -> io::Result<()> {
 
 // The limits of what is negligible, and their neighbours.
 fn deviations(out: &mut impl Write, nan: f64) -> io::Result<()> {
+    writeln!(
+        out,
+        "-- SPEC 4.5: negligible from 0.999999 to below 1.000001"
+    )?;
     for deviation in [
         0.9999989999999999,
         0.999999,

@@ -1,5 +1,5 @@
--- The answers of calls in numbers. `outcome` is 0 for done, 1 untuned, 2 rejected, 3 not found, 4 refused; `refusal` is the number of the refusal, and 0 where
--- nothing is refused; what there is not is 0.
+-- The answers of calls in numbers, SPEC 12.3. `outcome` is 0 for done, 1 untuned, 2 rejected, 3 not found, 4 refused; `refusal` is the number of the refusal,
+-- and 0 where nothing is refused; other fields are 0 where there is nothing to say.
 use Rattle.std.specs.Prelude.{ℕ, cond, List, eqb, ℤ, pos, Float}
 use Rattle.std.proofs.Math.Option.{Option, some, none}
 use Rattle.std.specs.Float.Ieee.{of_bits}
@@ -10,8 +10,8 @@ use Rattle.channels.specs.Places.{Place}
 use Rattle.pools.specs.Pool.{Press, accepted, rejected}
 use Rattle.channels.specs.declared.tuning_value.Tuning.{Tuning}
 use Rattle.channels.specs.declared.tuning_value.Tuning.TheVariants.{Fine, Bend}
-use Rattle.plan_tuner.specs.Aot.{Planned, tunes, cannot}
-use Rattle.senders.specs.Jit.{Pressed, sounds, rejects}
+use Rattle.plan_tuner.specs.Aot.{Planned, plan_tuned, plan_untuned}
+use Rattle.senders.specs.Jit.{PressResult, press_sent, press_rejected}
 use Rattle.capi.specs.declared.answer.Answer.{Answer}
 use Rattle.capi.specs.declared.answer.Note.{Note}
 use Rattle.capi.specs.declared.answer.RegisteredKey.{RegisteredKey}
@@ -21,7 +21,7 @@ use Rattle.capi.specs.declared.answer.Number.{Number}
 abbrev pub zero_float : Float
 zero_float = of_bits binary64 0
 
--- ---- calls that send, and those that open a block
+-- ---- SPEC 12.3: calls that send, and those that open a block
 
 abbrev pub answer_of : (outcome refusal channels bytes : ℕ) → Answer
 answer_of o n cs bytes = record { outcome = o; refusal = n; channels = cs; bytes = bytes }
@@ -30,35 +30,35 @@ abbrev pub of_sent : Outcome ℕ → Answer
 of_sent (value bytes) = answer_of 0 0 0 bytes
 of_sent (refused n) = answer_of 4 n 0 0
 
-abbrev pub of_press : Outcome Pressed → Answer
-of_press (value (sounds bytes)) = answer_of 0 0 0 bytes
-of_press (value rejects) = answer_of 2 0 0 0
+abbrev pub of_press : Outcome PressResult → Answer
+of_press (value (press_sent bytes)) = answer_of 0 0 0 bytes
+of_press (value press_rejected) = answer_of 2 0 0 0
 of_press (refused n) = answer_of 4 n 0 0
 
 abbrev pub of_list : Outcome (List ℕ) → Answer
 of_list (value cs) = answer_of 0 0 0 0
 of_list (refused n) = answer_of 4 n 0 0
 
-abbrev pub of_plan : M.Answer → Answer
+abbrev pub of_plan : M.PlanAnswer → Answer
 of_plan (M.tuned n) = answer_of 0 0 n 0
 of_plan (M.untuned n) = answer_of 1 0 n 0
 of_plan (M.refused n) = answer_of 4 n 0 0
 
 abbrev pub of_plan_sent : Outcome Planned → Answer
-of_plan_sent (value (tunes n bytes)) = answer_of 0 0 n bytes
-of_plan_sent (value (cannot n)) = answer_of 1 0 n 0
+of_plan_sent (value (plan_tuned n bytes)) = answer_of 0 0 n bytes
+of_plan_sent (value (plan_untuned n)) = answer_of 1 0 n 0
 of_plan_sent (refused n) = answer_of 4 n 0 0
 
--- what such an answer says of the plan
-abbrev pub plan_in : Answer → M.Answer
+-- What such an answer says of the plan.
+abbrev pub plan_in : Answer → M.PlanAnswer
 plan_in a = cond (eqb a.outcome 0) (M.tuned a.channels) (cond (eqb a.outcome 1) (M.untuned a.channels) (M.refused a.refusal))
 
 abbrev pub plan_sent_in : Answer → Outcome Planned
 plan_sent_in a =
-    cond (eqb a.outcome 0) (value (tunes a.channels a.bytes))
-    (cond (eqb a.outcome 1) (value (cannot a.channels)) (refused a.refusal))
+    cond (eqb a.outcome 0) (value (plan_tuned a.channels a.bytes))
+    (cond (eqb a.outcome 1) (value (plan_untuned a.channels)) (refused a.refusal))
 
--- ---- notes with their channels and detunings
+-- ---- SPEC 12.3: notes with their channels and detunings
 
 abbrev pub note_of : (outcome refusal channel : ℕ) → ℤ → Float → Note
 note_of o n c note d = record { outcome = o; refusal = n; channel = c; note = note; detuning = d }
@@ -76,7 +76,7 @@ abbrev pub of_nearest : Outcome (ℤ × Float) → Note
 of_nearest (value r) = note_of 0 0 0 r.0 r.1
 of_nearest (refused n) = note_of 4 n 0 (pos 0) zero_float
 
--- the detuning of a group on a channel
+-- The detuning of a group on a channel.
 abbrev pub of_detuning : ℕ → ℤ → Option Float → Note
 of_detuning c group (some d) = note_of 0 0 c group d
 of_detuning c group none = note_of 3 0 0 (pos 0) zero_float
@@ -85,7 +85,7 @@ abbrev pub of_entry : ℕ → Option (ℤ × Float) → Note
 of_entry c (some e) = note_of 0 0 c e.0 e.1
 of_entry c none = note_of 3 0 0 (pos 0) zero_float
 
--- ---- the presses of a pool model
+-- ---- SPEC 12.3: the presses of a pool model
 
 abbrev pub is_stopped : Option ℤ → ℕ
 is_stopped (some note) = 1
@@ -104,7 +104,7 @@ of_registered (value (accepted c s note d)) = registered_of 0 0 c s note d
 of_registered (value rejected) = registered_of 2 0 0 none (pos 0) zero_float
 of_registered (refused n) = registered_of 4 n 0 none (pos 0) zero_float
 
--- ---- values
+-- ---- SPEC 12.3: values
 
 abbrev pub of_pitch : Outcome Float → NotePitch
 of_pitch (value hz) = record { outcome = 0; refusal = 0; hz = hz }

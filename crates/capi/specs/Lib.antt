@@ -1,4 +1,4 @@
--- What the contracts of the entries for C cite.
+-- What the contracts of the functions for C cite, SPEC 12.
 pub mod Answers
 pub mod Message
 pub mod Entry

@@ -1,11 +1,11 @@
--- Messages and the records of numbers that stand for them.
+-- Messages and the records of numbers that stand for them, SPEC 12.2.
 use Rattle.std.specs.Prelude.{cond, eqb, pos}
 use Rattle.senders.specs.declared.midi.ChannelMessageType.{ChannelMessageType}
 use Rattle.senders.specs.declared.midi.ChannelMessageType.TheVariants.{NoteOff, NoteOn, PolyphonicKeyPressure, ControlChange}
 use Rattle.senders.specs.declared.midi.ChannelMessageType.TheVariants.{ProgramChange, ChannelPressure, PitchBendChange}
 use Rattle.capi.specs.declared.message.Message.{Message}
 
--- a kind that names none is read as 0
+-- SPEC 12.2: a kind that names none is read as 0, a note-off.
 abbrev pub message_of : Message → ChannelMessageType
 message_of m =
     cond (eqb m.kind 1) (NoteOn m.first m.second)
@@ -15,7 +15,7 @@ message_of m =
     (cond (eqb m.kind 5) (ChannelPressure m.first)
     (cond (eqb m.kind 6) (PitchBendChange m.bend) (NoteOff m.first m.second))))))
 
--- what a kind has no use for is 0
+-- SPEC 12.3: what a kind has no use for is 0.
 abbrev pub in_numbers : ChannelMessageType → Message
 in_numbers (NoteOff k v) = record { kind = 0; first = k; second = v; bend = pos 0 }
 in_numbers (NoteOn k v) = record { kind = 1; first = k; second = v; bend = pos 0 }

@@ -1,5 +1,5 @@
-// The answers of calls in numbers. Each record begins with what happened and the number of the refusal, which is 0 where nothing is refused; other fields are 0
-// where there is nothing to say. A number for what happened and a flag beside a note stay, since the interface for C needs them.
+// The answers of calls in numbers (SPEC 12.3). Each record begins with what happened and the number of the refusal, which is 0 where nothing is refused; other
+// fields are 0 where there is nothing to say. A number for what happened and a flag beside a note stay, since the interface for C needs them.
 
 ghost use Rattle.std.specs.Prelude.{◌≡◌, pos};
 ghost use Rattle.arithmetic.specs.Answers.{optional, outcome, outcome_by};
@@ -9,7 +9,7 @@ ghost use Rattle.channels.specs.ChannelList.{entries};
 ghost use Rattle.channels.specs.Places.{place};
 ghost use Rattle.plans.specs.Plan.{plan_answer};
 ghost use Rattle.plan_tuner.specs.Aot.{plan_sent};
-ghost use Rattle.pools.specs.PoolAnswers.{press, repitched};
+ghost use Rattle.pools.specs.PoolAnswers.{press_outcome, repitch_outcome};
 ghost use Rattle.senders.specs.Answers.{press_answer};
 ghost use Rattle.capi.specs.Answers.{answer_of, of_sent, of_press, of_list, of_plan, of_plan_sent, of_registered};
 ghost use Rattle.capi.specs.Answers.{note_of, zero_float, of_place, of_detuning, of_entry, of_repitched, of_nearest, of_pitch, of_measure, of_tuning};
@@ -23,7 +23,7 @@ use plan_tuner::aot::PlanSent;
 use plans::aot::Planned;
 use pools::jit::{Registered, Repitched};
 
-// What happened.
+// What happened (SPEC 12.3).
 enum Outcome {
     Done = 0,
     Untuned = 1,
@@ -199,7 +199,7 @@ impl From<Option<Place>> for Note {
 // A repitch of a pool model.
 #[tactic(auto, unfolding(channels::specs::Places::place))]
 impl From<Result<Option<Repitched>, Refusal>> for Note {
-    ghost from_gives = { λ answer note. note ≡ of_repitched (repitched answer) };
+    ghost from_gives = { λ answer note. note ≡ of_repitched (repitch_outcome answer) };
 
     fn from(answer: Result<Option<Repitched>, Refusal>) -> Note {
         match answer {
@@ -276,7 +276,7 @@ impl Note {
 
 // A press from a pool model.
 impl From<Result<Option<Registered>, Refusal>> for RegisteredKey {
-    ghost from_gives = { λ registered key. key ≡ of_registered (press registered) };
+    ghost from_gives = { λ registered key. key ≡ of_registered (press_outcome registered) };
 
     fn from(registered: Result<Option<Registered>, Refusal>) -> RegisteredKey {
         match registered {
@@ -342,7 +342,7 @@ impl From<Result<i64, Refusal>> for Number {
     }
 }
 
-// The steps of a tuning of either kind.
+// The value of a tuning of either kind.
 impl From<Result<Tuning, Refusal>> for Number {
     ghost from_gives = { λ tuning number. number ≡ of_tuning (outcome tuning) };
 

@@ -1,4 +1,4 @@
-// The blocks of the caller's memory (`include/tarvoued.h`). Every content of a block is some tuner, and some model.
+// The blocks of the caller's memory (`include/tarvoued.h`). Every content of a block is some tuner, and some model (SPEC 12.1).
 
 use plan_tuner::aot::AotTuner;
 use senders::jit::JitTuner;

@@ -5,8 +5,8 @@ ghost use Rattle.capi.specs.Message.{in_numbers, message_of};
 
 use senders::midi::ChannelMessageType;
 
-// A message without its channel: its kind, its data bytes and its bend. A kind that names none is read as 0, and what a kind has no use for is 0. The
-// number of its kind stays, since the interface for C needs it.
+// A message without its channel: its kind, its data bytes and its bend. A kind that names none is read as 0 (SPEC 12.2), and what a kind has no use for is 0.
+// The number of its kind stays, since the interface for C needs it.
 #[repr(C)]
 #[derive(Clone, Copy)]
 pub struct Message {

@@ -1,7 +1,7 @@
-// Channel messages: an entry that makes each of the seven kinds, and one that writes them; and the messages that tune a channel.
+// Channel messages: a function that makes each of the seven kinds, and one that writes them; and the messages that tune a channel.
 
 ghost use Rattle.std.specs.Prelude.{◌≡◌};
-ghost use Rattle.channels.specs.TuningValue.{kind_of};
+ghost use Rattle.channels.specs.TuningValue.{tuning_kind_of};
 ghost use Rattle.senders.specs.Midi.{message_rule};
 ghost use Rattle.senders.specs.Mts.{channel_tuning_rule};
 ghost use Rattle.capi.specs.Message.{message_of};
@@ -62,7 +62,7 @@ pub extern "C" fn tarvoued_message_pitch_bend_change(value: i16) -> Message
     Message::from(ChannelMessageType::PitchBendChange { value })
 }
 
-// Writes a message on a MIDI channel. Refuses 6, 8 from left, 9, 10.
+// Writes a message on a MIDI channel. Refuses 6, 8 from the left, 9, 10 (SPEC 8.4).
 #[unsafe(no_mangle)]
 pub extern "C" fn tarvoued_message_write(channel: u8, message: Message, out: &mut [u8]) -> Answer
     ensures { EntryWrites (message_rule channel (message_of message)) out.old result out.new }
@@ -70,7 +70,7 @@ pub extern "C" fn tarvoued_message_write(channel: u8, message: Message, out: &mu
     Answer::from(ChannelMessageType::from(message).to_raw_message(channel, out))
 }
 
-// Writes the tuning of a MIDI channel by a detuning. Refuses 6, 2, 10.
+// Writes the tuning of a MIDI channel by a detuning. Refuses 6, 2, 10 (SPEC 8.5).
 #[unsafe(no_mangle)]
 pub extern "C" fn tarvoued_channel_tuning(
     tuning_kind: u8,
@@ -78,7 +78,7 @@ pub extern "C" fn tarvoued_channel_tuning(
     detuning: f64,
     out: &mut [u8],
 ) -> Answer
-    ensures { EntryWrites (channel_tuning_rule (kind_of tuning_kind) channel detuning) out.old result out.new }
+    ensures { EntryWrites (channel_tuning_rule (tuning_kind_of tuning_kind) channel detuning) out.old result out.new }
 {
     let ratio = Ratio::from_float(detuning);
     Answer::from(senders::mts::channel_tuning(

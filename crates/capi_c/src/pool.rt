@@ -1,12 +1,12 @@
-// The pool tuner and the pool model in a block of the caller's memory. Entries that are the plan's but for the block stay beside those: in C each has a
-// name of its own.
+// The pool tuner and the pool model in a block of the caller's memory. A function that differs from the plan's in its block alone stands here too: in C each
+// has a name of its own.
 
 ghost use Rattle.std.specs.Prelude.{◌≡◌};
-ghost use Rattle.pools.specs.Pool.{open_rule, found, released, replied, register_rule, repitch_rule};
-ghost use Rattle.pools.specs.Block.{state_of, group_of, mode_of, Moves};
-ghost use Rattle.channels.specs.TuningValue.{kind_of};
+ghost use Rattle.pools.specs.Pool.{open_rule, found, released, outcome_and_state, register_rule, repitch_rule};
+ghost use Rattle.pools.specs.View.{view as pool_view, group_by_of, pooling_mode_of, StateMeets};
+ghost use Rattle.channels.specs.TuningValue.{tuning_kind_of};
 ghost use Rattle.channels.specs.declared.tuning_value.TuningKind.TheVariants.{FineTuning};
-ghost use Rattle.senders.specs.Jit.{view, start_rule, Starts, note_on_rule, note_off_rule, note_pitch_rule, note_attr_rule, global_attr_rule, stop_rule};
+ghost use Rattle.senders.specs.Jit.{view, start_rule, StartMeets, note_on_rule, note_off_rule, note_pitch_rule, note_attr_rule, global_attr_rule, stop_rule};
 ghost use Rattle.capi.specs.Answers.{of_sent, of_press, of_list, of_place, of_registered, of_repitched};
 ghost use Rattle.capi.specs.Message.{message_of};
 ghost use Rattle.capi.specs.Entry.{EntryMeets, EntryWrites};
@@ -21,7 +21,7 @@ use pools::jit::{JitTuningModel, PoolGroupBy, PoolingMode};
 use senders::jit::JitTuner;
 use senders::midi::ChannelMessageType;
 
-// A tuner of the channels listed, in which no key is found. Refuses 6, 7.
+// A tuner of the channels listed, in which no key is found. Refuses 6, 7 (SPEC 9.1a).
 #[unsafe(no_mangle)]
 pub extern "C" fn tarvoued_pool_open(
     pool: &mut Pool,
@@ -29,8 +29,9 @@ pub extern "C" fn tarvoued_pool_open(
     tuning_kind: u8,
     pooling_mode: u8,
 ) -> Answer
-    ensures told { result ≡ of_list (start_rule channels.now (kind_of tuning_kind) (mode_of pooling_mode)).0 }
-    ensures started { let rule = start_rule channels.now (kind_of tuning_kind) (mode_of pooling_mode) in Starts rule.0 rule.1 pool.old pool.new }
+    ensures answer { result ≡ of_list (start_rule channels.now (tuning_kind_of tuning_kind) (pooling_mode_of pooling_mode)).0 }
+    ensures started { let rule = start_rule channels.now (tuning_kind_of tuning_kind) (pooling_mode_of pooling_mode) in
+        StartMeets rule.0 rule.1 pool.old pool.new }
 {
     Answer::from(pool.restart(
         channels,
@@ -39,7 +40,7 @@ pub extern "C" fn tarvoued_pool_open(
     ))
 }
 
-// A press. Refuses 8, 1, 11, 10; is rejected where no channel is free.
+// A press. Refuses 8, 1, 11, 10; is rejected where no channel is free (SPEC 9.2).
 #[unsafe(no_mangle)]
 pub extern "C" fn tarvoued_pool_note_on(
     pool: &mut Pool,
@@ -54,7 +55,7 @@ pub extern "C" fn tarvoued_pool_note_on(
     Answer::from(pool.note_on(key, Pitch::from_hz(hz), velocity, out))
 }
 
-// A release. Refuses 8, 10.
+// A release. Refuses 8, 10 (SPEC 9.2a).
 #[unsafe(no_mangle)]
 pub extern "C" fn tarvoued_pool_note_off(
     pool: &mut Pool,
@@ -68,7 +69,7 @@ pub extern "C" fn tarvoued_pool_note_off(
     Answer::from(pool.note_off(key, velocity, out))
 }
 
-// The tuning of the channel of a key that is found, by the pitch. Refuses 1, and 10 where the key is found.
+// The tuning of the channel of a key that is found, by the pitch. Refuses 1, and 10 where the key is found (SPEC 9.2b).
 #[unsafe(no_mangle)]
 pub extern "C" fn tarvoued_pool_note_pitch(pool: &Pool, key: u8, hz: f64, out: &mut [u8]) -> Answer
     ensures { EntryWrites (note_pitch_rule (view pool.now) key hz) out.old result out.new }
@@ -76,7 +77,7 @@ pub extern "C" fn tarvoued_pool_note_pitch(pool: &Pool, key: u8, hz: f64, out: &
     Answer::from(pool.note_pitch(key, Pitch::from_hz(hz), out))
 }
 
-// The pressure of a key that is found. Refuses 8, 10.
+// The pressure of a key that is found. Refuses 8, 10 (SPEC 9.2c).
 #[unsafe(no_mangle)]
 pub extern "C" fn tarvoued_pool_note_attr(
     pool: &Pool,
@@ -89,7 +90,7 @@ pub extern "C" fn tarvoued_pool_note_attr(
     Answer::from(pool.note_attr(key, pressure, out))
 }
 
-// A message to every channel, except bends of a tuner that tunes by bends. Refuses 8 from left, 9, 10.
+// A message to every channel, except bends of a tuner that tunes by bends. Refuses 8 from the left, 9, 10 (SPEC 9.4).
 #[unsafe(no_mangle)]
 pub extern "C" fn tarvoued_pool_global_attr(pool: &Pool, message: Message, out: &mut [u8]) -> Answer
     ensures { EntryWrites (global_attr_rule (view pool.now) (message_of message)) out.old result out.new }
@@ -97,7 +98,7 @@ pub extern "C" fn tarvoued_pool_global_attr(pool: &Pool, message: Message, out: 
     Answer::from(pool.global_attr(ChannelMessageType::from(message), out))
 }
 
-// Every key that is found is released, by rising key. Refuses 10.
+// Every key that is found is released, by rising key. Refuses 10 (SPEC 9.2d).
 #[unsafe(no_mangle)]
 pub extern "C" fn tarvoued_pool_stop(pool: &mut Pool, out: &mut [u8]) -> Answer
     ensures { EntryMeets view of_sent (stop_rule (view pool.old))
@@ -106,7 +107,7 @@ pub extern "C" fn tarvoued_pool_stop(pool: &mut Pool, out: &mut [u8]) -> Answer
     Answer::from(pool.stop(out))
 }
 
-// Where a key is found.
+// Where a key is found (SPEC 9.6).
 #[unsafe(no_mangle)]
 pub extern "C" fn tarvoued_pool_lookup(pool: &Pool, key: u8) -> Note
     ensures { result ≡ of_place (found (view pool.now).pool key) }
@@ -114,7 +115,7 @@ pub extern "C" fn tarvoued_pool_lookup(pool: &Pool, key: u8) -> Note
     Note::from(pool.access_key(key))
 }
 
-// A pool model, which sends nothing, of the channels listed, in which no key is found. Refuses 6, 7.
+// A pool model, which sends nothing, of the channels listed, in which no key is found. Refuses 6, 7 (SPEC 7.1).
 #[tactic(auto, unfolding(pools::specs::Pool::open_rule))]
 #[unsafe(no_mangle)]
 pub extern "C" fn tarvoued_pool_model_open(
@@ -123,9 +124,9 @@ pub extern "C" fn tarvoued_pool_model_open(
     group_by: u8,
     pooling_mode: u8,
 ) -> Answer
-    ensures told { result ≡ of_list (open_rule channels.now (group_of group_by) (mode_of pooling_mode)).0 }
-    ensures started { let rule = open_rule channels.now (group_of group_by) (mode_of pooling_mode) in
-        Starts rule.0 (record { pool = rule.1; kind = FineTuning }) pool.old pool.new }
+    ensures answer { result ≡ of_list (open_rule channels.now (group_by_of group_by) (pooling_mode_of pooling_mode)).0 }
+    ensures started { let rule = open_rule channels.now (group_by_of group_by) (pooling_mode_of pooling_mode) in
+        StartMeets rule.0 (record { pool = rule.1; tuning_kind = FineTuning }) pool.old pool.new }
 {
     let listed = ChannelList::of(channels);
     let answer = Answer::from(listed);
@@ -140,34 +141,34 @@ pub extern "C" fn tarvoued_pool_model_open(
     answer
 }
 
-// A press: the nearest note, on a channel of its pool. Refuses 1, 11; is rejected where no channel is free.
+// A press: the nearest note, on a channel of its pool. Refuses 1, 11; is rejected where no channel is free (SPEC 7.2, 7.3).
 #[unsafe(no_mangle)]
 pub extern "C" fn tarvoued_pool_model_register_key(
     pool: &mut Pool,
     key: u8,
     hz: f64,
 ) -> RegisteredKey
-    ensures told { result ≡ of_registered (replied (state_of pool.old.model) (register_rule (state_of pool.old.model) key hz)).0 }
-    ensures moved { Moves (register_rule (state_of pool.old.model) key hz) pool.old.model pool.new.model }
-    ensures kept { pool.new.kind ≡ pool.old.kind }
+    ensures answer { result ≡ of_registered (outcome_and_state (pool_view pool.old.model) (register_rule (pool_view pool.old.model) key hz)).0 }
+    ensures state { StateMeets (register_rule (pool_view pool.old.model) key hz) pool.old.model pool.new.model }
+    ensures kept { pool.new.tuning_kind ≡ pool.old.tuning_kind }
 {
     RegisteredKey::from(pool.model.register_key(key, Pitch::from_hz(hz)))
 }
 
-// A release: where the key was found.
+// A release: where the key was found (SPEC 7.4).
 #[unsafe(no_mangle)]
 pub extern "C" fn tarvoued_pool_model_deregister_key(pool: &mut Pool, key: u8) -> Note
-    ensures told { result ≡ of_place (found (state_of pool.old.model) key) }
-    ensures moved { state_of pool.new.model ≡ released (state_of pool.old.model) key }
-    ensures kept { pool.new.kind ≡ pool.old.kind }
+    ensures answer { result ≡ of_place (found (pool_view pool.old.model) key) }
+    ensures state { pool_view pool.new.model ≡ released (pool_view pool.old.model) key }
+    ensures kept { pool.new.tuning_kind ≡ pool.old.tuning_kind }
 {
     Note::from(pool.model.deregister_key(key))
 }
 
-// The detuning of a pitch for the note of a key that is found. Refuses 1.
+// The detuning of a pitch for the note of a key that is found. Refuses 1 (SPEC 7.5).
 #[unsafe(no_mangle)]
 pub extern "C" fn tarvoued_pool_model_repitch_key(pool: &Pool, key: u8, hz: f64) -> Note
-    ensures { result ≡ of_repitched (repitch_rule (state_of pool.now.model) key hz) }
+    ensures { result ≡ of_repitched (repitch_rule (pool_view pool.now.model) key hz) }
 {
     Note::from(pool.model.repitch_key(key, Pitch::from_hz(hz)))
 }

@@ -1,6 +1,6 @@
--- Values in which a detuning is sent: what is clamped lies in its range, and what the code computes on the way fits its type. Assumes nothing.
-use mathlib.Core.Path.{◌≡◌, refl, sym, subst}
-use mathlib.Core.Bool.{Bool, true, false}
+-- Values in which a detuning is sent: what is clamped lies in its range, and what the code computes on the way fits its type.
+use mathlib.Core.Path.{◌≡◌, sym, subst}
+use mathlib.Core.Bool.{true}
 use Prim.Native.Nat.{ℕ, ◌^◌, ◌<◌}
 use native.Mathlib.Omega.{arith}
 use lib.Dec.{T}
@@ -12,15 +12,16 @@ use mir.Syntax.{w16, w64}
 use mir.Val.{SFits}
 use Rattle.std.specs.Int.{int_max, int_min}
 use Rattle.std.proofs.lemmas.Int.{ints}
-use Rattle.arithmetic.specs.Outcome.{value, refused, refuse◌unless◌then◌}
+use Rattle.arithmetic.specs.Outcome.{value, refused}
 use Rattle.arithmetic.specs.Refusal.{not_measurable}
 use Rattle.arithmetic.specs.Division.{quotient}
 use Rattle.arithmetic.specs.Measure.{measure, measure_rule}
-use Rattle.arithmetic.proofs.Range.{measure_range}
+use Rattle.arithmetic.proofs.Measure.Range.{measure_range}
 use Rattle.channels.specs.declared.tuning_value.TuningKind.{TuningKind}
 use Rattle.channels.specs.declared.tuning_value.TuningKind.TheVariants.{FineTuning, Bend}
 use Rattle.channels.specs.declared.tuning_value.Tuning.{Tuning}
 use Rattle.channels.specs.TuningValue.{clamp, fine_step, fine_value, bend_step, bend_value, tuning_of, sent_as, tuning_rule, InSteps}
+use Rattle.arithmetic.proofs.Rules.Outcomes.{passed_of_value, refused_at}
 
 -- ---- clamped
 
@@ -87,29 +88,21 @@ bend_small l =
 -- the measure was refused, so the value is
 pub none_measured : (kind : TuningKind) (v : Float) (n : ℕ) → refused n ≡ measure_rule v → refused n ≡ tuning_rule kind v
 unfolding measure_rule tuning_rule sent_as
-none_measured kind v n h = go (positive v) h
-  where
-    go : (b : Bool) → refused n ≡ (refuse not_measurable unless b then value (measure v)) → refused n ≡ (refuse not_measurable unless b then value (tuning_of kind (measure v)))
-    go true e = absurd (cc)
-    go false e = (cc)
+none_measured kind v n h = refused_at not_measurable (positive v) (measure v) h (value (tuning_of kind (measure v)))
 
 -- the measure is l
-pub record Known (v : Float) (l : ℤ) : Type 0 where
+pub record Measured (v : Float) (l : ℤ) : Type 0 where
   pub above : positive v ≡ true
   pub is : l ≡ measure v
 
-pub known : (v : Float) (l : ℤ) → value l ≡ measure_rule v → Known v l
+pub measured : (v : Float) (l : ℤ) → value l ≡ measure_rule v → Measured v l
 unfolding measure_rule
-known v l h = go (positive v) refl h
-  where
-    go : (b : Bool) → positive v ≡ b → value l ≡ (refuse not_measurable unless b then value (measure v)) → Known v l
-    go true p e = record { above = p; is = (cc) }
-    go false p e = absurd (cc)
+measured v l h = let p = passed_of_value not_measurable (positive v) (measure v) h in record { above = p.0; is = p.1 }
 
-pub measured_small : (v : Float) (l : ℤ) → T (fits binary64 v) → Known v l → mag l < 2 ^ 40
+pub measured_small : (v : Float) (l : ℤ) → T (fits binary64 v) → Measured v l → mag l < 2 ^ 40
 measured_small v l f k = rw k.is (measure_range v f (subst T (sym k.above) tt))
 
-pub measured_value : (kind : TuningKind) (v : Float) (l : ℤ) → Known v l → value (tuning_of kind l) ≡ tuning_rule kind v
+pub measured_value : (kind : TuningKind) (v : Float) (l : ℤ) → Measured v l → value (tuning_of kind l) ≡ tuning_rule kind v
 unfolding tuning_rule sent_as
 measured_value kind v l k = rw (k.above, k.is)
 
@@ -125,8 +118,4 @@ sent_in_steps kind v = in_steps kind (measure v)
 -- what is sent is in range
 pub value_in_steps : (kind : TuningKind) (v : Float) {t : Tuning} → tuning_rule kind v ≡ value t → InSteps t
 unfolding tuning_rule
-value_in_steps kind v {t} e = go (positive v) e
-  where
-    go : (b : Bool) → (refuse not_measurable unless b then value (sent_as kind v)) ≡ value t → InSteps t
-    go true h = let same : sent_as kind v ≡ t = cc in subst InSteps same (sent_in_steps kind v)
-    go false h = absurd (cc)
+value_in_steps kind v e = subst InSteps (sym (passed_of_value not_measurable (positive v) (sent_as kind v) (sym e)).1) (sent_in_steps kind v)

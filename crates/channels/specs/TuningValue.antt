@@ -1,4 +1,4 @@
--- The values in which a detuning v is sent, from its measure L. Assumes nothing.
+-- The values in which a detuning v is sent, from its measure L: SPEC 5.
 use Rattle.std.specs.Prelude.{ℕ, ◌<◌, ◌≡◌, true, cond, ◌&&◌, eqb, ℤ, pos, negsuc, nat_abs, ◌+ℤ◌, ◌*ℤ◌, Float}
 use Rattle.std.specs.Int.Signed.{lt_z, le_z, quot_z}
 use Rattle.std.specs.Float.Ieee.Positive.{positive}
@@ -11,25 +11,25 @@ use Rattle.channels.specs.declared.tuning_value.TuningKind.TheVariants.{FineTuni
 use Rattle.channels.specs.declared.tuning_value.Tuning.{Tuning}
 use Rattle.channels.specs.declared.tuning_value.Tuning.TheVariants.{Fine, Bend as Bent}
 
--- ---- the tuning kind as a number: 0 fine tuning, 1 bends; a number that names none is read as 0
+-- ---- SPEC 12.2: the tuning kind as a number, 0 fine tuning, 1 bends; a number that names none is read as 0
 
-unfoldable pub kind_of : ℕ → TuningKind
-kind_of n = cond (eqb n 1) Bend FineTuning
+unfoldable pub tuning_kind_of : ℕ → TuningKind
+tuning_kind_of n = cond (eqb n 1) Bend FineTuning
 
--- ---- the values
+-- ---- SPEC 5.1, 5.2: the values
 
--- z, or the nearer end where it is not from lo to hi
+-- The number z, or the nearer end where it is not from lo to hi.
 unfoldable pub clamp : ℤ → ℤ → ℤ → ℤ
 clamp lo hi z = cond (lt_z z lo) lo (cond (lt_z hi z) hi z)
 
--- The fine value: 8192 + 3L/512 rounded down, clamped to 0..16383.
+-- SPEC 5.1: the fine value is 8192 + 3L / 512 rounded down, kept within 0 to 16383.
 unfoldable pub fine_step : ℤ → ℤ
 fine_step l = pos 8192 +ℤ quotient (l *ℤ pos 3) 512
 
 unfoldable pub fine_value : ℤ → ℕ
 fine_value l = nat_abs (clamp (pos 0) (pos 16383) (fine_step l))
 
--- The bend value: 3L/1024 cut toward zero, clamped to -8192..8191.
+-- SPEC 5.2: the bend value is 3L / 1024 truncated, kept within -8192 to 8191.
 unfoldable pub bend_step : ℤ → ℤ
 bend_step l = quot_z (l *ℤ pos 3) (pos 1024)
 
@@ -40,15 +40,15 @@ unfoldable pub tuning_of : TuningKind → ℤ → Tuning
 tuning_of FineTuning l = Fine (fine_value l)
 tuning_of Bend l = Bent (bend_value l)
 
--- the tuning in which a detuning is sent
+-- SPEC 5.4: the tuning in which a detuning is sent.
 unfoldable pub sent_as : TuningKind → Float → Tuning
 sent_as kind v = tuning_of kind (measure v)
 
--- the rule of the call: refusal 2 for a detuning that is not positive and finite
+-- SPEC 5.3: a detuning that is not positive and finite is refused (2).
 unfoldable pub tuning_rule : TuningKind → Float → Outcome Tuning
 tuning_rule kind v = refuse not_measurable unless positive v then value (sent_as kind v)
 
--- the range of a kind's values
+-- SPEC 5.1, 5.2: the range of a kind's values.
 abbrev pub InSteps : Tuning → Type 0
 InSteps (Fine n) = n < 16384
 InSteps (Bent b) = (le_z (negsuc 8191) b && le_z b (pos 8191)) ≡ true

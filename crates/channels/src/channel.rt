@@ -1,4 +1,4 @@
-// MIDI channels: 0 to 15.
+// MIDI channels: 0 to 15 (SPEC 1.6).
 
 ghost use Rattle.std.specs.Prelude.{◌≡◌, ◌<◌};
 ghost use Rattle.arithmetic.specs.Answers.{outcome_by};
@@ -18,7 +18,7 @@ pub struct Channel {
 }
 
 impl Channel {
-    // The channel that any number is read as: its remainder by 16.
+    // The channel that any number is read as: its remainder by 16 (SPEC 12.1).
     pub fn by_remainder(number: u8) -> Channel
         ensures { result.number ≡ channel_of number }
     {
@@ -37,7 +37,7 @@ impl Channel {
 impl TryFrom<u8> for Channel {
     type Error = Refusal;
 
-    // The channel of a number. Refuses 6 a number over 15.
+    // The channel of a number. Refuses 6 a number over 15 (SPEC 1.6).
     ghost try_from_gives = { λ number r. outcome_by (λ c. c.number) r ≡ channel_rule number };
 
     fn try_from(number: u8) -> Result<Channel, Refusal> {

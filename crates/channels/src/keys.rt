@@ -2,11 +2,11 @@
 // Models keep records, since they lie in the memory of programs in C; any number there is read as some record, so that a type for one would be no plainer.
 
 ghost use Rattle.std.specs.Prelude.{◌≡◌};
-ghost use Rattle.channels.specs.Places.{is_held, note_of, place_of, cell_of, place};
+ghost use Rattle.channels.specs.Places.{is_held, note_of, place_of, record_of, place};
 
 use arithmetic::note::{Note, is_note};
 
-// The number of keys, as `key_count` of specs/.
+// The number of keys, as `key_count` of specs/ (SPEC 1.1).
 pub const KEYS: usize = 256;
 
 // Where a key is found.
@@ -17,9 +17,9 @@ pub struct Place {
 }
 
 impl Place {
-    // The record of the key that is found there. The channel is read by its remainder by 16.
+    // The record of the key that is found there. The channel is read by its remainder by 16 (SPEC 12.1).
     pub fn record(self) -> u16
-        ensures { result ≡ cell_of self.note.number self.channel }
+        ensures { result ≡ record_of self.note.number self.channel }
     {
         (self.note.number() + 301) as u16 + 1024 * (self.channel % 16) as u16
     }
@@ -33,24 +33,24 @@ pub struct HeldKey {
 }
 
 // Where the key of a record is found.
-pub fn place_of(cell: u16) -> Option<Place>
-    ensures { place result ≡ place_of cell }
+pub fn place_of(raw: u16) -> Option<Place>
+    ensures { place result ≡ place_of raw }
 {
-    let note = Note::try_from(note_of(cell)).ok()?;
-    let channel = (cell / 1024 % 16) as u8;
+    let note = Note::try_from(note_of(raw)).ok()?;
+    let channel = (raw / 1024 % 16) as u8;
     Some(Place { channel, note })
 }
 
 // Whether the key of a record is found.
-pub fn is_found(cell: u16) -> bool
-    ensures { result ≡ is_held (place_of cell) }
+pub fn is_found(raw: u16) -> bool
+    ensures { result ≡ is_held (place_of raw) }
 {
-    is_note(note_of(cell))
+    is_note(note_of(raw))
 }
 
 // The record of a key that sounds a note on a channel, which is read by its remainder by 16; 0 for a number that is no note.
 pub fn record_of(note: i32, channel: u8) -> u16
-    ensures { result ≡ cell_of note channel }
+    ensures { result ≡ record_of note channel }
 {
     let Ok(note) = Note::try_from(note) else {
         return 0;
@@ -59,8 +59,8 @@ pub fn record_of(note: i32, channel: u8) -> u16
 }
 
 // The note of a record, a number below all notes for 0.
-pub fn note_of(cell: u16) -> i32
-    ensures { result ≡ note_of cell }
+pub fn note_of(raw: u16) -> i32
+    ensures { result ≡ note_of raw }
 {
-    (cell % 1024) as i32 - 301
+    (raw % 1024) as i32 - 301
 }

@@ -1,4 +1,4 @@
-// The list of MIDI channels that a tuner or a model is opened with. Channel i of a plan or a pool is entry i.
+// The list of MIDI channels that a tuner or a model is opened with. Channel i of a plan or a pool is entry i (SPEC 1.6a).
 
 ghost use Rattle.std.specs.Prelude.{◌≡◌, ◌==◌, [], length};
 ghost use Rattle.std.proofs.Math.ListN.{get_elem?};
@@ -32,7 +32,7 @@ impl ChannelList {
         }
     }
 
-    // The list of these entries. Refuses, entry by entry, 6 a channel over 15 and 7 one that came before.
+    // The list of these entries. Refuses, entry by entry, 6 a channel over 15 and 7 one that came before (SPEC 1.6).
     // Example: ChannelList::of([0, 1, 0]) is refused (7)
     pub fn of(channels: &[u8]) -> Result<ChannelList, Refusal>
         ensures { outcome_by entries result ≡ list_rule channels.now }
@@ -40,7 +40,7 @@ impl ChannelList {
         let mut list = ChannelList::none();
         for &number in channels {
             let channel = Channel::try_from(number)?;
-            if list.has(channel) {
+            if list.is_member(channel) {
                 return Err(Refusal::ChannelTwice);
             }
             list.channels[list.count as usize] = channel.number();
@@ -63,7 +63,7 @@ impl ChannelList {
         self.len() == 0
     }
 
-    // The MIDI channel of channel i.
+    // The MIDI channel of channel i (SPEC 1.6a).
     pub fn entry(self, i: u8) -> Option<Channel>
         ensures { entry_number result ≡ get_elem? (entries self) i }
     {
@@ -74,7 +74,7 @@ impl ChannelList {
     }
 
     // Whether a channel is an entry.
-    fn has(self, channel: Channel) -> bool
+    fn is_member(self, channel: Channel) -> bool
         ensures { result ≡ member channel.number (entries self) }
     {
         let entries = &self.channels[..self.len() as usize];

@@ -1,24 +1,24 @@
-// The values in which a detuning is sent: fine tuning and bend.
+// The values in which a detuning is sent: fine tuning and bend (SPEC 5).
 
 ghost use Rattle.std.specs.Prelude.{◌≡◌, ◌^◌, ◌<◌, pos, ◌≤ℤ◌};
 ghost use Rattle.std.specs.Int.Signed.{mag};
 ghost use Rattle.channels.specs.declared.tuning_value.TuningKind.TheVariants.{FineTuning, Bend};
-ghost use Rattle.channels.specs.TuningValue.{fine_value, bend_value, tuning_rule, kind_of};
+ghost use Rattle.channels.specs.TuningValue.{fine_value, bend_value, tuning_rule, tuning_kind_of};
 ghost use Rattle.arithmetic.specs.Answers.{outcome, outcome_by};
 
 use arithmetic::pitch::Ratio;
 use arithmetic::refusal::Refusal;
 
-// How a sender tunes a channel.
+// How a tuner tunes a channel (SPEC 5.4).
 #[derive(Clone, Copy, Debug, PartialEq, Eq)]
 pub enum TuningKind {
     FineTuning = 0,
     Bend = 1,
 }
 
-// A number that names none is read as 0.
+// A number that names none is read as 0 (SPEC 12.2).
 impl From<u16> for TuningKind {
-    ghost from_gives = { λ number kind. kind ≡ kind_of number };
+    ghost from_gives = { λ number tuning_kind. tuning_kind ≡ tuning_kind_of number };
 
     fn from(number: u16) -> TuningKind {
         match number {
@@ -29,10 +29,10 @@ impl From<u16> for TuningKind {
 }
 
 impl From<TuningKind> for u16 {
-    ghost from_gives = { λ kind number. kind_of number ≡ kind };
+    ghost from_gives = { λ tuning_kind number. tuning_kind_of number ≡ tuning_kind };
 
-    fn from(kind: TuningKind) -> u16 {
-        kind as u16
+    fn from(tuning_kind: TuningKind) -> u16 {
+        tuning_kind as u16
     }
 }
 
@@ -52,20 +52,20 @@ pub struct Tunings {
     pub bend: Tuning,
 }
 
-// The tuning in which a detuning is sent. Refuses 2.
+// The tuning in which a detuning is sent. Refuses 2 (SPEC 5.3).
 // Example: tuning_of(FineTuning, 33/32) is fine value 12556
 // Example: tuning_of(Bend, 33/32) is bend 2182
-pub fn tuning_of(kind: TuningKind, detuning: Ratio) -> Result<Tuning, Refusal>
-    ensures { outcome result ≡ tuning_rule kind detuning.float_value }
+pub fn tuning_of(tuning_kind: TuningKind, detuning: Ratio) -> Result<Tuning, Refusal>
+    ensures { outcome result ≡ tuning_rule tuning_kind detuning.float_value }
 {
     let tunings = tunings_of(detuning)?;
-    Ok(match kind {
+    Ok(match tuning_kind {
         TuningKind::FineTuning => tunings.fine,
         TuningKind::Bend => tunings.bend,
     })
 }
 
-// Those of both kinds, from one measure. Refuses 2.
+// Those of both kinds, from one measure. Refuses 2 (SPEC 5.3).
 pub fn tunings_of(detuning: Ratio) -> Result<Tunings, Refusal>
     ensures fine { outcome_by (λ t. t.fine) result ≡ tuning_rule FineTuning detuning.float_value }
     ensures bend { outcome_by (λ t. t.bend) result ≡ tuning_rule Bend detuning.float_value }
@@ -77,7 +77,7 @@ pub fn tunings_of(detuning: Ratio) -> Result<Tunings, Refusal>
     })
 }
 
-// 8192 + 3L/512 rounded down, clamped to 0..16383. The shift rounds down.
+// 8192 + 3L / 512 rounded down, kept within 0 to 16383 (SPEC 5.1). The shift rounds down.
 fn fine_value(l: i64) -> u16
     requires { mag l < 2 ^ 40 }
     ensures { result ≡ fine_value l }
@@ -85,7 +85,7 @@ fn fine_value(l: i64) -> u16
     (8192 + ((l * 3) >> 9)).clamp(0, 16383) as u16
 }
 
-// 3L/1024 cut toward zero, clamped to -8192..8191.
+// 3L / 1024 truncated, kept within -8192 to 8191 (SPEC 5.2).
 fn bend_value(l: i64) -> i16
     requires { mag l < 2 ^ 40 }
     ensures { result ≡ bend_value l }

@@ -6,6 +6,7 @@ use channels::list::ChannelList;
 use channels::tuning_value::{TuningKind, tuning_of};
 use printing::answers::{Hertz, Listed, Nearest, Value};
 use printing::decimal::Decimal;
+use printing::decimal::Form::CutOff;
 use std::io;
 use std::io::Write;
 
@@ -44,15 +45,19 @@ fn ratios(out: &mut impl Write) -> io::Result<()> {
 
 fn tuning(out: &mut impl Write) -> io::Result<()> {
     let pitch = Pitch::from_hz(455.0);
-    let nearest = find_by_pitch(pitch).map(Nearest);
-    answered(out, "pitch_of(60)", pitch_of(60).map(Hertz))?;
+    let nearest = find_by_pitch(pitch).map(|nearest| Nearest(nearest, CutOff));
+    answered(
+        out,
+        "pitch_of(60)",
+        pitch_of(60).map(|hz| Hertz(hz, CutOff)),
+    )?;
     answered(
         out,
         "detuning(455 Hz, 69)",
         detuning(pitch, 69).map(Decimal),
     )?;
     answered(out, "find_by_pitch(455 Hz)", nearest)?;
-    let nearest = find_by_pitch(Pitch::from_hz(0.0)).map(Nearest);
+    let nearest = find_by_pitch(Pitch::from_hz(0.0)).map(|nearest| Nearest(nearest, CutOff));
     answered(out, "find_by_pitch(0 Hz)", nearest)
 }
 

@@ -4,6 +4,7 @@ use plans::aot::{AotTuningModel, GroupBy};
 use plans::lists::{NoteLists, PitchLists, TuningLists};
 use printing::answers::{At, Entry, Listed, Or, Plan};
 use printing::decimal::Decimal;
+use printing::decimal::Form::CutOff;
 use std::io;
 use std::io::Write;
 
@@ -88,12 +89,12 @@ fn lookups(out: &mut impl Write) -> io::Result<()> {
     example(
         out,
         "open([0, 1], Channel); set_tuning([1, 2], [69, 69], [1, 33/32]); access_key(2)",
-        Or(model.access_key(2).map(At), "not found"),
+        Or(model.access_key(2).map(At::from), "not found"),
     )?;
     example(
         out,
         "open([0, 1], Channel); set_tuning([1, 2], [69, 69], [1, 33/32]); access_key(3)",
-        Or(model.access_key(3).map(At), "not found"),
+        Or(model.access_key(3).map(At::from), "not found"),
     )
 }
 
@@ -107,6 +108,11 @@ fn entries(out: &mut impl Write) -> io::Result<()> {
     example(
         out,
         "open([0, 1], Channel); set_tuning([1, 2], [69, 69], [1, 33/32]); next_detuning(1, -300)",
-        Or(model.next_detuning(1, -300).map(Entry), "no entry"),
+        Or(
+            model
+                .next_detuning(1, -300)
+                .map(|entry| Entry(entry, CutOff)),
+            "no entry",
+        ),
     )
 }

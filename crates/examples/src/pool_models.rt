@@ -3,6 +3,7 @@ use crate::{answered, example};
 use arithmetic::pitch::Pitch;
 use pools::jit::{JitTuningModel, PoolGroupBy, PoolingMode};
 use printing::answers::{At, Held, Listed, Or, Pressed, Retuned};
+use printing::decimal::Form::CutOff;
 use std::io;
 use std::io::Write;
 
@@ -34,7 +35,7 @@ fn press(
     hz: f64,
 ) -> io::Result<()> {
     let (_, answer) = model.pressed(key, Pitch::from_hz(hz));
-    let press = answer.map(|press| Or(press.map(Pressed), "rejected"));
+    let press = answer.map(|press| Or(press.map(|press| Pressed(press, CutOff)), "rejected"));
     answered(out, question, press)
 }
 
@@ -86,7 +87,7 @@ fn lookups(out: &mut impl Write) -> io::Result<()> {
     example(
         out,
         "open([0], Channel, Stop); register_key(1, 440 Hz); access_key(1)",
-        Or(model.access_key(1).map(At), "not found"),
+        Or(model.access_key(1).map(At::from), "not found"),
     )?;
     example(
         out,
@@ -97,7 +98,7 @@ fn lookups(out: &mut impl Write) -> io::Result<()> {
     example(
         out,
         "open([0], Channel, Stop); register_key(1, 440 Hz); stop(); access_key(1)",
-        Or(model.access_key(1).map(At), "not found"),
+        Or(model.access_key(1).map(At::from), "not found"),
     )
 }
 
@@ -106,7 +107,7 @@ fn releases(out: &mut impl Write) -> io::Result<()> {
     example(
         out,
         "open([0], Channel, Stop); register_key(1, 440 Hz); deregister_key(1)",
-        Or(model.deregister_key(1).map(At), "not found"),
+        Or(model.deregister_key(1).map(At::from), "not found"),
     )
 }
 
@@ -114,7 +115,10 @@ fn repitch(out: &mut impl Write) -> io::Result<()> {
     let model = held(PoolingMode::Stop);
     let repitched = model
         .repitch_key(1, Pitch::from_hz(445.0))
-        .map(|repitched| Or(repitched.map(Retuned), "not found"));
+        .map(|repitched| Or(
+            repitched.map(|repitched| Retuned(repitched, CutOff)),
+            "not found",
+        ));
     answered(
         out,
         "open([0], Channel, Stop); register_key(1, 440 Hz); repitch_key(1, 445 Hz)",
@@ -125,9 +129,10 @@ fn repitch(out: &mut impl Write) -> io::Result<()> {
 // What a press would answer, and what it answers.
 fn of_two_channels(out: &mut impl Write) -> io::Result<()> {
     let model = of(&[0, 1], PoolingMode::Stop);
-    let would = model
-        .allocate_key(1, Pitch::from_hz(445.0))
-        .map(|press| Or(press.map(Pressed), "rejected"));
+    let would = model.allocate_key(1, Pitch::from_hz(445.0)).map(|press| Or(
+        press.map(|press| Pressed(press, CutOff)),
+        "rejected",
+    ));
     answered(
         out,
         "open([0, 1], Channel, Stop); allocate_key(1, 445 Hz)",

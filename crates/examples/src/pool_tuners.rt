@@ -1,9 +1,11 @@
 // The pool tuner, SPEC 9.2 and 9.4.
 use crate::{ROOM, answered, sent};
 use arithmetic::pitch::Pitch;
+use arithmetic::refusal::Refusal;
 use channels::tuning_value::TuningKind;
 use pools::jit::PoolingMode;
 use printing::answers::{Listed, Or};
+use senders::event::{Event, EventKind};
 use senders::jit::JitTuner;
 use senders::midi::ChannelMessageType;
 use std::io;
@@ -18,6 +20,7 @@ pub fn all(out: &mut impl Write) -> io::Result<()> {
     )?;
     note_off(out)?;
     note_pitch(out)?;
+    play(out)?;
     global_attr(out)?;
     stop(out)?;
     note_on(
@@ -52,8 +55,18 @@ fn start(out: &mut impl Write) -> io::Result<()> {
 fn note_on(out: &mut impl Write, question: &str, hz: f64) -> io::Result<()> {
     let mut buffer = [0u8; ROOM];
     let answer = by_bends().note_on(1, Pitch::from_hz(hz), 100, &mut buffer);
+    pressed(out, question, answer, &buffer)
+}
+
+// What a press answered, and wrote to the buffer.
+fn pressed(
+    out: &mut impl Write,
+    question: &str,
+    answer: Result<Option<usize>, Refusal>,
+    buffer: &[u8],
+) -> io::Result<()> {
     let press = answer.map(|count| {
-        let sent = count.map(|count| sent(&buffer, count));
+        let sent = count.map(|count| sent(buffer, count));
         Or(sent, "rejected")
     });
     answered(out, question, press)
@@ -76,6 +89,23 @@ fn note_pitch(out: &mut impl Write) -> io::Result<()> {
         out,
         "JitTuner::start([0, 1], Bend, Stop); note_on(1, 440 Hz, 100); note_pitch(1, 445 Hz)",
         answer.map(|count| sent(&buffer, count)),
+    )
+}
+
+fn play(out: &mut impl Write) -> io::Result<()> {
+    let mut buffer = [0u8; ROOM];
+    let event = Event {
+        kind: EventKind::Press,
+        key: 1,
+        pitch: Pitch::from_hz(445.0),
+        velocity: 100,
+    };
+    let answer = by_bends().play(event, &mut buffer);
+    pressed(
+        out,
+        "JitTuner::start([0, 1], Bend, Stop); play(Event { kind: Press, key: 1, pitch: 445 Hz, velocity: 100 })",
+        answer,
+        &buffer,
     )
 }
 

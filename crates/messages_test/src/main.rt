@@ -1,11 +1,11 @@
-// Writes messages of every kind at their limits, and every refusal: a line for each call, with how many bytes it wrote, or R and the refusal's
-// number, and then the whole buffer, whose bytes were aa before.
+// Writes messages of every kind at their limits, and every refusal, below the rule of docs/SPEC.md that is tried: a line for each call, with the message, its
+// channel, how many bytes of a buffer of four are lent, how many were written or the refusal, and then the whole buffer, whose bytes were aa before.
 #![tactic(auto)]
 
 ghost use Rattle.std.specs.Prelude.{◌≤◌};
 
+use printing::answers::{Answer, Hex, Refused, Written};
 use senders::midi::ChannelMessageType;
-use show::{Answer, Code, Hex};
 use std::io;
 use std::io::{BufWriter, Write};
 
@@ -53,6 +53,14 @@ fn bend(value: i16) -> ChannelMessageType {
 }
 
 fn notes(out: &mut impl Write) -> io::Result<()> {
+    writeln!(
+        out,
+        "-- SPEC 1.9: a message is written to the start of the bytes that are lent, here the first ones (room) of a buffer of four bytes aa"
+    )?;
+    writeln!(
+        out,
+        "-- SPEC 8.1: kinds 8, 9 and A, note-off, note-on and polyphonic key pressure"
+    )?;
     sent(out, note_off(0, 0), 0, ROOM)?;
     sent(out, note_off(127, 127), 15, ROOM)?;
     sent(out, note_on(0, 0), 0, ROOM)?;
@@ -63,6 +71,10 @@ fn notes(out: &mut impl Write) -> io::Result<()> {
 }
 
 fn controls(out: &mut impl Write) -> io::Result<()> {
+    writeln!(
+        out,
+        "-- SPEC 8.1: kinds B, C and D, control change, program change and channel pressure; C and D end in 00"
+    )?;
     sent(out, control(0, 0), 0, ROOM)?;
     sent(out, control(127, 127), 15, ROOM)?;
     sent(out, program(0), 0, ROOM)?;
@@ -72,6 +84,10 @@ fn controls(out: &mut impl Write) -> io::Result<()> {
 }
 
 fn bends(out: &mut impl Write) -> io::Result<()> {
+    writeln!(
+        out,
+        "-- SPEC 8.2: kind E, a bend b has the data bytes b mod 128 and b / 128 rounded down, plus 64"
+    )?;
     sent(out, bend(-8192), 0, ROOM)?;
     sent(out, bend(-2251), 0, ROOM)?;
     sent(out, bend(-129), 1, ROOM)?;
@@ -85,15 +101,21 @@ fn bends(out: &mut impl Write) -> io::Result<()> {
     sent(out, bend(8191), 0, ROOM)
 }
 
-// 6, before all else.
 fn wrong_channels(out: &mut impl Write) -> io::Result<()> {
+    writeln!(
+        out,
+        "-- SPEC 2.2: a channel over 15 is refused (6) before all else"
+    )?;
     sent(out, note_on(69, 100), 16, ROOM)?;
     sent(out, note_on(128, 128), 255, ROOM)?;
     sent(out, bend(8192), 16, 0)
 }
 
-// 8, in either data byte, before 10.
 fn wrong_data(out: &mut impl Write) -> io::Result<()> {
+    writeln!(
+        out,
+        "-- SPEC 2.2: a data byte over 127 is refused (8) before (10)"
+    )?;
     sent(out, note_off(128, 0), 0, ROOM)?;
     sent(out, note_off(0, 128), 0, ROOM)?;
     sent(out, note_on(255, 255), 15, 0)?;
@@ -105,16 +127,22 @@ fn wrong_data(out: &mut impl Write) -> io::Result<()> {
     sent(out, pressure(255), 0, ROOM)
 }
 
-// 9, before 10.
 fn wrong_bends(out: &mut impl Write) -> io::Result<()> {
+    writeln!(
+        out,
+        "-- SPEC 2.2: a bend outside -8192 to 8191 is refused (9) before (10)"
+    )?;
     sent(out, bend(-8193), 0, ROOM)?;
     sent(out, bend(8192), 0, ROOM)?;
     sent(out, bend(-32768), 0, ROOM)?;
     sent(out, bend(32767), 15, 0)
 }
 
-// 10, up to the byte that is missing.
 fn short_buffers(out: &mut impl Write) -> io::Result<()> {
+    writeln!(
+        out,
+        "-- SPEC 2.2, 1.9: a buffer shorter than the message is refused (10), and keeps its content"
+    )?;
     sent(out, note_on(69, 100), 0, 0)?;
     sent(out, note_on(69, 100), 0, 2)?;
     sent(out, note_on(69, 100), 0, 3)?;
@@ -135,5 +163,10 @@ fn sent(
 {
     let mut buffer = [0xaau8; ROOM];
     let answer = message.to_raw_message(channel, &mut buffer[..room]);
-    writeln!(out, "{} {}", Answer(answer.map_err(Code)), Hex(&buffer))
+    let written = Answer(answer.map(Written).map_err(Refused));
+    writeln!(
+        out,
+        "{message:?} on channel {channel}, room {room}: {written}, buffer {}",
+        Hex(&buffer)
+    )
 }

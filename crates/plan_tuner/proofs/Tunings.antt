@@ -1,4 +1,5 @@
--- The tunings of a plan, channel after channel: their bytes as a loop writes them. Assumes nothing.
+-- The tunings of a plan, channel after channel: their bytes as a loop writes them.
+use Rattle.std.specs.Prelude.{flat_map}
 use mathlib.Core.Path.{◌≡◌, refl, sym, ap, ◌∙◌}
 use mathlib.Core.Bool.{Bool, true, false}
 use mathlib.Core.Option.{Option, some, none}
@@ -19,37 +20,37 @@ use Rattle.channels.specs.declared.tuning_value.TuningKind.{TuningKind}
 use Rattle.senders.specs.Message.{Message}
 use Rattle.senders.specs.Midi.{bytes_of}
 use Rattle.senders.specs.Mts.{tuning_messages}
-use Rattle.senders.specs.Tuner.{each, on_entry}
+use Rattle.senders.specs.Tuner.{on_entry}
 use Rattle.plan_tuner.specs.Aot.{channel_messages}
 use Rattle.channels.proofs.ChannelLists.{entries_few, entry_past}
-use Rattle.senders.proofs.Each.{each_append}
-use Rattle.senders.proofs.Messages.{bytes_append}
-use Rattle.senders.proofs.Sizes.{tuning_short}
+use Rattle.std.proofs.lemmas.Grind.{flat_map-append}
+use Rattle.senders.proofs.Bytes.Messages.{bytes_append}
+use Rattle.senders.proofs.Bytes.Sizes.{tuning_short}
 
 -- one number more
-pub upward_more : (a n : ℕ) → upward a (suc n) ≡ upward a n ++ ((a + n) ∷ [])
+pub upward_push : (a n : ℕ) → upward a (suc n) ≡ upward a n ++ ((a + n) ∷ [])
 unfolding upward
-upward_more a zero = ap (λ (k : ℕ). k ∷ []) (sym (add-zero a))
-upward_more a (suc n) =
+upward_push a zero = ap (λ (k : ℕ). k ∷ []) (sym (add-zero a))
+upward_push a (suc n) =
     let e : suc a + n ≡ a + suc n = omega arith in
-    ap (λ (l : List ℕ). a ∷ l) (upward_more (suc a) n ∙ ap (λ (k : ℕ). upward (suc a) n ++ (k ∷ [])) e)
+    ap (λ (l : List ℕ). a ∷ l) (upward_push (suc a) n ∙ ap (λ (k : ℕ). upward (suc a) n ++ (k ∷ [])) e)
 
 module _ (messages : ℕ → List Message) where
   -- the bytes of the first channels
   abbrev pub up_to : ℕ → List ℕ
-  up_to i = bytes_of (each messages (upward 0 i))
+  up_to i = bytes_of (flat_map messages (upward 0 i))
 
   pub up_to_none : up_to 0 ≡ []
   unfolding upward
   up_to_none = refl
 
   -- one channel more
-  pub first_more : (i : ℕ) → up_to (i + 1) ≡ up_to i ++ bytes_of (messages i)
-  first_more i =
+  pub up_to_next : (i : ℕ) → up_to (i + 1) ≡ up_to i ++ bytes_of (messages i)
+  up_to_next i =
       ap up_to (add-one i)
-      ∙ ap (λ (l : List ℕ). bytes_of (each messages l)) (upward_more 0 i ∙ ap (λ (k : ℕ). upward 0 i ++ (k ∷ [])) (zero-add i))
-      ∙ ap bytes_of (each_append messages (upward 0 i) (i ∷ []))
-      ∙ bytes_append (each messages (upward 0 i)) (messages i ++ [])
+      ∙ ap (λ (l : List ℕ). bytes_of (flat_map messages l)) (upward_push 0 i ∙ ap (λ (k : ℕ). upward 0 i ++ (k ∷ [])) (zero-add i))
+      ∙ ap bytes_of (flat_map-append messages (upward 0 i) (i ∷ []))
+      ∙ bytes_append (flat_map messages (upward 0 i)) (messages i ++ [])
       ∙ ap (λ (l : List Message). up_to i ++ bytes_of l) (append-nil (messages i))
 
 module _ (kind : TuningKind) (channels : List ℕ) (i : ℕ) where

@@ -1,2 +1,2 @@
--- What the crate's contracts cite: the rules of the plan tuner.
+-- What the crate's contracts cite: the rules of the plan tuner, SPEC 9.
 pub mod Aot

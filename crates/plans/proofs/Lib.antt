@@ -1,25 +1,5 @@
--- Laws of the definitions, and the theorems about them.
-pub mod Joins
-pub mod Unique
-pub mod Rising
-pub mod Sweep
-pub mod Plan
-pub mod OnePass
-pub mod Seats
-pub mod Demand3
-pub mod Carried
-pub mod Insertion
-pub mod SortedKeys
+-- Laws of the definitions, and the theorems about them, in folders named for what they are about.
 pub mod Lines
-pub mod Accepted
-pub mod Slots
-pub mod Records
-pub mod Models
-pub mod Pass
-pub mod Held
-pub mod PlanBlocks
-pub mod Largest
-pub mod NextEntry
-pub mod Planned
-pub mod PlanEntries
-pub mod Tunings
+pub mod Walk
+pub mod Model
+pub mod Planning

@@ -1,6 +1,6 @@
--- The lists of a plan: "Lists of keys, notes and detunings (0.5 to 2), keys distinct; or lists of keys and pitches, where each note and detuning
--- comes from the nearest note." "Order for a plan: 12; then line by line 1, 4, 3, 5 (1 and 5 alone where pitches are given)." Assumes nothing.
-use Rattle.std.specs.Prelude.{Bool, false, not, ◌&&◌, List, [], ◌∷◌, ◌++◌, map, ℕ, eqb, ℤ, pos, negsuc, Float, length}
+-- The lists of a plan, SPEC 6.1a and 6.1b: keys with notes and detunings, or keys with pitches, whose notes and detunings are those of the nearest notes. They
+-- are refused by 12, then line by line by 4, 3, 5, or by 1, 5 where pitches are given.
+use Rattle.std.specs.Prelude.{Bool, false, not, ◌&&◌, List, [], ◌∷◌, ℕ, eqb, ℤ, pos, negsuc, Float, length}
 use Rattle.std.specs.Float.{fin}
 use Rattle.std.specs.Float.Ieee.{le}
 use Rattle.arithmetic.specs.Refusal.{detuning_out_of_range, note_out_of_range, key_twice, lists_unequal}
@@ -9,57 +9,57 @@ use Rattle.arithmetic.specs.Note.{is_note}
 use Rattle.arithmetic.specs.Nearest.{nearest_rule}
 pub use Rattle.channels.specs.Keys.{key_count}
 use Rattle.channels.specs.Lists.{member}
-use Rattle.plans.specs.Line.{Line}
+use Rattle.channels.specs.FirstRefusal.{one_by_one}
+use Rattle.plans.specs.PlanLine.{PlanLine, keys}
 
--- "0.5 to 2": no comparison with a NaN holds. (`fin false m e` is the f64 m * 2 ^ e.)
+-- SPEC 6.1b: a planned detuning is from 0.5 to 2; no comparison with a NaN holds. (`fin false m e` is the f64 m * 2 ^ e.)
 unfoldable pub is_planned : Float → Bool
 is_planned d = le (fin false 1 (negsuc 0)) d && le d (fin false 1 (pos 1))
 
--- ---- a line by itself
+-- ---- SPEC 6.1b: a line by itself, refused by 4, 3, or by 1
 
-unfoldable pub note_line : ℕ → ℤ → Float → Outcome Line
+unfoldable pub note_line : ℕ → ℤ → Float → Outcome PlanLine
 note_line k n d =
     refuse note_out_of_range unless is_note n then
     refuse detuning_out_of_range unless is_planned d then
     value (record { key = k; note = n; detuning = d })
 
-abbrev pub with_key : ℕ → Outcome (ℤ × Float) → Outcome Line
+abbrev pub with_key : ℕ → Outcome (ℤ × Float) → Outcome PlanLine
 with_key k (value nearest) = value (record { key = k; note = nearest.0; detuning = nearest.1 })
 with_key k (refused r) = refused r
 
-unfoldable pub pitch_line : ℕ → Float → Outcome Line
+unfoldable pub pitch_line : ℕ → Float → Outcome PlanLine
 pitch_line k hz = with_key k (nearest_rule hz)
 
-unfoldable pub note_lines : List ℕ → List ℤ → List Float → List (Outcome Line)
+unfoldable pub note_lines : List ℕ → List ℤ → List Float → List (Outcome PlanLine)
 note_lines [] ns ds = []
 note_lines (k ∷ ks) [] ds = []
 note_lines (k ∷ ks) (n ∷ ns) [] = []
 note_lines (k ∷ ks) (n ∷ ns) (d ∷ ds) = note_line k n d ∷ note_lines ks ns ds
 
-unfoldable pub pitch_lines : List ℕ → List Float → List (Outcome Line)
+unfoldable pub pitch_lines : List ℕ → List Float → List (Outcome PlanLine)
 pitch_lines [] hzs = []
 pitch_lines (k ∷ ks) [] = []
 pitch_lines (k ∷ ks) (hz ∷ hzs) = pitch_line k hz ∷ pitch_lines ks hzs
 
--- ---- line by line
+-- ---- SPEC 2.2, 6.1b: line by line
 
-abbrev pub keys : List Line → List ℕ
-keys l = map (λ (x : Line). x.key) l
+-- SPEC 6.1b: a line that is not refused by itself is refused for its key (5) if that came before; `before` are the lines before.
+unfoldable pub line_rule : List PlanLine → Outcome PlanLine → Outcome PlanLine
+line_rule before (refused r) = refused r
+line_rule before (value l) = refuse key_twice unless not (member l.key (keys before)) then value l
 
--- The lines of a list, if none is refused; `before` are the lines before.
-unfoldable pub line_by_line : List Line → List (Outcome Line) → Outcome (List Line)
-line_by_line before [] = value before
-line_by_line before (refused r ∷ rest) = refused r
-line_by_line before (value l ∷ rest) =
-    refuse key_twice unless not (member l.key (keys before)) then
-    line_by_line (before ++ (l ∷ [])) rest
+-- The lines of a list, if none is refused.
+abbrev pub line_by_line : List PlanLine → List (Outcome PlanLine) → Outcome (List PlanLine)
+line_by_line before rows = one_by_one line_rule before rows
 
-unfoldable pub note_lists : List ℕ → List ℤ → List Float → Outcome (List Line)
+-- SPEC 6.1a: lists of unequal length are refused (12) before any line is read.
+unfoldable pub note_lists : List ℕ → List ℤ → List Float → Outcome (List PlanLine)
 note_lists ks ns ds =
     refuse lists_unequal unless eqb (length ns) (length ks) && eqb (length ds) (length ks) then
     line_by_line [] (note_lines ks ns ds)
 
-unfoldable pub pitch_lists : List ℕ → List Float → Outcome (List Line)
+unfoldable pub pitch_lists : List ℕ → List Float → Outcome (List PlanLine)
 pitch_lists ks hzs =
     refuse lists_unequal unless eqb (length hzs) (length ks) then
     line_by_line [] (pitch_lines ks hzs)

@@ -1,10 +1,10 @@
-// Plans ("ahead of time"): every key gets a channel and a note before anyone plays.
+// Plans ("ahead of time"): every key gets a channel and a note before anyone plays (SPEC 6).
 
 ghost use Rattle.std.specs.Prelude.{◌≡◌, OnOk};
 ghost use Rattle.arithmetic.specs.Answers.{optional, outcome_by};
 ghost use Rattle.channels.specs.ChannelList.{entries};
-ghost use Rattle.plans.specs.PlanBlock.{detuning_of, group_by_of};
-ghost use Rattle.plans.specs.Plan.{Measurable, Smallest, Tunes, access_answer, empty, next_rule, open_rule, plan_answer, plan_of, planned};
+ghost use Rattle.plans.specs.PlanNumbers.{detuning_of, group_by_of};
+ghost use Rattle.plans.specs.Plan.{Measurable, PlanOptimal, TuningMeets, access_answer, empty, next_rule, open_rule, plan_answer, view, planned};
 ghost use Rattle.plans.specs.PlanInternal.{IsLeast, group_up_to, groups_from, raised};
 
 use crate::lists::TuningLists;
@@ -14,7 +14,7 @@ use arithmetic::refusal::Refusal;
 use channels::keys::{KEYS, Place, place_of};
 use channels::list::ChannelList;
 
-// What a sound module retunes together: one note, one note letter, or a whole channel.
+// What a sound module retunes together: one note, one note letter, or a whole channel (SPEC 1.7).
 #[derive(Clone, Copy, Debug, PartialEq, Eq)]
 pub enum GroupBy {
     Note = 0,
@@ -22,11 +22,11 @@ pub enum GroupBy {
     Channel = 2,
 }
 
-// A number that names none is read as 0.
+// A number that names none is read as 0 (SPEC 12.2).
 impl From<u16> for GroupBy {
     ghost from_gives = { λ number group. group ≡ group_by_of number };
 
-    #[tactic(auto, unfolding(crate::specs::PlanBlock::group_by_of))]
+    #[tactic(auto, unfolding(crate::specs::PlanNumbers::group_by_of))]
     fn from(number: u16) -> GroupBy {
         match number {
             1 => GroupBy::NoteLetter,
@@ -36,7 +36,7 @@ impl From<u16> for GroupBy {
     }
 }
 
-// What a tuning that is not refused comes to. It is no Result, since a plan that needs more channels than there are is no error but an answer.
+// What a tuning that is not refused comes to (SPEC 6.4). It is no Result, since a plan that needs more channels than there are is no error but an answer.
 #[derive(Clone, Copy, Debug, PartialEq, Eq)]
 pub enum Planned {
     // How many channels the plan uses.
@@ -45,7 +45,7 @@ pub enum Planned {
     Untuned(u16),
 }
 
-// A model of tunings that are planned. Every content is some model (`specs/PlanBlock.antt`), since it lies in the memory of programs in C.
+// A model of tunings that are planned. Every content is some model (SPEC 12.1), since it lies in the memory of programs in C.
 #[repr(C)]
 #[derive(Clone, Copy)]
 pub struct AotTuningModel {
@@ -59,9 +59,9 @@ pub struct AotTuningModel {
 }
 
 impl AotTuningModel {
-    // A model with no keys, for the channels listed.
+    // A model without a plan, for the channels listed (SPEC 6.2).
     pub fn new(channels: ChannelList, group_by: GroupBy) -> AotTuningModel
-        ensures { plan_of result ≡ empty (entries channels) group_by }
+        ensures { view result ≡ empty (entries channels) group_by }
     {
         AotTuningModel {
             records: [0; KEYS],
@@ -73,8 +73,8 @@ impl AotTuningModel {
         }
     }
 
-    // A model with no keys, for the channels of a list. Refuses, entry by entry, 6 a channel over 15 and 7 one that came before;
-    // the model has no channels then.
+    // A model without a plan, for the channels of a list. Refuses, entry by entry, 6 a channel over 15 and 7 one that came before;
+    // the model has no channels then (SPEC 6.2a).
     // (A pool model has an `open` of its own, with other settings: what both share is `ChannelList::of`, and a trait over both would be no plainer.)
     // Example: AotTuningModel::open([0, 1], Channel) is channels listed 2
     #[tactic(auto, unfolding(crate::specs::Plan::open_rule))]
@@ -82,7 +82,7 @@ impl AotTuningModel {
         channels: &[u8],
         group_by: GroupBy,
     ) -> (AotTuningModel, Result<ChannelList, Refusal>)
-        ensures { (plan_of result.0, outcome_by entries result.1) ≡ open_rule channels.now group_by }
+        ensures { (view result.0, outcome_by entries result.1) ≡ open_rule channels.now group_by }
     {
         let answer = ChannelList::of(channels);
         let list = answer.unwrap_or(ChannelList::none());
@@ -90,16 +90,16 @@ impl AotTuningModel {
     }
 
     // Plans the keys of lists: of notes and detunings, or of pitches, where each key has the nearest note. Refuses 12, then line by line
-    // 4, 3, 5 of notes and 1, 5 of pitches. A plan that needs more channels than there are leaves none.
+    // 4, 3, 5 of notes and 1, 5 of pitches (SPEC 6.1b). A plan that needs more channels than there are leaves none (SPEC 6.4a).
     // Example: open([0, 1], Channel); set_tuning([1, 2], [69, 69], [1, 33/32]) is tuned, channels used 2
     // Example: open([0, 1], Channel); set_tuning([1, 2, 3], [69, 69, 69], [1, 33/32, 31/32]) is untuned, channels needed 3
     // Example: open([0, 1], Channel); set_tuning([1, 1], [69, 69], [1, 1]) is refused (5)
     // Example: open([0, 1], Channel); set_tuning(pitches [1, 2, 3], [440, 445, 880]) is tuned, channels used 2
     // Example: open([0, 1], Channel); set_tuning(pitches [1, 2], [440, 445]) is tuned, channels used 2
     pub fn set_tuning<L: TuningLists>(&mut self, lists: &L) -> Result<Planned, Refusal>
-        ensures tunes { Tunes (planned (plan_of self.old) (L.lines lists.now)) self.old self.new (plan_answer result) }
-        ensures smallest { Smallest (plan_of self.old) (L.lines lists.now) (plan_of self.new, plan_answer result) }
-        ensures measurable { OnOk result (Measurable (plan_of self.new)) }
+        ensures meets { TuningMeets (planned (view self.old) (L.lines lists.now)) self.old self.new (plan_answer result) }
+        ensures optimal { PlanOptimal (view self.old) (L.lines lists.now) (view self.new, plan_answer result) }
+        ensures measurable { OnOk result (Measurable (view self.new)) }
     {
         let channels = self.channels();
         let by = self.group_by();
@@ -118,71 +118,71 @@ impl AotTuningModel {
         Ok(Planned::Tuned(count))
     }
 
-    // A lookup: the channel and the note of a key of the plan.
+    // A lookup: the channel and the note of a key of the plan (SPEC 6.5).
     // Example: open([0, 1], Channel); set_tuning([1, 2], [69, 69], [1, 33/32]); access_key(2) is channel 1, note 69
     // Example: open([0, 1], Channel); set_tuning([1, 2], [69, 69], [1, 33/32]); access_key(3) is not found
     pub fn access_key(&self, key: u8) -> Option<Place>
-        ensures { access_answer result ≡ (plan_of self.now).keys key }
+        ensures { access_answer result ≡ (view self.now).keys key }
     {
         place_of(self.records[key as usize])
     }
 
-    // How many channels the plan uses, and without a plan how many there are.
-    #[tactic(auto, unfolding(crate::specs::Plan::plan_of))]
+    // How many channels the plan uses, and without a plan how many there are (SPEC 6.4b).
+    #[tactic(auto, unfolding(crate::specs::Plan::view))]
     pub fn num_channels(&self) -> u16
-        ensures { result ≡ (plan_of self.now).num_channels }
+        ensures { result ≡ (view self.now).num_channels }
     {
         self.num_channels
     }
 
-    // Whether there is a plan.
-    #[tactic(auto, unfolding(crate::specs::Plan::plan_of))]
+    // Whether there is a plan (SPEC 6.4b).
+    #[tactic(auto, unfolding(crate::specs::Plan::view))]
     pub fn tuned(&self) -> bool
-        ensures { result ≡ (plan_of self.now).tuned }
+        ensures { result ≡ (view self.now).tuned }
     {
         self.tuned == 1
     }
 
     // The channel list that the model was opened with.
-    #[tactic(auto, unfolding(crate::specs::Plan::plan_of))]
+    #[tactic(auto, unfolding(crate::specs::Plan::view))]
     pub fn channels(&self) -> ChannelList
-        ensures { entries result ≡ (plan_of self.now).channels }
+        ensures { entries result ≡ (view self.now).channels }
     {
         self.channels
     }
 
     // What the plan retunes together.
-    #[tactic(auto, unfolding(crate::specs::Plan::plan_of))]
+    #[tactic(auto, unfolding(crate::specs::Plan::view))]
     pub fn group_by(&self) -> GroupBy
-        ensures { result ≡ (plan_of self.now).group_by }
+        ensures { result ≡ (view self.now).group_by }
     {
         GroupBy::from(self.group_by)
     }
 
     // The detuning of a group on a channel of the plan, carried over from the channels before where it was not replaced. A note is its own group's number,
-    // a letter's is 0 to 11, a whole channel's 0.
+    // a letter's is 0 to 11, a whole channel's 0 (SPEC 6.5a).
     // Example: open([0, 1], Channel); set_tuning([1, 2], [69, 69], [1, 33/32]); detuning(1, 0) is 1.03125
-    #[tactic(auto, unfolding(crate::specs::Plan::plan_of, crate::specs::Plan::detuning_in, crate::specs::Plan::highest))]
+    #[tactic(auto, unfolding(crate::specs::Plan::view, crate::specs::Plan::detuning_in, crate::specs::Plan::highest))]
     pub fn detuning(&self, channel: u16, group: i32) -> Option<f64>
-        ensures { optional result ≡ (plan_of self.now).detunings channel group }
+        ensures { optional result ≡ (view self.now).detunings channel group }
     {
         if self.num_channels <= channel {
             return None;
         }
         let by = self.group_by();
         let mut largest: Option<f64> = None;
-        for (&cell, &detuning) in self.records.iter().zip(&self.detunings) {
-            if group_up_to(cell, by, channel) == Some(group) {
+        for (&raw, &detuning) in self.records.iter().zip(&self.detunings) {
+            if group_up_to(raw, by, channel) == Some(group) {
                 largest = raised(largest, number_or_zero(detuning));
             }
         }
         largest
     }
 
-    // The first of a channel's detunings whose group is `from` or higher, with its group: they are listed by rising group.
+    // The first of a channel's detunings whose group is `from` or higher, with its group: they are listed by rising group (SPEC 6.5b).
     // Example: open([0, 1], Channel); set_tuning([1, 2], [69, 69], [1, 33/32]); next_detuning(1, -300) is group 0, detuning 1.03125
     pub fn next_detuning(&self, channel: u16, from: i32) -> Option<(i32, f64)>
-        ensures { optional result ≡ next_rule (plan_of self.now) channel from }
+        ensures { optional result ≡ next_rule (view self.now) channel from }
     {
         let by = self.group_by();
         let group = least_group(&self.records, by, channel, from)?;
@@ -197,25 +197,25 @@ fn least_group(records: &[u16], by: GroupBy, channel: u16, from: i32) -> Option<
 {
     records
         .iter()
-        .filter_map(|&cell| group_up_to(cell, by, channel))
+        .filter_map(|&raw| group_up_to(raw, by, channel))
         .filter(|&group| from <= group)
         .min()
 }
 
 // The group of a record's key, if that is in the plan on a channel or one before it.
-#[tactic(auto, using(crate::proofs::Records::up_to_none, crate::proofs::Records::up_to_over, crate::proofs::Records::up_to_own))]
-fn group_up_to(cell: u16, by: GroupBy, channel: u16) -> Option<i32>
-    ensures { result ≡ group_up_to by channel cell }
+#[tactic(auto, using(crate::proofs::Model::Records::up_to_none, crate::proofs::Model::Records::up_to_over, crate::proofs::Model::Records::up_to_own))]
+fn group_up_to(raw: u16, by: GroupBy, channel: u16) -> Option<i32>
+    ensures { result ≡ group_up_to by channel raw }
 {
-    let place = place_of(cell)?;
+    let place = place_of(raw)?;
     if channel < place.channel as u16 {
         return None;
     }
     Some(group_of(by, place.note))
 }
 
-// A detuning as it is read: programs in C may have put a NaN there.
-#[tactic(auto, unfolding(crate::specs::PlanBlock::detuning_of))]
+// A detuning as it is read: programs in C may have put a NaN there (SPEC 12.1).
+#[tactic(auto, unfolding(crate::specs::PlanNumbers::detuning_of))]
 fn number_or_zero(detuning: f64) -> f64
     ensures { result ≡ detuning_of detuning }
 {

@@ -1,4 +1,4 @@
-// Plans: every key gets a channel and a note before anyone plays.
+// Plans: every key gets a channel and a note before anyone plays (SPEC 6).
 #![tactic(auto)]
 
 pub mod aot;

@@ -1,9 +1,9 @@
-// The lists of a tuning: keys with their notes and detunings, or with their pitches. Line i is entry i of each.
+// The lists of a tuning: keys with their notes and detunings, or with their pitches. Line i is entry i of each (SPEC 6.1a).
 
 ghost use Rattle.std.specs.Prelude.{Bool, List, ◌≡◌, T};
 ghost use Rattle.std.specs.Float.Ieee.Positive.{positive};
 ghost use Rattle.arithmetic.specs.Outcome.{Outcome};
-ghost use Rattle.plans.specs.Line.{Line};
+ghost use Rattle.plans.specs.PlanLine.{PlanLine};
 ghost use Rattle.plans.specs.PlanLists.{is_planned};
 ghost use Rattle.plans.specs.Entries.{entry_of};
 ghost use Rattle.arithmetic.specs.Answers.{outcome};
@@ -32,13 +32,13 @@ pub trait TuningLists {
     ghost use Rattle.plans.specs.KeyLine.{key_line};
 
     // The lines, or the first refusal.
-    ghost lines: { Self → Outcome (List Line) };
+    ghost lines: { Self → Outcome (List PlanLine) };
 
     // Whether the lists have as many entries, each.
     ghost equally_long: { Self → Bool };
 
     // Each line by itself.
-    ghost rows: { Self → List (Outcome Line) };
+    ghost rows: { Self → List (Outcome PlanLine) };
 
     // How many lines there are. Refuses 12.
     fn len(&self) -> Result<usize, Refusal>
@@ -51,7 +51,8 @@ pub trait TuningLists {
     ghost lines_are: { (s : Self) → lines s ≡ (refuse lists_unequal unless equally_long s then line_by_line [] (rows s)) };
 }
 
-// Keys with their notes and detunings. Refuses 12, then line by line 4, 3, 5. They are no slice of lines: callers may lend unequally many, which is refusal 12.
+// Keys with their notes and detunings. Refuses 12, then line by line 4, 3, 5 (SPEC 6.1b). They are no slice of lines: callers may lend unequally many, which
+// is refusal 12.
 #[derive(Clone, Copy)]
 pub struct NoteLists<'a> {
     pub keys: &'a [u8],
@@ -72,7 +73,7 @@ impl<'a> TuningLists for NoteLists<'a> {
 
     ghost lines_are = { λ s. unfold note_lists in refl };
 
-    #[tactic(auto, using(crate::proofs::Lines::notes_counted))]
+    #[tactic(auto, using(crate::proofs::Lines::Check::notes_counted))]
     fn len(&self) -> Result<usize, Refusal> {
         let len = self.keys.len();
         let equal = self.notes.len() == len && self.detunings.len() == len;
@@ -83,7 +84,7 @@ impl<'a> TuningLists for NoteLists<'a> {
         }
     }
 
-    #[tactic(auto, using(arithmetic::proofs::Outcomes::hands_on_by, crate::proofs::Lines::note_row))]
+    #[tactic(auto, using(arithmetic::proofs::Rules::Outcomes::hands_on_by, crate::proofs::Lines::Check::note_row))]
     fn line(&self, i: usize) -> Result<KeyTuning, Refusal> {
         let key = entry(self.keys, i)?;
         let number = entry(self.notes, i)?;
@@ -100,7 +101,7 @@ impl<'a> TuningLists for NoteLists<'a> {
     }
 }
 
-// Keys with their pitches in Hz: each has the nearest note. Refuses 12, then line by line 1, 5. They are two slices for the same reason.
+// Keys with their pitches in Hz: each has the nearest note. Refuses 12, then line by line 1, 5 (SPEC 6.1b). They are two slices for the same reason.
 #[derive(Clone, Copy)]
 pub struct PitchLists<'a> {
     pub keys: &'a [u8],
@@ -120,7 +121,7 @@ impl<'a> TuningLists for PitchLists<'a> {
 
     ghost lines_are = { λ s. unfold pitch_lists in refl };
 
-    #[tactic(auto, using(crate::proofs::Lines::pitches_counted))]
+    #[tactic(auto, using(crate::proofs::Lines::Check::pitches_counted))]
     fn len(&self) -> Result<usize, Refusal> {
         let len = self.keys.len();
         let equal = self.pitches.len() == len;
@@ -131,7 +132,7 @@ impl<'a> TuningLists for PitchLists<'a> {
         }
     }
 
-    #[tactic(auto, using(arithmetic::proofs::Outcomes::hands_on_by, crate::proofs::Lines::pitch_row, crate::proofs::Lines::no_pitch_line, crate::proofs::Lines::a_pitch_line))]
+    #[tactic(auto, using(arithmetic::proofs::Rules::Outcomes::hands_on_by, crate::proofs::Lines::Check::pitch_row, crate::proofs::Lines::Check::no_pitch_line, crate::proofs::Lines::Check::a_pitch_line))]
     fn line(&self, i: usize) -> Result<KeyTuning, Refusal> {
         let key = entry(self.keys, i)?;
         let hz = entry(self.pitches, i)?;
@@ -145,14 +146,14 @@ impl<'a> TuningLists for PitchLists<'a> {
 }
 
 // Entry i of a list. Refuses 12 where there is none.
-#[tactic(auto, using(crate::proofs::Lines::entry_got))]
+#[tactic(auto, using(crate::proofs::Lines::Check::entry_got))]
 fn entry<T: Copy>(list: &[T], i: usize) -> Result<T, Refusal>
     ensures { outcome result ≡ entry_of list.now i }
 {
     list.get(i).copied().ok_or(Refusal::ListsUnequal)
 }
 
-// A detuning that can be planned: 0.5 to 2.
+// A detuning that can be planned: 0.5 to 2 (SPEC 6.1b).
 fn is_planned(detuning: f64) -> bool
     ensures { result ≡ is_planned detuning }
 {

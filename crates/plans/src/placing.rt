@@ -1,9 +1,9 @@
-// Planning: one pass over the keys in order, each to its channel.
+// Planning (SPEC 6.3): one pass over the keys in order, each to its channel.
 
 ghost use Rattle.std.specs.Prelude.{◌≡◌, ◌<◌};
-ghost use Rattle.plans.specs.Line.{group, joins};
+ghost use Rattle.plans.specs.PlanLine.{group, joins};
 ghost use Rattle.plans.specs.Plan.{records_in};
-ghost use Rattle.plans.specs.PlanInternal.{Filled, Seats, channels_with, lines_of, slot_of};
+ghost use Rattle.plans.specs.PlanInternal.{Filled, Assignments, channels_with, lines_of, slot_of};
 
 use crate::aot::GroupBy;
 use crate::sorted_keys::SortedKeys;
@@ -24,10 +24,10 @@ struct Run {
 
 const NO_KEYS: Run = Run { used: 0, last: 0 };
 
-// Places each key on its channel. Answers how many channels that takes.
+// Places each key on its channel. Answers how many channels that takes (SPEC 6.4).
 pub(crate) fn place_keys(keys: &mut SortedKeys, by: GroupBy) -> u16
     requires { Filled keys.old }
-    ensures { Seats by (lines_of keys.old) (records_in keys.new.records keys.new.detunings) result }
+    ensures { Assignments by (lines_of keys.old) (records_in keys.new.records keys.new.detunings) result }
 {
     let SortedKeys {
         order,
@@ -61,8 +61,8 @@ fn channels_with(used: u16, before: f64, detuning: f64) -> u16
     if joined { used } else { used + 1 }
 }
 
-// Whether a key may stand behind the last one of its group on that one's channel.
-#[tactic(auto, unfolding(crate::specs::Line::joins))]
+// Whether a key may stand behind the last one of its group on that one's channel (SPEC 6.3a).
+#[tactic(auto, unfolding(crate::specs::PlanLine::joins))]
 fn joins(before: f64, detuning: f64) -> bool
     ensures { result ≡ joins before detuning }
 {
@@ -72,7 +72,7 @@ fn joins(before: f64, detuning: f64) -> bool
 }
 
 // The place of a note's group in a table of all groups.
-#[tactic(auto, using(crate::proofs::Slots::group_note, crate::proofs::Slots::slot_is, crate::proofs::Slots::slot_fits, crate::proofs::Slots::slot_below, arithmetic::proofs::Notes::note_fits))]
+#[tactic(auto, using(crate::proofs::Walk::Slots::group_note, crate::proofs::Walk::Slots::slot_is, crate::proofs::Walk::Slots::slot_fits, crate::proofs::Walk::Slots::slot_below, arithmetic::proofs::Notes::Bounds::note_fits))]
 fn slot(by: GroupBy, note: Note) -> usize
     ensures place { result ≡ slot_of (group by note.number) }
     ensures in_table { result < 801 }
@@ -80,8 +80,8 @@ fn slot(by: GroupBy, note: Note) -> usize
     (group_of(by, note) - LOWEST_NOTE) as usize
 }
 
-// The number of a note's group.
-#[tactic(auto, using(arithmetic::proofs::Notes::note_fits, arithmetic::proofs::Notes::letter_below), unfolding(crate::specs::Line::group))]
+// The number of a note's group (SPEC 1.7a).
+#[tactic(auto, using(arithmetic::proofs::Notes::Bounds::note_fits, arithmetic::proofs::Notes::Bounds::letter_below), unfolding(crate::specs::PlanLine::group))]
 pub(crate) fn group_of(by: GroupBy, note: Note) -> i32
     ensures { result ≡ group by note.number }
 {

@@ -1,4 +1,4 @@
-// The keys of a plan in the order of their detunings: the lines of its lists, checked one by one, and put in order.
+// The keys of a plan in the order of their detunings (SPEC 6.3): the lines of its lists, checked one by one, and put in order.
 
 ghost use Rattle.std.specs.Prelude.{◌≡◌, []};
 ghost use Rattle.plans.specs.PlanInternal.{Adds, Checked, Filled, Holds, before_in};
@@ -21,7 +21,7 @@ pub struct SortedKeys {
 }
 
 impl SortedKeys {
-    // The lines of lists in order. Refuses 12, then line by line what a line is refused for by itself, and 5.
+    // The lines of lists in order. Refuses 12, then line by line what a line is refused for by itself, and 5 (SPEC 6.1b).
     pub fn of<L: TuningLists>(lists: &L) -> Result<SortedKeys, Refusal>
         ensures { Checked (L.lines lists.now) result }
     {

@@ -1,4 +1,4 @@
--- Laws of a queue's items: a count, and a list of which so many count, or all. Assumes nothing.
+-- Laws of a queue's items: a count, and a list of which so many count, or all.
 use Rattle.std.proofs.Common.{◌≡◌, ℕ, zero, suc, ◌+◌, ◌-◌, ◌<◌, ◌≤◌, min, Bool, true, false, List, [], ◌∷◌, ◌++◌, map, length, get_or, take, drop, set, refl, sym, ap, ◌∙◌, eqb, ltb, add-one, arith}
 use Rattle.std.proofs.Math.Nat.{mod-eq_of_lt, zero-min, min-zero, suc-min-suc}
 use Rattle.std.proofs.Math.Seq.{paste, take-suc, take-suc-set, take-set-le, drop-set-lt, drop-drop, get_or-drop}
@@ -8,9 +8,9 @@ use Rattle.std.proofs.Math.Option.{some, none}
 use Rattle.std.specs.Bool.{then_some}
 use Rattle.arithmetic.specs.Answers.{optional}
 use Rattle.channels.specs.Lists.{upward, first, member, without}
-use Rattle.channels.proofs.ListLaws.{outcome, passed, failed}
+use Rattle.channels.proofs.Lists.Laws.{tested, passed, failed, length_without_lt}
 use Rattle.channels.specs.Places.{channel_of}
-use Rattle.pools.specs.Pool.{behind}
+use Rattle.pools.specs.Pool.{enqueue}
 
 -- the items that count
 pub counted : (n m : ℕ) (l : List ℕ) → m ≡ length (take n l) → take n l ≡ take m l
@@ -58,93 +58,83 @@ rest_moved n l h k =
 
 -- ---- one more at the back
 
-pub behind_room : (l : List ℕ) (x : ℕ) → length l < 16 → behind l x ≡ l ++ (x ∷ [])
-unfolding behind
-behind_room l x h = take_all 16 (l ++ (x ∷ [])) (omega (arith, length-append l (x ∷ [])))
+pub enqueue_room : (l : List ℕ) (x : ℕ) → length l < 16 → enqueue l x ≡ l ++ (x ∷ [])
+unfolding enqueue
+enqueue_room l x h = take_all 16 (l ++ (x ∷ [])) (omega (arith, length-append l (x ∷ [])))
 
-pub push_room : (n : ℕ) (l : List ℕ) (x : ℕ) → n < 16 → n < length l → take (n + 1) (set l n x) ≡ behind (take n l) x
-push_room n l x h k =
+pub enqueue_set : (n : ℕ) (l : List ℕ) (x : ℕ) → n < 16 → n < length l → take (n + 1) (set l n x) ≡ enqueue (take n l) x
+enqueue_set n l x h k =
     ap (λ (i : ℕ). take i (set l n x)) (add-one n)
     ∙ take-suc-set l n x k
-    ∙ sym (behind_room (take n l) x (omega (arith, length-take-le n l (omega arith))))
+    ∙ sym (enqueue_room (take n l) x (omega (arith, length-take-le n l (omega arith))))
 
-pub push_full : (l : List ℕ) (x : ℕ) → length l ≡ 16 → l ≡ behind l x
-unfolding behind
-push_full l x e = sym (take-append-le 16 l (x ∷ []) (omega arith) ∙ take_all 16 l (omega arith))
+pub enqueue_full : (l : List ℕ) (x : ℕ) → length l ≡ 16 → l ≡ enqueue l x
+unfolding enqueue
+enqueue_full l x e = sym (take-append-le 16 l (x ∷ []) (omega arith) ∙ take_all 16 l (omega arith))
 
-pub map_behind : (l : List ℕ) (c : ℕ) → c < 16 → map channel_of (behind l c) ≡ behind (map channel_of l) c
-unfolding behind
-map_behind l c h =
+pub map_enqueue : (l : List ℕ) (c : ℕ) → c < 16 → map channel_of (enqueue l c) ≡ enqueue (map channel_of l) c
+unfolding enqueue
+map_enqueue l c h =
     sym (take-map channel_of 16 (l ++ (c ∷ [])))
     ∙ ap (take 16) (map-append channel_of l (c ∷ []))
     ∙ ap (λ n. take 16 (map channel_of l ++ (n ∷ []))) (mod-eq_of_lt h)
 
-pub ruleset pushed = (counted, push_room, push_full)
+pub ruleset enqueued = (counted, enqueue_set, enqueue_full)
 
 -- ---- the items without a number, as far as i
 
 without-append : (x : ℕ) (l m : List ℕ) → without x (l ++ m) ≡ without x l ++ without x m
 unfolding without
 without-append x [] m = refl
-without-append x (y ∷ l) m = elim (outcome (eqb y x)) [ passed e ↦ rw e (without-append x l m) | failed e ↦ rw e (ap (λ (r : List ℕ). y ∷ r) (without-append x l m)) ]
+without-append x (y ∷ l) m = elim (tested (eqb y x)) [
+  | passed e ↦ rw e (without-append x l m)
+  | failed e ↦ rw e (ap (λ (r : List ℕ). y ∷ r) (without-append x l m))
+]
 
 -- The first i of the items m have been gone through, and those that are not the number stand first in l.
-module _ (x : ℕ) (l m : List ℕ) (i k : ℕ) (h : i < length m) (long : length l ≡ length m) (few : k ≤ i) (read : take k l ≡ without x (take i m)) (rest : drop i l ≡ drop i m) where
-  next : get_or l i 0 ≡ get_or m i 0
-  next = let at : i ≡ i + 0 = omega arith in rw at (sym (get_or-drop i l 0 0) ∙ ap (λ r. get_or r 0 0) rest ∙ get_or-drop i m 0 0)
+module _ (x : ℕ) (l m : List ℕ) (i k : ℕ) (h : i < length m) (long : length l ≡ length m) (few : k ≤ i)
+    (read : take k l ≡ without x (take i m)) (rest : drop i l ≡ drop i m) where
+  get_or_unread : get_or l i 0 ≡ get_or m i 0
+  get_or_unread = let at : i ≡ i + 0 = omega arith in rw at (sym (get_or-drop i l 0 0) ∙ ap (λ r. get_or r 0 0) rest ∙ get_or-drop i m 0 0)
 
-  one_more : without x (take (i + 1) m) ≡ take k l ++ without x (get_or l i 0 ∷ [])
-  one_more =
+  without_one_more : without x (take (i + 1) m) ≡ take k l ++ without x (get_or l i 0 ∷ [])
+  without_one_more =
       ap (λ n. without x (take n m)) (add-one i)
       ∙ ap (without x) (take-suc m i 0 h)
       ∙ without-append x (take i m) (get_or m i 0 ∷ [])
       ∙ ap (λ r. r ++ without x (get_or m i 0 ∷ [])) (sym read)
-      ∙ ap (λ n. take k l ++ without x (n ∷ [])) (sym next)
+      ∙ ap (λ n. take k l ++ without x (n ∷ [])) (sym get_or_unread)
 
   pub sifted_here : get_or l i 0 ≡ x → take k (set l k (get_or l i 0)) ≡ without x (take (i + 1) m)
   unfolding without
-  sifted_here e = take-set-le k l k (get_or l i 0) (omega arith) ∙ sym (one_more ∙ rw (eq-eqb (get_or l i 0) x e) (append-nil (take k l)))
+  sifted_here e = take-set-le k l k (get_or l i 0) (omega arith) ∙ sym (without_one_more ∙ rw (eq-eqb (get_or l i 0) x e) (append-nil (take k l)))
 
   pub sifted_other : (get_or l i 0 ≡ x → ⊥) → take (k + 1) (set l k (get_or l i 0)) ≡ without x (take (i + 1) m)
   unfolding without
   sifted_other ne =
-      ap (λ n. take n (set l k (get_or l i 0))) (add-one k) ∙ take-suc-set l k (get_or l i 0) (omega arith) ∙ sym (one_more ∙ rw (ne_eqb (get_or l i 0) x ne))
+      ap (λ n. take n (set l k (get_or l i 0))) (add-one k)
+      ∙ take-suc-set l k (get_or l i 0) (omega arith)
+      ∙ sym (without_one_more ∙ rw (ne_eqb (get_or l i 0) x ne))
 
   pub sifted_rest : drop (i + 1) (set l k (get_or l i 0)) ≡ drop (i + 1) m
   sifted_rest = drop-set-lt (i + 1) l k (get_or l i 0) (omega arith) ∙ sym (drop-drop 1 i l) ∙ ap (drop 1) rest ∙ drop-drop 1 i m
 
 -- ---- whether the number was there
 
-without_most : (x : ℕ) (l : List ℕ) → length (without x l) ≤ length l
-unfolding without
-without_most x [] = omega arith
-without_most x (y ∷ l) = elim (outcome (eqb y x)) [
-  | passed e ↦ rw e (omega (arith, without_most x l))
-  | failed e ↦ rw e (omega (arith, without_most x l))
-]
-
-gone : (x : ℕ) (l : List ℕ) → member x l ≡ true → length (without x l) < length l
-unfolding without
-gone x [] h = absurd (cc)
-gone x (y ∷ l) h = elim (outcome (eqb y x)) [
-  | passed e ↦ rw e (omega (arith, without_most x l))
-  | failed e ↦ rw e (omega (arith, gone x l (rw e at h)))
-]
-
 pub without_none : (x : ℕ) (l : List ℕ) → member x l ≡ false → without x l ≡ l
 unfolding without
 without_none x [] h = refl
-without_none x (y ∷ l) h = elim (outcome (eqb y x)) [
+without_none x (y ∷ l) h = elim (tested (eqb y x)) [
   | passed e ↦ absurd (let z : ◌≡◌ {A = Bool} true false = rw e at h in cc)
   | failed e ↦ rw e (ap (λ (r : List ℕ). y ∷ r) (without_none x l (rw e at h)))
 ]
 
 -- fewer are left where the number was there
-pub fewer : (x : ℕ) (l : List ℕ) (m n : ℕ) → m ≡ length (without x l) → n ≡ length l → ltb m n ≡ member x l
-fewer x l m n e f = elim (outcome (member x l)) [
-  | passed h ↦ lt-ltb m n (omega (arith, gone x l h)) ∙ sym h
+pub length_fewer : (x : ℕ) (l : List ℕ) (m n : ℕ) → m ≡ length (without x l) → n ≡ length l → ltb m n ≡ member x l
+length_fewer x l m n e f = elim (tested (member x l)) [
+  | passed h ↦ lt-ltb m n (omega (arith, length_without_lt x l h)) ∙ sym h
   | failed h ↦ le-ltb m n (omega (arith, ap length (without_none x l h))) ∙ sym h
 ]
 
 -- a channel that a key gives up
-pub ruleset put_back = (map_behind, without_none)
+pub ruleset put_back = (map_enqueue, without_none)

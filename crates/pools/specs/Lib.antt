@@ -1,5 +1,5 @@
--- What the crate's contracts cite.
+-- What the crate's contracts cite, SPEC 7; `PoolInternal` is for its private functions.
 pub mod Pool
-pub mod Block
+pub mod View
 pub mod PoolAnswers
 pub mod PoolInternal

@@ -1,5 +1,5 @@
--- Pools of channels: presses, releases, lookups, repitches and stop, over lists. A channel is a number from 0, which stands for
--- that entry of the channel list; a key is a number below `key_count`; a note is a whole number. Assumes nothing.
+-- Pools of channels, SPEC 7: presses, releases, lookups, repitches and stop, over lists. A channel is a number from 0, which stands for
+-- that entry of the channel list (SPEC 1.6a); a key is a number below `key_count`; a note is a whole number.
 use Rattle.std.specs.Prelude.{ℕ, suc, not, cond, List, [], ◌∷◌, ◌++◌, ℤ, Float, length, take, drop, get_or, set, replicate}
 use Rattle.std.proofs.Math.Option.{Option, some, none}
 use Rattle.arithmetic.specs.Refusal.{pitch_out_of_range, key_held}
@@ -11,19 +11,19 @@ pub use Rattle.channels.specs.Keys.{key_count}
 use Rattle.channels.specs.Places.{Place, is_held}
 use Rattle.channels.specs.Lists.{member, without, upward, first}
 use Rattle.channels.specs.ChannelList.{list_rule, present}
-use Rattle.pools.specs.declared.jit.PoolGroupBy.{PoolGroupBy}
-use Rattle.pools.specs.declared.jit.PoolGroupBy.TheVariants.{NoteLetter, Channel}
-use Rattle.pools.specs.declared.jit.PoolingMode.{PoolingMode}
-use Rattle.pools.specs.declared.jit.PoolingMode.TheVariants.{Block, Stop, Ignore}
+use Rattle.pools.specs.declared.settings.PoolGroupBy.{PoolGroupBy}
+use Rattle.pools.specs.declared.settings.PoolGroupBy.TheVariants.{NoteLetter, Channel}
+use Rattle.pools.specs.declared.settings.PoolingMode.{PoolingMode}
+use Rattle.pools.specs.declared.settings.PoolingMode.TheVariants.{Block, Stop, Ignore}
 
 -- ---- the state
 
--- The free channels, the next one first, and the keys that still have their channels, the longest held first.
+-- SPEC 7.2c, 7.3b: the free channels, the next one first, and the keys that still have their channels, the longest held first.
 pub record Pool : Type 0 where
   pub free : List ℕ
   pub order : List ℕ
 
--- `keys` has the place of each key that is found, by rising key.
+-- SPEC 7.1: the state of a model. `keys` has the place of each key that is held, by rising key.
 pub record State : Type 0 where
   pub channels : List ℕ
   pub group : PoolGroupBy
@@ -31,7 +31,7 @@ pub record State : Type 0 where
   pub pools : List Pool
   pub keys : List (Option Place)
 
--- one pool for all notes, or one for each letter
+-- SPEC 7.1a: one pool for all notes, or one for each letter.
 unfoldable pub pool_count : PoolGroupBy → ℕ
 pool_count NoteLetter = 12
 pool_count Channel = 1
@@ -46,28 +46,32 @@ empty_pool = record { free = []; order = [] }
 unfoldable pub pool : State → ℤ → Pool
 pool s note = get_or s.pools (pool_of s.group note) empty_pool
 
--- where a key is found; a key is held if it is found
+-- SPEC 7.2: where a key is found; a key is held if it is found.
 unfoldable pub found : State → ℕ → Option Place
 found s key = get_or s.keys key none
 
--- Each pool starts with its channels free, 0 upward, as many as the channel list has, and no key is found.
+-- SPEC 7.1b: a pool begins with its channels free, from 0 on.
+abbrev pub fresh_pool : ℕ → Pool
+fresh_pool n = record { free = upward 0 n; order = [] }
+
+-- SPEC 7.1, 7.1b: each pool has as many channels as the channel list, and no key is held.
 unfoldable pub fresh : List ℕ → PoolGroupBy → PoolingMode → State
 fresh channels group mode =
     record {
       channels = channels;
       group = group;
       mode = mode;
-      pools = replicate (pool_count group) (record { free = upward 0 (length channels); order = [] });
+      pools = replicate (pool_count group) (fresh_pool (length channels));
       keys = replicate key_count none;
     }
 
--- A model is opened on a channel list, or without channels where the list is refused.
+-- SPEC 7.1, 6.2a: a model is opened on a channel list, or without channels where the list is refused.
 unfoldable pub open_rule : List ℕ → PoolGroupBy → PoolingMode → Outcome (List ℕ) × State
 open_rule channels group mode = (list_rule channels, fresh (present (list_rule channels)) group mode)
 
 -- ---- the changes of a state
 
--- the state with the pool of a note set anew
+-- The state with the pool of a note set anew.
 unfoldable pub with_pool : State → ℤ → Pool → State
 with_pool s note p =
     record {
@@ -78,7 +82,7 @@ with_pool s note p =
       keys = s.keys;
     }
 
--- the state with the place of a key set anew
+-- The state with the place of a key set anew.
 unfoldable pub with_key : State → ℕ → Option Place → State
 with_key s key place =
     record {
@@ -89,39 +93,39 @@ with_key s key place =
       keys = set s.keys key place;
     }
 
--- One more at the back of a list that never has more than sixteen, the number of MIDI channels.
-unfoldable pub behind : List ℕ → ℕ → List ℕ
-behind l x = take 16 (l ++ (x ∷ []))
+-- SPEC 7.1b: one more at the back of a list that never has more than sixteen, the number of MIDI channels.
+unfoldable pub enqueue : List ℕ → ℕ → List ℕ
+enqueue l x = take 16 (l ++ (x ∷ []))
 
--- A press takes the front: the key is held on that channel from now on.
+-- SPEC 7.2c: a press takes the front, and the key is held on that channel from then on.
 unfoldable pub taken_in : Pool → ℕ → Pool
-taken_in p key = record { free = drop 1 p.free; order = behind p.order key }
+taken_in p key = record { free = drop 1 p.free; order = enqueue p.order key }
 
 unfoldable pub taken : State → ℕ → ℤ → ℕ → State
 taken s key note channel = with_key (with_pool s note (taken_in (pool s note) key)) key (some (record { channel = channel; note = note }))
 
--- A release puts its channel at the back, unless the key has lost it.
+-- SPEC 7.4: a release puts the channel at the back, unless the key has lost it.
 unfoldable pub freed_in : Pool → ℕ → ℕ → Pool
-freed_in p key channel = cond (member key p.order) (record { free = behind p.free channel; order = without key p.order }) p
+freed_in p key channel = cond (member key p.order) (record { free = enqueue p.free channel; order = without key p.order }) p
 
 unfoldable pub freed : State → ℕ → Place → State
 freed s key place = with_pool s place.note (freed_in (pool s place.note) key place.channel)
 
-unfoldable pub forgotten : State → ℕ → State
-forgotten s key = with_key s key none
+unfoldable pub without_key : State → ℕ → State
+without_key s key = with_key s key none
 
--- ---- a release: a key that is not found changes nothing
+-- ---- SPEC 7.4: a release; of a key that is not held it does nothing
 
 unfoldable pub released_from : Option Place → State → ℕ → State
-released_from (some p) s key = forgotten (freed s key p) key
+released_from (some p) s key = without_key (freed s key p) key
 released_from none s key = s
 
 unfoldable pub released : State → ℕ → State
 released s key = released_from (found s key) s key
 
--- ---- a press of a key that is not held
+-- ---- SPEC 7.2, 7.3: a press of a key that is not held
 
--- a key and where it sounds
+-- A held key and where it is.
 pub record Held : Type 0 where
   pub key : ℕ
   pub place : Place
@@ -130,7 +134,7 @@ unfoldable pub held_at : ℕ → Option Place → Option Held
 held_at key (some p) = some (record { key = key; place = p })
 held_at key none = none
 
--- the longest-held key that still has its channel, in the pool of a note
+-- SPEC 7.3b: the key that has held a channel of the note's pool longest, among those that still have theirs.
 unfoldable pub oldest_of : State → Option ℕ → Option Held
 oldest_of s (some key) = held_at key (found s key)
 oldest_of s none = none
@@ -139,58 +143,58 @@ unfoldable pub oldest : State → ℤ → Option Held
 oldest s note = oldest_of s (first (pool s note).order)
 
 -- The state in which a press seeks its channel, and the note that was stopped for it.
-pub record Room : Type 0 where
+pub record Reclaimed : Type 0 where
   pub state : State
   pub stopped : Option ℤ
 
-abbrev pub room : State → Option ℤ → Room
-room s note = record { state = s; stopped = note }
+abbrev pub reclaimed : State → Option ℤ → Reclaimed
+reclaimed s note = record { state = s; stopped = note }
 
--- If none is free, Block rejects. Stop releases the longest-held key that still has its channel, and reports its note. Ignore frees that key's channel, but
--- the old key stays found, and its later release frees nothing.
-unfoldable pub made_room : PoolingMode → State → Option Held → Room
-made_room Block s old = room s none
-made_room Stop s none = room s none
-made_room Stop s (some old) = room (released s old.key) (some old.place.note)
-made_room Ignore s none = room s none
-made_room Ignore s (some old) = room (freed s old.key old.place) none
+-- SPEC 7.3: if none is free, Block rejects. Stop releases the longest-held key that still has its channel, and names its note. Ignore frees that key's channel,
+-- but the old key stays held, and its later release frees nothing.
+unfoldable pub reclaim_by_mode : PoolingMode → State → Option Held → Reclaimed
+reclaim_by_mode Block s old = reclaimed s none
+reclaim_by_mode Stop s none = reclaimed s none
+reclaim_by_mode Stop s (some old) = reclaimed (released s old.key) (some old.place.note)
+reclaim_by_mode Ignore s none = reclaimed s none
+reclaim_by_mode Ignore s (some old) = reclaimed (freed s old.key old.place) none
 
-unfoldable pub room_by : Option ℕ → State → ℤ → Room
-room_by (some channel) s note = room s none
-room_by none s note = made_room s.mode s (oldest s note)
+unfoldable pub reclaim_unless_free : Option ℕ → State → ℤ → Reclaimed
+reclaim_unless_free (some channel) s note = reclaimed s none
+reclaim_unless_free none s note = reclaim_by_mode s.mode s (oldest s note)
 
-unfoldable pub room_for : State → ℤ → Room
-room_for s note = room_by (first (pool s note).free) s note
+unfoldable pub reclaim : State → ℤ → Reclaimed
+reclaim s note = reclaim_unless_free (first (pool s note).free) s note
 
--- What a press answers: its channel, the note stopped for it, its own note and that note's detuning; or that it is rejected.
+-- SPEC 7.2c: what a press answers is its channel, the note stopped for it, its own note and that note's detuning; or that it is rejected.
 pub data Press : Type 0 where
   accepted : (channel : ℕ) (stopped : Option ℤ) (started : ℤ) (detuning : Float) → Press
   rejected : Press
 
--- The press takes the front, where there is one now; else it is rejected, and the state stays.
-unfoldable pub pressed_on : Option ℕ → Room → State → ℕ → ℤ → Float → Press × State
+-- SPEC 7.2c, 7.3d: the press takes the front, where there is one now; else it is rejected, and the state stays.
+unfoldable pub pressed_on : Option ℕ → Reclaimed → State → ℕ → ℤ → Float → Press × State
 pressed_on (some channel) r s key note detuning = (accepted channel r.stopped note detuning, taken r.state key note channel)
 pressed_on none r s key note detuning = (rejected, s)
 
 unfoldable pub pressed : State → ℕ → ℤ → Float → Press × State
-pressed s key note detuning = let r = room_for s note in pressed_on (first (pool r.state note).free) r s key note detuning
+pressed s key note detuning = let r = reclaim s note in pressed_on (first (pool r.state note).free) r s key note detuning
 
 -- ---- the rules of the calls
 
--- a press of a held key is refused
+-- SPEC 7.2b: a press of a held key is refused (11), also where no channel is free.
 unfoldable pub unless_held : State → ℕ → ℤ → Float → Outcome (Press × State)
 unless_held s key note detuning = refuse key_held unless not (is_held (found s key)) then value (pressed s key note detuning)
 
--- A press is refused where the pitch is out of range, then where the key is held.
+-- SPEC 7.2a: a press takes the nearest note of the pitch; it is refused by 1, then 11.
 unfoldable pub register_rule : State → ℕ → Float → Outcome (Press × State)
 register_rule s key hz = refuse pitch_out_of_range unless is_pitch hz then unless_held s key (nearest_note hz) (detuning_of hz (nearest_note hz))
 
--- A refusal leaves the state as it was.
-unfoldable pub replied : {A : Type 0} → State → Outcome (A × State) → Outcome A × State
-replied s (value r) = (value r.0, r.1)
-replied s (refused n) = (refused n, s)
+-- SPEC 1.9a: a refusal leaves the state as it was.
+unfoldable pub outcome_and_state : {A : Type 0} → State → Outcome (A × State) → Outcome A × State
+outcome_and_state s (value r) = (value r.0, r.1)
+outcome_and_state s (refused n) = (refused n, s)
 
--- A repitch gives where the key is found, and the pitch's detuning for its note. It is refused where the pitch is out of range, for unknown keys too.
+-- SPEC 7.5: a repitch gives where the key is held, and the pitch's detuning for its note. It is refused by 1, also where the key is unknown.
 unfoldable pub tuning : Float → Option Place → Option (Place × Float)
 tuning hz (some p) = some (p, detuning_of hz p.note)
 tuning hz none = none
@@ -198,14 +202,14 @@ tuning hz none = none
 unfoldable pub repitch_rule : State → ℕ → Float → Outcome (Option (Place × Float))
 repitch_rule s key hz = refuse pitch_out_of_range unless is_pitch hz then value (tuning hz (found s key))
 
--- ---- all found keys, by rising key
+-- ---- SPEC 7.7: the held keys, by rising key
 
 unfoldable pub held_from : ℕ → List (Option Place) → List Held
 held_from key [] = []
 held_from key (some p ∷ l) = record { key = key; place = p } ∷ held_from (suc key) l
 held_from key (none ∷ l) = held_from (suc key) l
 
--- those from a number on
+-- Those from a number on.
 unfoldable pub held_keys : State → ℕ → List Held
 held_keys s from = held_from from (drop from s.keys)
 
@@ -213,6 +217,6 @@ unfoldable pub released_all : State → List Held → State
 released_all s [] = s
 released_all s (h ∷ hs) = released_all (released s h.key) hs
 
--- Every found key is released, by rising key.
+-- SPEC 7.6: every held key is released, by rising key.
 unfoldable pub stopped : State → State
 stopped s = released_all s (held_keys s 0)

@@ -1,4 +1,4 @@
--- What the answers of pools are in the words of the rules. Assumes nothing.
+-- What the answers of pools are in the words of the rules, SPEC 7.
 use Rattle.std.specs.Prelude.{ℤ, Float, List, Result, Some, None}
 use Rattle.std.specs.Prelude.{Option as Optional}
 use Rattle.std.proofs.Math.Option.{Option, some, none}
@@ -9,36 +9,36 @@ use Rattle.arithmetic.specs.Outcome.{Outcome}
 use Rattle.channels.specs.Places.{Place, place_in}
 use Rattle.channels.specs.declared.keys.HeldKey.{HeldKey}
 use Rattle.pools.specs.Pool.{Held, Press, accepted, rejected, held_keys}
-use Rattle.pools.specs.Block.{state_of}
+use Rattle.pools.specs.View.{view}
 use Rattle.pools.specs.declared.jit.HeldKeys.{HeldKeys}
 use Rattle.pools.specs.declared.jit.Registered.{Registered}
 use Rattle.pools.specs.declared.jit.Repitched.{Repitched}
 
-abbrev pub held : HeldKey → Held
-held h = record { key = h.key; place = place_in h.place }
+abbrev pub held_view : HeldKey → Held
+held_view h = record { key = h.key; place = place_in h.place }
 
--- the found keys that an iterator has left
-abbrev pub left : HeldKeys → List Held
-left it = held_keys (state_of it.model.now) it.from
+-- SPEC 7.7: the held keys that an iterator has left.
+abbrev pub remaining : HeldKeys → List Held
+remaining it = held_keys (view it.model.now) it.from
 
 unfoldable pub next_held : Optional HeldKey → Option Held
-next_held (Some h) = some (held h)
+next_held (Some h) = some (held_view h)
 next_held None = none
 
 abbrev pub stopped_note : Optional Note → Option ℤ
 stopped_note (Some note) = some note.number
 stopped_note None = none
 
-abbrev pub told : Optional Registered → Press
-told (Some r) = accepted r.channel (stopped_note r.stopped_note) r.started_note.number r.detuning
-told None = rejected
+abbrev pub registered_view : Optional Registered → Press
+registered_view (Some r) = accepted r.channel (stopped_note r.stopped_note) r.started_note.number r.detuning
+registered_view None = rejected
 
-abbrev pub press : Result (Optional Registered) Refusal → Outcome Press
-press r = outcome_by told r
+abbrev pub press_outcome : Result (Optional Registered) Refusal → Outcome Press
+press_outcome r = outcome_by registered_view r
 
-abbrev pub retuned : Optional Repitched → Option (Place × Float)
-retuned (Some r) = some (place_in r.place, r.detuning)
-retuned None = none
+abbrev pub repitched_view : Optional Repitched → Option (Place × Float)
+repitched_view (Some r) = some (place_in r.place, r.detuning)
+repitched_view None = none
 
-abbrev pub repitched : Result (Optional Repitched) Refusal → Outcome (Option (Place × Float))
-repitched r = outcome_by retuned r
+abbrev pub repitch_outcome : Result (Optional Repitched) Refusal → Outcome (Option (Place × Float))
+repitch_outcome r = outcome_by repitched_view r

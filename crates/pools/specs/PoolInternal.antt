@@ -1,13 +1,13 @@
--- What the private functions of a pool model yield. No public contract cites it. Assumes nothing.
+-- What the private functions of a pool model yield. No public contract cites it.
 use Rattle.std.specs.Prelude.{ℕ, ℤ, Float, Some, None}
 use Rattle.std.specs.Prelude.{Option as Optional}
 use Rattle.std.proofs.Math.Option.{Option, some, none}
 use Rattle.channels.specs.Places.{Place}
 use Rattle.channels.specs.declared.channel.Channel.{Channel}
-use Rattle.pools.specs.Pool.{State, Held, Press, accepted, rejected, taken, freed, forgotten}
-use Rattle.pools.specs.declared.jit.Allocation.{Allocation}
-use Rattle.pools.specs.declared.jit.Allocation.TheVariants.{Free, Stopped, Ignored}
-use Rattle.pools.specs.declared.jit.Holder.{Holder}
+use Rattle.pools.specs.Pool.{State, Held, Press, accepted, rejected, taken, freed, without_key}
+use Rattle.pools.specs.declared.jit.allocation.Allocation.{Allocation}
+use Rattle.pools.specs.declared.jit.allocation.Allocation.TheVariants.{Free, Stopped, Ignored}
+use Rattle.pools.specs.declared.jit.allocation.Holder.{Holder}
 
 -- ---- a key on its channel
 
@@ -18,30 +18,30 @@ unfoldable pub held_by : Optional Holder → Option Held
 held_by (Some h) = some (record { key = h.key; place = held_place h })
 held_by None = none
 
--- ---- the channel for a press of a key that is not held: a free one, or that of the longest-held key, which is released or stays found
+-- ---- SPEC 7.3: the channel for a press of a key that is not held, a free one, or that of the longest-held key, which is released or stays held
 
-abbrev pub handed_out : Allocation → Channel
-handed_out (Free c) = c
-handed_out (Stopped h) = h.channel
-handed_out (Ignored h) = h.channel
+abbrev pub allocated_channel : Allocation → Channel
+allocated_channel (Free c) = c
+allocated_channel (Stopped h) = h.channel
+allocated_channel (Ignored h) = h.channel
 
--- the state in which the channel is free
-abbrev pub with_room : State → Allocation → State
-with_room s (Free c) = s
-with_room s (Stopped h) = forgotten (freed s h.key (held_place h)) h.key
-with_room s (Ignored h) = freed s h.key (held_place h)
+-- The state in which the channel is free.
+abbrev pub with_channel_free : State → Allocation → State
+with_channel_free s (Free c) = s
+with_channel_free s (Stopped h) = without_key (freed s h.key (held_place h)) h.key
+with_channel_free s (Ignored h) = freed s h.key (held_place h)
 
 -- ---- the press that gets the channel, if there is one
 
-abbrev pub answered : Optional Allocation → ℤ → Float → Press
-answered (Some (Free c)) note d = accepted c.number none note d
-answered (Some (Stopped h)) note d = accepted h.channel.number (some h.note.number) note d
-answered (Some (Ignored h)) note d = accepted h.channel.number none note d
-answered None note d = rejected
+abbrev pub press_of : Optional Allocation → ℤ → Float → Press
+press_of (Some (Free c)) note d = accepted c.number none note d
+press_of (Some (Stopped h)) note d = accepted h.channel.number (some h.note.number) note d
+press_of (Some (Ignored h)) note d = accepted h.channel.number none note d
+press_of None note d = rejected
 
 abbrev pub committed : State → ℕ → ℤ → Optional Allocation → State
-committed s key note (Some a) = taken (with_room s a) key note (handed_out a).number
+committed s key note (Some a) = taken (with_channel_free s a) key note (allocated_channel a).number
 committed s key note None = s
 
-abbrev pub given : State → ℕ → ℤ → Float → Optional Allocation → Press × State
-given s key note d a = (answered a note d, committed s key note a)
+abbrev pub press_and_state : State → ℕ → ℤ → Float → Optional Allocation → Press × State
+press_and_state s key note d a = (press_of a note d, committed s key note a)

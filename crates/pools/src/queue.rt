@@ -1,10 +1,10 @@
-// A queue of at most sixteen numbers. Every content is some queue (`specs/Block.antt`): a count over sixteen is read as sixteen.
+// A queue of at most sixteen numbers. Every content is some queue (SPEC 12.1): a count over sixteen is read as sixteen.
 
 ghost use Rattle.std.specs.Prelude.{◌≡◌, ◌≤◌, [], length, drop};
 ghost use Rattle.arithmetic.specs.Answers.{optional};
 ghost use Rattle.channels.specs.Lists.{first, member, upward, without};
-ghost use Rattle.pools.specs.Block.{queue_of};
-ghost use Rattle.pools.specs.Pool.{behind};
+ghost use Rattle.pools.specs.View.{queue_of};
+ghost use Rattle.pools.specs.Pool.{enqueue};
 
 use std::array;
 
@@ -20,8 +20,8 @@ pub(crate) struct Queue {
 
 impl Queue {
     // The queue without items.
-    #[tactic(auto, unfolding(crate::specs::Block::queue_of))]
-    pub fn new() -> Queue
+    #[tactic(auto, unfolding(crate::specs::View::queue_of))]
+    pub(crate) fn new() -> Queue
         ensures { queue_of result ≡ [] }
     {
         Queue {
@@ -31,7 +31,7 @@ impl Queue {
     }
 
     // The numbers from 0 upward.
-    pub fn count_up(count: u8) -> Queue
+    pub(crate) fn count_up(count: u8) -> Queue
         requires { count ≤ 16 }
         ensures { queue_of result ≡ upward 0 count }
     {
@@ -42,8 +42,8 @@ impl Queue {
     }
 
     // How many items there are.
-    #[tactic(auto, unfolding(crate::specs::Block::queue_of))]
-    pub fn len(&self) -> usize
+    #[tactic(auto, unfolding(crate::specs::View::queue_of))]
+    pub(crate) fn len(&self) -> usize
         ensures count { result ≡ length (queue_of self.now) }
         ensures few { result ≤ 16 }
     {
@@ -51,8 +51,8 @@ impl Queue {
     }
 
     // The front, if there is one.
-    #[tactic(auto, using(crate::proofs::Queues::front_is), unfolding(crate::specs::Block::queue_of))]
-    pub fn front(&self) -> Option<u16>
+    #[tactic(auto, using(crate::proofs::Queues::front_is), unfolding(crate::specs::View::queue_of))]
+    pub(crate) fn front(&self) -> Option<u16>
         ensures { optional result ≡ first (queue_of self.now) }
     {
         let has_items = 0 < self.count;
@@ -60,9 +60,9 @@ impl Queue {
     }
 
     // One item more at the back; a full queue stays as it is.
-    #[tactic(auto, using(crate::proofs::Queues::pushed), unfolding(crate::specs::Block::queue_of))]
-    pub fn push_back(&mut self, x: u16)
-        ensures { queue_of self.new ≡ behind (queue_of self.old) x }
+    #[tactic(auto, using(crate::proofs::Queues::enqueued), unfolding(crate::specs::View::queue_of))]
+    pub(crate) fn push_back(&mut self, x: u16)
+        ensures { queue_of self.new ≡ enqueue (queue_of self.old) x }
     {
         let n = self.len();
         if n < MOST_ITEMS {
@@ -72,8 +72,8 @@ impl Queue {
     }
 
     // The queue without its front.
-    #[tactic(auto, using(crate::proofs::Queues::rest_moved, crate::proofs::Queues::counted), unfolding(crate::specs::Block::queue_of))]
-    pub fn pop_front(&mut self)
+    #[tactic(auto, using(crate::proofs::Queues::rest_moved, crate::proofs::Queues::counted), unfolding(crate::specs::View::queue_of))]
+    pub(crate) fn pop_front(&mut self)
         ensures { queue_of self.new ≡ drop 1 (queue_of self.old) }
     {
         let n = self.len();
@@ -85,8 +85,8 @@ impl Queue {
     }
 
     // The queue without a number; whether it was there.
-    #[tactic(auto, unfolding(crate::specs::Block::queue_of, channels::specs::Lists::without))]
-    pub fn remove(&mut self, x: u16) -> bool
+    #[tactic(auto, unfolding(crate::specs::View::queue_of, channels::specs::Lists::without))]
+    pub(crate) fn remove(&mut self, x: u16) -> bool
         ensures found { result ≡ member x (queue_of self.old) }
         ensures left { queue_of self.new ≡ without x (queue_of self.old) }
     {

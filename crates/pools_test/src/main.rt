@@ -1,4 +1,5 @@
-// Plays pools: a channel freed and taken again, one stolen, every pooling mode, letter pools, zero channels and the refusals. Writes what each call answers.
+// Plays pools: a channel freed and taken again, one stolen, every pooling mode, letter pools, zero channels and the refusals. Writes a line for each call, with
+// what was asked and what it answered, below the rule of docs/SPEC.md that is tried.
 // Each press, release, lookup and stop is also made by value, on a copy, and a word is written where that answers or leaves another.
 // A function is given what it plays and where it writes: a struct of both would be no plainer.
 #![tactic(auto)]
@@ -6,92 +7,22 @@
 use arithmetic::note::Note;
 use arithmetic::pitch::Pitch;
 use arithmetic::refusal::Refusal;
-use channels::keys::{HeldKey, Place};
-use channels::list::ChannelList;
-use pools::jit::{JitTuningModel, PoolGroupBy, PoolingMode, Registered, Repitched};
-use show::{Answer, At, Bits, Code, Or};
+use channels::channel::Channel;
+use pools::jit::{JitTuningModel, PoolGroupBy, PoolingMode, Registered};
+use printing::answers::{Answer, At, ByValue, Held, Listed, Or, Pressed, Refused, Retuned};
+use printing::decimal::Form::WithBits;
+use std::io;
 use std::io::{BufWriter, Write};
 use std::num::f64_to_bits_with_nan;
-use std::{fmt, io};
 
 // ---- what is written of an answer
 
-// An accepted press.
-#[derive(Clone, Copy)]
-struct Accepted(Registered);
-
-impl fmt::Display for Accepted {
-    fn fmt<W: fmt::Write>(&self, f: &mut fmt::Formatter<W>) -> fmt::Result {
-        let press = &self.0;
-        let place = Place {
-            channel: press.channel,
-            note: press.started_note,
-        };
-        write!(f, "{}", At(place))?;
-        if let Some(note) = press.stopped_note {
-            write!(f, ", stops note {}", note.number())?;
-        }
-        write!(f, ", detuning {}", Bits(press.detuning))
-    }
-}
-
-#[derive(Clone, Copy)]
-struct Retuned(Repitched);
-
-impl fmt::Display for Retuned {
-    fn fmt<W: fmt::Write>(&self, f: &mut fmt::Formatter<W>) -> fmt::Result {
-        let repitched = &self.0;
-        write!(
-            f,
-            "{}, detuning {}",
-            At(repitched.place),
-            Bits(repitched.detuning)
-        )
-    }
-}
-
-#[derive(Clone, Copy)]
-struct Held(HeldKey);
-
-impl fmt::Display for Held {
-    fn fmt<W: fmt::Write>(&self, f: &mut fmt::Formatter<W>) -> fmt::Result {
-        write!(f, "{}: {}", self.0.key, At(self.0.place))
-    }
-}
-
-#[derive(Clone, Copy)]
-struct Listed(ChannelList);
-
-impl fmt::Display for Listed {
-    fn fmt<W: fmt::Write>(&self, f: &mut fmt::Formatter<W>) -> fmt::Result {
-        let list = &self.0;
-        write!(f, "channels {}", list.len())?;
-        match list.entry(1) {
-            Some(channel) => write!(f, ", channel 1 is MIDI channel {}", channel.number()),
-            None => write!(f, ", no channel 1"),
-        }
-    }
-}
-
-fn told(answer: Result<Option<Registered>, Refusal>) -> Answer<Or<Accepted>, Code> {
-    let press = answer.map(|press| Or(press.map(Accepted), "rejected"));
-    Answer(press.map_err(Code))
-}
-
-fn where_found(place: Option<Place>) -> Or<At> {
-    Or(place.map(At), "not found")
+fn press_answer(answer: Result<Option<Registered>, Refusal>) -> Answer<Or<Pressed>, Refused> {
+    let press = answer.map(|press| Or(press.map(|press| Pressed(press, WithBits)), "rejected"));
+    Answer(press.map_err(Refused))
 }
 
 // ---- calls by value
-
-// Words where a call by value does not do the same.
-fn unless(same: bool) -> &'static str {
-    if same { "" } else { " by value: another" }
-}
-
-fn same_place(a: Option<Place>, b: Option<Place>) -> bool {
-    a.map(Place::record) == b.map(Place::record)
-}
 
 fn same_press(a: Registered, b: Registered) -> bool {
     a.channel == b.channel
@@ -116,7 +47,7 @@ fn same_answer(
 fn same_model(model: &JitTuningModel, copy: JitTuningModel) -> bool {
     let mut same = true;
     for key in 0..=255 {
-        same = same && same_place(model.access_key(key), copy.looked_up(key));
+        same = same && model.access_key(key).map(At::from) == copy.looked_up(key).map(At::from);
     }
     same
 }
@@ -128,89 +59,101 @@ fn press(out: &mut impl Write, model: &mut JitTuningModel, key: u8, hz: f64) -> 
     let (copy, by_value) = model.pressed(key, pitch);
     let answer = model.register_key(key, pitch);
     let same = same_answer(answer, by_value) && same_model(model, copy);
-    writeln!(out, "  press {key}: {}{}", told(answer), unless(same))
+    writeln!(
+        out,
+        "  press key {key} at {hz:?} Hz: {}{}",
+        press_answer(answer),
+        ByValue(same)
+    )
 }
 
 fn release(out: &mut impl Write, model: &mut JitTuningModel, key: u8) -> io::Result<()> {
     let (copy, by_value) = model.released(key);
-    let place = model.deregister_key(key);
-    let same = same_place(place, by_value) && same_model(model, copy);
+    let place = model.deregister_key(key).map(At::from);
+    let same = place == by_value.map(At::from) && same_model(model, copy);
     writeln!(
         out,
-        "  release {key}: {}{}",
-        where_found(place),
-        unless(same)
+        "  release key {key}: {}{}",
+        Or(place, "not found"),
+        ByValue(same)
     )
 }
 
 fn look(out: &mut impl Write, model: &JitTuningModel, key: u8) -> io::Result<()> {
-    let place = model.access_key(key);
-    let same = same_place(place, model.looked_up(key));
+    let place = model.access_key(key).map(At::from);
+    let same = place == model.looked_up(key).map(At::from);
     writeln!(
         out,
-        "  lookup {key}: {}{}",
-        where_found(place),
-        unless(same)
+        "  look up key {key}: {}{}",
+        Or(place, "not found"),
+        ByValue(same)
     )
 }
 
 fn repitch(out: &mut impl Write, model: &JitTuningModel, key: u8, hz: f64) -> io::Result<()> {
     let answer = model
         .repitch_key(key, Pitch::from_hz(hz))
-        .map(|repitched| Or(repitched.map(Retuned), "not found"));
-    writeln!(out, "  repitch {key}: {}", Answer(answer.map_err(Code)))
+        .map(|repitched| Or(
+            repitched.map(|repitched| Retuned(repitched, WithBits)),
+            "not found",
+        ));
+    writeln!(
+        out,
+        "  repitch key {key} to {hz:?} Hz: {}",
+        Answer(answer.map_err(Refused))
+    )
 }
 
-// The first two found keys, and then all are released.
+// The first two held keys, and then all are released.
 fn stop(out: &mut impl Write, model: &mut JitTuningModel) -> io::Result<()> {
-    write!(out, "  found")?;
-    match model.next_key(0) {
-        Some(first) => {
-            let second = model.next_key(first.key as usize + 1).map(Held);
-            write!(out, " {}; {}", Held(first), Or(second, "no more"))?;
-        }
-        None => write!(out, " none")?,
+    let first = model.next_key(0);
+    writeln!(out, "  first held key: {}", Or(first.map(Held), "none"))?;
+    if let Some(first) = first {
+        let second = model.next_key(first.key as usize + 1).map(Held);
+        writeln!(out, "  next held key: {}", Or(second, "none"))?;
     }
     let copy = model.stopped();
     model.stop();
     let same = same_model(model, copy);
-    writeln!(out, "; all stopped{}", unless(same))
+    writeln!(out, "  stop{}", ByValue(same))
 }
 
 fn open(
     out: &mut impl Write,
-    name: &str,
     channels: &[u8],
     group_by: PoolGroupBy,
     pooling_mode: PoolingMode,
 ) -> io::Result<JitTuningModel> {
     let (model, answer) = JitTuningModel::open(channels, group_by, pooling_mode);
-    let listed = Answer(answer.map(Listed).map_err(Code));
-    writeln!(out, "{name}: {listed}")?;
+    let listed = Answer(answer.map(Listed).map_err(Refused));
+    let second = model.channels().entry(1).map(Channel::number);
+    writeln!(
+        out,
+        "open on MIDI channels {channels:?}, group by {group_by:?}, {pooling_mode:?}: {listed}; MIDI channel of its channel 1: {}",
+        Or(second, "none")
+    )?;
     Ok(model)
 }
 
 // A pool of channels 0 and 1.
-fn of_two(
-    out: &mut impl Write,
-    name: &str,
-    pooling_mode: PoolingMode,
-) -> io::Result<JitTuningModel> {
-    open(out, name, &[0, 1], PoolGroupBy::Channel, pooling_mode)
+fn of_two(out: &mut impl Write, pooling_mode: PoolingMode) -> io::Result<JitTuningModel> {
+    open(out, &[0, 1], PoolGroupBy::Channel, pooling_mode)
 }
 
 fn examples(out: &mut impl Write) -> io::Result<()> {
-    let mut model = open(
+    writeln!(
         out,
-        "example 11",
-        &[4, 9],
-        PoolGroupBy::Channel,
-        PoolingMode::Block,
+        "-- SPEC 11.1, example 11; 7.2, 7.4: a press gets the channel that has been free longest, a release frees one behind the others"
     )?;
+    let mut model = open(out, &[4, 9], PoolGroupBy::Channel, PoolingMode::Block)?;
     press(out, &mut model, 1, 440.0)?;
     release(out, &mut model, 1)?;
     press(out, &mut model, 2, 440.0)?;
-    let mut model = of_two(out, "example 12", PoolingMode::Stop)?;
+    writeln!(
+        out,
+        "-- SPEC 11.1, example 12; 7.3, Stop: the key that has held longest is released, and its note stopped"
+    )?;
+    let mut model = of_two(out, PoolingMode::Stop)?;
     press(out, &mut model, 1, 440.0)?;
     press(out, &mut model, 2, 455.0)?;
     press(out, &mut model, 3, 880.0)?;
@@ -219,7 +162,11 @@ fn examples(out: &mut impl Write) -> io::Result<()> {
 }
 
 fn block(out: &mut impl Write) -> io::Result<()> {
-    let mut model = of_two(out, "block", PoolingMode::Block)?;
+    writeln!(
+        out,
+        "-- SPEC 7.3, Block: a press is rejected where no channel is free; 7.6: stop releases every held key, by rising key"
+    )?;
+    let mut model = of_two(out, PoolingMode::Block)?;
     press(out, &mut model, 1, 440.0)?;
     press(out, &mut model, 2, 450.0)?;
     press(out, &mut model, 3, 460.0)?;
@@ -231,7 +178,11 @@ fn block(out: &mut impl Write) -> io::Result<()> {
 }
 
 fn ignore(out: &mut impl Write) -> io::Result<()> {
-    let mut model = of_two(out, "ignore", PoolingMode::Ignore)?;
+    writeln!(
+        out,
+        "-- SPEC 7.3, Ignore: the key that has held longest loses its channel but stays held; its release frees nothing"
+    )?;
+    let mut model = of_two(out, PoolingMode::Ignore)?;
     press(out, &mut model, 1, 440.0)?;
     press(out, &mut model, 2, 450.0)?;
     press(out, &mut model, 3, 460.0)?;
@@ -243,13 +194,11 @@ fn ignore(out: &mut impl Write) -> io::Result<()> {
 }
 
 fn letters(out: &mut impl Write) -> io::Result<()> {
-    let mut model = open(
+    writeln!(
         out,
-        "letters",
-        &[3],
-        PoolGroupBy::NoteLetter,
-        PoolingMode::Stop,
+        "-- SPEC 7.1: with letter groups each letter has a pool of its own"
     )?;
+    let mut model = open(out, &[3], PoolGroupBy::NoteLetter, PoolingMode::Stop)?;
     press(out, &mut model, 200, 440.0)?;
     press(out, &mut model, 201, 450.0)?;
     press(out, &mut model, 202, 880.0)?;
@@ -262,33 +211,28 @@ fn letters(out: &mut impl Write) -> io::Result<()> {
 // A press in a pool of such channels.
 fn one_press(
     out: &mut impl Write,
-    name: &str,
     channels: &[u8],
     group_by: PoolGroupBy,
     pooling_mode: PoolingMode,
 ) -> io::Result<()> {
-    let mut model = open(out, name, channels, group_by, pooling_mode)?;
+    let mut model = open(out, channels, group_by, pooling_mode)?;
     press(out, &mut model, 1, 440.0)
 }
 
 fn no_channels(out: &mut impl Write) -> io::Result<()> {
-    one_press(
+    writeln!(
         out,
-        "no channels",
-        &[],
-        PoolGroupBy::Channel,
-        PoolingMode::Stop,
+        "-- SPEC 7.3: without channels every press is rejected; 2.2: a channel list is refused entry by entry (6), (7)"
     )?;
+    one_press(out, &[], PoolGroupBy::Channel, PoolingMode::Stop)?;
     one_press(
         out,
-        "refused channels",
         &[2, 16, 2],
         PoolGroupBy::NoteLetter,
         PoolingMode::Ignore,
     )?;
     one_press(
         out,
-        "repeated channels",
         &[2, 3, 2, 16],
         PoolGroupBy::Channel,
         PoolingMode::Block,
@@ -296,7 +240,11 @@ fn no_channels(out: &mut impl Write) -> io::Result<()> {
 }
 
 fn refusals(out: &mut impl Write) -> io::Result<()> {
-    let mut model = of_two(out, "refusals", PoolingMode::Stop)?;
+    writeln!(
+        out,
+        "-- SPEC 2.2: a press is refused (1), (11); 7.5: a repitch (1), also where the key is not held"
+    )?;
+    let mut model = of_two(out, PoolingMode::Stop)?;
     press(out, &mut model, 1, 440.0)?;
     press(out, &mut model, 1, 440.0)?;
     press(out, &mut model, 1, 0.0)?;
@@ -310,7 +258,11 @@ fn refusals(out: &mut impl Write) -> io::Result<()> {
 
 fn would_press(out: &mut impl Write, model: &JitTuningModel, key: u8, hz: f64) -> io::Result<()> {
     let answer = model.allocate_key(key, Pitch::from_hz(hz));
-    writeln!(out, "  would press {key}: {}", told(answer))
+    writeln!(
+        out,
+        "  a press of key {key} at {hz:?} Hz would give: {}",
+        press_answer(answer)
+    )
 }
 
 fn press_note(
@@ -320,13 +272,19 @@ fn press_note(
     note: i32,
 ) -> io::Result<()> {
     let answer = model.register_note(key, note, 1.0);
-    writeln!(out, "  press {key}: {}", told(answer))
+    writeln!(
+        out,
+        "  press key {key} for note {note}, detuning 1.0: {}",
+        press_answer(answer)
+    )
 }
 
-// What a press would answer changes nothing, and a press for its note is that press.
 fn in_place(out: &mut impl Write) -> io::Result<()> {
-    writeln!(out, "in place")?;
-    let (mut model, _) = JitTuningModel::open(&[0, 1], PoolGroupBy::Channel, PoolingMode::Stop);
+    writeln!(
+        out,
+        "-- SPEC 7.2: what a press would answer changes nothing; one for a note and a detuning takes that note, refused (4), (11)"
+    )?;
+    let mut model = of_two(out, PoolingMode::Stop)?;
     would_press(out, &model, 1, 440.0)?;
     look(out, &model, 1)?;
     press_note(out, &mut model, 1, 69)?;
@@ -340,6 +298,7 @@ fn in_place(out: &mut impl Write) -> io::Result<()> {
     look(out, &model, 1)?;
     release(out, &mut model, 2)?;
     model.stop();
+    writeln!(out, "  stop")?;
     look(out, &model, 3)
 }
 

@@ -1,15 +1,30 @@
 // What the engine answers, in words.
-use crate::decimal::Decimal;
+
+ghost use Rattle.std.specs.Prelude.{◌≡◌};
+
+use crate::decimal::{Float, Form};
 use arithmetic::refusal::Refusal;
 use arithmetic::tuning::Approximation;
-use channels::keys::HeldKey;
+use channels::keys::{HeldKey, Place};
 use channels::list::ChannelList;
 use channels::tuning_value::Tuning;
 use plans::aot::Planned;
+use plans::lists::{NoteLists, PitchLists};
 use pools::jit::{Registered, Repitched};
-use show::Hex;
-pub use show::{Answer, At, Or};
 use std::fmt;
+
+// What a call answers, or its refusal.
+#[derive(Clone, Copy)]
+pub struct Answer<T, E>(pub Result<T, E>);
+
+impl<T: fmt::Display, E: fmt::Display> fmt::Display for Answer<T, E> {
+    fn fmt<W: fmt::Write>(&self, f: &mut fmt::Formatter<W>) -> fmt::Result {
+        match &self.0 {
+            Ok(answer) => write!(f, "{answer}"),
+            Err(refusal) => write!(f, "{refusal}"),
+        }
+    }
+}
 
 // A refusal by its number, in words.
 #[derive(Clone, Copy)]
@@ -18,6 +33,39 @@ pub struct Refused(pub Refusal);
 impl fmt::Display for Refused {
     fn fmt<W: fmt::Write>(&self, f: &mut fmt::Formatter<W>) -> fmt::Result {
         write!(f, "refused ({})", self.0.number())
+    }
+}
+
+// The same shorter, as R4.
+#[derive(Clone, Copy)]
+pub struct Code(pub Refusal);
+
+impl fmt::Display for Code {
+    fn fmt<W: fmt::Write>(&self, f: &mut fmt::Formatter<W>) -> fmt::Result {
+        write!(f, "R{}", self.0.number())
+    }
+}
+
+// What there is, or words for nothing.
+#[derive(Clone, Copy)]
+pub struct Or<T>(pub Option<T>, pub &'static str);
+
+impl<T: fmt::Display> fmt::Display for Or<T> {
+    fn fmt<W: fmt::Write>(&self, f: &mut fmt::Formatter<W>) -> fmt::Result {
+        match &self.0 {
+            Some(x) => write!(f, "{x}"),
+            None => write!(f, "{}", self.1),
+        }
+    }
+}
+
+// Nothing where a call by value did the same as the call in place, else words.
+#[derive(Clone, Copy)]
+pub struct ByValue(pub bool);
+
+impl fmt::Display for ByValue {
+    fn fmt<W: fmt::Write>(&self, f: &mut fmt::Formatter<W>) -> fmt::Result {
+        write!(f, "{}", if self.0 { "" } else { " by value: another" })
     }
 }
 
@@ -42,16 +90,16 @@ impl fmt::Display for Semitones {
 }
 
 #[derive(Clone, Copy)]
-pub struct Hertz(pub f64);
+pub struct Hertz(pub f64, pub Form);
 
 impl fmt::Display for Hertz {
     fn fmt<W: fmt::Write>(&self, f: &mut fmt::Formatter<W>) -> fmt::Result {
-        write!(f, "{} Hz", Decimal(self.0))
+        write!(f, "{} Hz", Float(self.0, self.1))
     }
 }
 
 #[derive(Clone, Copy)]
-pub struct Nearest(pub Approximation);
+pub struct Nearest(pub Approximation, pub Form);
 
 impl fmt::Display for Nearest {
     fn fmt<W: fmt::Write>(&self, f: &mut fmt::Formatter<W>) -> fmt::Result {
@@ -60,12 +108,36 @@ impl fmt::Display for Nearest {
             f,
             "note {}, detuning {}",
             nearest.note.number(),
-            Decimal(nearest.detuning)
+            Float(nearest.detuning, self.1)
         )
     }
 }
 
 // ---- channels and keys
+
+// Where a key is found.
+#[derive(Clone, Copy, PartialEq, Eq)]
+pub struct At {
+    channel: u8,
+    note: i32,
+}
+
+impl From<Place> for At {
+    ghost from_gives = { λ place at. (at.channel ≡ place.channel) × (at.note ≡ place.note.number) };
+
+    fn from(place: Place) -> At {
+        At {
+            channel: place.channel,
+            note: place.note.number(),
+        }
+    }
+}
+
+impl fmt::Display for At {
+    fn fmt<W: fmt::Write>(&self, f: &mut fmt::Formatter<W>) -> fmt::Result {
+        write!(f, "channel {}, note {}", self.channel, self.note)
+    }
+}
 
 #[derive(Clone, Copy)]
 pub struct Listed(pub ChannelList);
@@ -94,7 +166,7 @@ pub struct Held(pub HeldKey);
 impl fmt::Display for Held {
     fn fmt<W: fmt::Write>(&self, f: &mut fmt::Formatter<W>) -> fmt::Result {
         let held = &self.0;
-        write!(f, "key {}, {}", held.key, At(held.place))
+        write!(f, "key {}, {}", held.key, At::from(held.place))
     }
 }
 
@@ -112,27 +184,52 @@ impl fmt::Display for Plan {
     }
 }
 
+// What a plan is asked for: a list of notes, and one of pitches.
+#[derive(Clone, Copy)]
+pub struct ListedNotes<'a>(pub NoteLists<'a>);
+
+impl fmt::Display for ListedNotes<'_> {
+    fn fmt<W: fmt::Write>(&self, f: &mut fmt::Formatter<W>) -> fmt::Result {
+        let NoteLists {
+            keys,
+            notes,
+            detunings,
+        } = self.0;
+        write!(f, "keys {keys:?}, notes {notes:?}, detunings {detunings:?}")
+    }
+}
+
+#[derive(Clone, Copy)]
+pub struct ListedPitches<'a>(pub PitchLists<'a>);
+
+impl fmt::Display for ListedPitches<'_> {
+    fn fmt<W: fmt::Write>(&self, f: &mut fmt::Formatter<W>) -> fmt::Result {
+        let PitchLists { keys, pitches } = self.0;
+        write!(f, "keys {keys:?}, pitches {pitches:?} Hz")
+    }
+}
+
 // A group's number and its detuning.
 #[derive(Clone, Copy)]
-pub struct Entry(pub (i32, f64));
+pub struct Entry(pub (i32, f64), pub Form);
 
 impl fmt::Display for Entry {
     fn fmt<W: fmt::Write>(&self, f: &mut fmt::Formatter<W>) -> fmt::Result {
         let (group, detuning) = self.0;
-        write!(f, "group {group}, detuning {}", Decimal(detuning))
+        write!(f, "group {group}, detuning {}", Float(detuning, self.1))
     }
 }
 
 // ---- pools
 
 #[derive(Clone, Copy)]
-pub struct Pressed(pub Registered);
+pub struct Pressed(pub Registered, pub Form);
 
 impl fmt::Display for Pressed {
     fn fmt<W: fmt::Write>(&self, f: &mut fmt::Formatter<W>) -> fmt::Result {
         let press = &self.0;
         let note = press.started_note.number();
-        let detuning = Decimal(press.detuning);
+        let detuning = Float(press.detuning, self.1);
         write!(
             f,
             "channel {}, note {note}, detuning {detuning}",
@@ -146,7 +243,7 @@ impl fmt::Display for Pressed {
 }
 
 #[derive(Clone, Copy)]
-pub struct Retuned(pub Repitched);
+pub struct Retuned(pub Repitched, pub Form);
 
 impl fmt::Display for Retuned {
     fn fmt<W: fmt::Write>(&self, f: &mut fmt::Formatter<W>) -> fmt::Result {
@@ -154,13 +251,39 @@ impl fmt::Display for Retuned {
         write!(
             f,
             "{}, detuning {}",
-            At(repitched.place),
-            Decimal(repitched.detuning)
+            At::from(repitched.place),
+            Float(repitched.detuning, self.1)
         )
     }
 }
 
 // ---- messages and tuners
+
+// How many bytes a call wrote.
+#[derive(Clone, Copy)]
+pub struct Written(pub usize);
+
+impl fmt::Display for Written {
+    fn fmt<W: fmt::Write>(&self, f: &mut fmt::Formatter<W>) -> fmt::Result {
+        write!(f, "{} bytes", self.0)
+    }
+}
+
+// Bytes in hexadecimal, with spaces between them.
+#[derive(Clone, Copy)]
+pub struct Hex<'a>(pub &'a [u8]);
+
+impl fmt::Display for Hex<'_> {
+    fn fmt<W: fmt::Write>(&self, f: &mut fmt::Formatter<W>) -> fmt::Result {
+        for (i, byte) in self.0.iter().enumerate() {
+            if i != 0 {
+                write!(f, " ")?;
+            }
+            write!(f, "{byte:02x}")?;
+        }
+        Ok(())
+    }
+}
 
 // The bytes that a call wrote.
 #[derive(Clone, Copy)]

@@ -1,5 +1,4 @@
-// An f64 in decimal: exact where it ends within six digits behind the point, else cut off and followed by three points. A number that is no whole number of
-// 2^-60, or 2^64 or more, is written as a whole number times a power of two, which is exact.
+// An f64 in decimal.
 use std::fmt;
 use std::num::{f64_to_bits_with_nan, nearest_u64_to_f64, saturating_f64_to_u64};
 
@@ -15,7 +14,31 @@ const SIGN: u64 = 0x8000_0000_0000_0000;
 
 const FRACTION: u64 = 0x10_0000_0000_0000;
 
-// A number in decimal.
+// How much of a number is written.
+#[derive(Clone, Copy)]
+pub enum Form {
+    // As `Decimal`.
+    CutOff,
+    // The shortest decimal fraction that the number is nearest to (SPEC 1.8), and its sixteen hexadecimal digits.
+    WithBits,
+}
+
+#[derive(Clone, Copy)]
+pub struct Float(pub f64, pub Form);
+
+impl fmt::Display for Float {
+    fn fmt<W: fmt::Write>(&self, f: &mut fmt::Formatter<W>) -> fmt::Result {
+        let Float(x, form) = *self;
+        match form {
+            Form::CutOff => write!(f, "{}", Decimal(x)),
+            Form::WithBits if x.is_nan() => write!(f, "NaN"),
+            Form::WithBits => write!(f, "{x:?} ({:016X})", x.to_bits()),
+        }
+    }
+}
+
+// Exact where it ends within six digits behind the point, else cut off and followed by three points. A number that is no whole number of 2^-60, or 2^64 or
+// more, is written as a whole number times a power of two, which is exact.
 #[derive(Clone, Copy)]
 pub struct Decimal(pub f64);
 

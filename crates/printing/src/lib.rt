@@ -1,4 +1,4 @@
-// What the program `examples` prints with: the engine's answers in words, and an f64 in decimal.
+// What the test programs and `examples` print with: the engine's answers in words, and an f64 in decimal.
 #![tactic(auto)]
 
 pub mod answers;

@@ -1,162 +1,104 @@
-// Replays a stored list of questions, which the comparison's driver wrote without asking this port. Standard input has them as numbers: their count, and
-// on a line for each its kind (1 to 6) and its parts. What is written is held to the file `stdout`. A line there is the Rust's answer. Where the port's rules
-// want another, the line has that, and behind `#` what the Rust answers and why the two differ: the whole answer, or what stands in it between two commas,
-// by its number from 0. The question has the same remark, which is written behind the answer as it is.
+// Replays a stored list of questions, which the comparison's driver wrote without asking this port. What is written is held to the file `stdout`: the lines of
+// the list, with a colon and its answer behind each. A line of the list is one of these, where N is a number in decimal, and commas may be left out:
+//
+//     nearest N mHz                                           the note nearest to a pitch in millihertz
+//     values of N millionths                                  the fine value and the bend of a detuning
+//     plan by GROUP, channels N                               a plan, on so many channels from 0, of the keys below it
+//         key N at N mHz                                      a key of the plan: where it is found
+//     pool by GROUP, mode MODE, channels N                    a pool, and what happens to it, in the lines below
+//         press key N at N mHz
+//         release key N
+//         lookup key N
+//     plan tuner by KIND, channels N                          the bytes of a plan's tuning
+//         key N at N mHz, velocity N                          a key of the plan: the bytes of a press
+//     pool tuner by KIND, mode MODE, channels N               the bytes of each event
+//         press key N at N mHz, velocity N
+//         release key N, velocity N
+//         repitch key N at N mHz
+//         pressure key N, value N
+//         stop
+//
+// GROUP is Note, NoteLetter or Channel, a pool's NoteLetter or Channel; MODE is Block, Stop or Ignore; KIND is FineTuning or Bend. A blank line ends a plan,
+// a pool or a tuner. What stands behind # is a remark, and is written behind the answer as it is: where the rules want another answer than the Rust's, it has
+// the Rust's, and why the two differ.
 // A function is given what it plays and where it writes: a struct of both would be no plainer.
 #![tactic(auto)]
 
-mod input;
+mod answers;
+mod line;
+mod models;
 mod tuners;
+mod words;
 
-use crate::input::Input;
-use crate::tuners::{plan_tuner, pool_tuner};
-use arithmetic::pitch::{Pitch, Ratio};
-use arithmetic::refusal::Refusal;
+use crate::answers::Values;
+use crate::line::Line;
+use crate::models::{open_plan, open_pool, replay_plan, replay_pool};
+use crate::tuners::{open_plan_tuner, open_pool_tuner, replay_plan_tuner, replay_pool_tuner};
+use crate::words::{float, pitch_of};
+use arithmetic::pitch::Ratio;
 use arithmetic::tuning::find_by_pitch;
-use channels::keys::Place;
-use channels::tuning_value::{Tuning, TuningKind, tuning_of};
-use plans::aot::{AotTuningModel, GroupBy, Planned};
-use plans::lists::PitchLists;
-use pools::jit::{JitTuningModel, PoolGroupBy, PoolingMode, Registered};
-use show::{Answer, Code, Or, Spot};
+use channels::tuning_value::{TuningKind, tuning_of};
+use printing::answers::{Answer, Code, Note};
 use std::alloc::Global;
-use std::io::{BufWriter, Read, Write};
-use std::{fmt, io};
-
-const CHANNELS: [u8; 16] = [0, 1, 2, 3, 4, 5, 6, 7, 8, 9, 10, 11, 12, 13, 14, 15];
+use std::io;
+use std::io::{BufWriter, Write};
 
 fn main(rt: HostRuntime) -> io::Result<()> {
-    let mut text = Vec::new(rt.alloc());
-    rt.reader().read_to_end(&mut text)?;
-    let mut out = BufWriter::new(rt.alloc(), rt.stdout())?;
-    let mut input = Input::new(&text);
-    for _ in 0..input.number() {
-        replay(&mut out, &mut input, rt.alloc())?;
-        out.write_all(input.remark())?;
+    let alloc = rt.alloc();
+    let text = io::read_to_string(alloc, rt.reader())?;
+    let mut out = BufWriter::new(alloc, rt.stdout())?;
+    for paragraph in text.trim_end().split("\n\n") {
+        replay(&mut out, paragraph, alloc)?;
         writeln!(out)?;
     }
     out.flush()
 }
 
-// The answer to the next question. Which it is stands there in numbers, as the file has them.
-fn replay(out: &mut impl Write, input: &mut Input<'_>, alloc: Global) -> io::Result<()> {
-    match input.number() {
-        1 => nearest(out, input),
-        2 => values(out, input),
-        3 => plan(out, input, alloc),
-        4 => pool(out, input),
-        5 => pool_tuner(out, input),
-        _ => plan_tuner(out, input, alloc),
+// The lines between two blank ones, with their answers.
+fn replay(out: &mut impl Write, paragraph: &str, alloc: Global) -> io::Result<()> {
+    let mut lines = Vec::new(alloc);
+    for text in paragraph.lines() {
+        lines.push(Line::of(text, alloc)?)?;
     }
-}
-
-// The first channels of all.
-fn channels(present: u64) -> &'static [u8] {
-    CHANNELS.get(..present as usize).unwrap_or(&[])
-}
-
-// A pitch in millihertz: its nearest note.
-fn nearest(out: &mut impl Write, input: &mut Input<'_>) -> io::Result<()> {
-    let nearest = find_by_pitch(Pitch::from_hz(input.hertz()));
-    let note = nearest.map(|nearest| nearest.note.number());
-    write!(out, "note {}", Answer(note.map_err(Code)))
-}
-
-// A detuning in millionths: its fine value and its bend.
-fn values(out: &mut impl Write, input: &mut Input<'_>) -> io::Result<()> {
-    let ratio = Ratio::from_float(input.float() / 1000000.0);
-    let fine = tuning_of(TuningKind::FineTuning, ratio)
-        .map(steps)
-        .map_err(Code);
-    let bend = tuning_of(TuningKind::Bend, ratio).map(steps).map_err(Code);
-    write!(out, "values {} {}", Answer(fine), Answer(bend))
-}
-
-fn steps(tuning: Tuning) -> i32 {
-    match tuning {
-        Tuning::Fine(n) => n as i32,
-        Tuning::Bend(n) => n as i32,
-    }
-}
-
-// The kind of group, the count of channels, the count of keys, and each key with its pitch in millihertz: the answer, and each key's channel and note.
-fn plan(out: &mut impl Write, input: &mut Input<'_>, alloc: Global) -> io::Result<()> {
-    let group_by: GroupBy = input.setting();
-    let (mut model, _) = AotTuningModel::open(channels(input.number()), group_by);
-    let (keys, pitches) = input.lines(alloc)?;
-    let lists = PitchLists {
-        keys: &keys,
-        pitches: &pitches,
+    let Some((heading, below)) = lines.split_first() else {
+        return Ok(());
     };
-    write!(out, "{}", Outcome(model.set_tuning(&lists)))?;
-    for key in &keys {
-        write!(out, "{}", Found(model.access_key(*key)))?;
+    if let Some(model) = open_plan(&heading.words) {
+        replay_plan(out, model, heading, below, alloc)
+    } else if let Some(model) = open_pool(&heading.words) {
+        replay_pool(out, model, heading, below)
+    } else if let Some(tuner) = open_plan_tuner(&heading.words) {
+        replay_plan_tuner(out, tuner, heading, below, alloc)
+    } else if let Some(tuner) = open_pool_tuner(&heading.words) {
+        replay_pool_tuner(out, tuner, heading, below)
+    } else {
+        replay_questions(out, &lines)
     }
-    Ok(())
 }
 
-// 1 for letters, the mode, the count of channels, the count of events, and each event: 0 a press, 1 a release, else a lookup, the key, the pitch.
-fn pool(out: &mut impl Write, input: &mut Input<'_>) -> io::Result<()> {
-    // The file has the engine's numbers for these two the other way round.
-    let group_by = match input.number() {
-        1 => PoolGroupBy::NoteLetter,
-        _ => PoolGroupBy::Channel,
-    };
-    let mode: PoolingMode = input.setting();
-    let (mut model, _) = JitTuningModel::open(channels(input.number()), group_by, mode);
-    write!(out, "pool")?;
-    for _ in 0..input.number() {
-        let event = input.number();
-        let key = input.byte();
-        let pitch = Pitch::from_hz(input.hertz());
-        match event {
-            0 => write!(out, "{}", Press(model.register_key(key, pitch)))?,
-            1 => write!(out, "{}", Found(model.deregister_key(key)))?,
-            _ => write!(out, "{}", Found(model.access_key(key)))?,
+// Lines of which each is a question of its own, or a remark.
+fn replay_questions(out: &mut impl Write, lines: &[Line<'_>]) -> io::Result<()> {
+    for line in lines {
+        match *line.words {
+            ["nearest", pitch, "mHz"] => line.answer(out, nearest(pitch))?,
+            ["values", "of", detuning, "millionths"] => line.answer(out, values(detuning))?,
+            ["#", ..] => line.copy(out)?,
+            _ => line.answer(out, None::<Note>)?,
         }
     }
     Ok(())
 }
 
-// ---- what is written of an answer, behind the one before
-
-#[derive(Clone, Copy)]
-struct Outcome(Result<Planned, Refusal>);
-
-impl fmt::Display for Outcome {
-    fn fmt<W: fmt::Write>(&self, f: &mut fmt::Formatter<W>) -> fmt::Result {
-        match self.0 {
-            Ok(Planned::Tuned(count)) => write!(f, "tuned {count}"),
-            Ok(Planned::Untuned(count)) => write!(f, "untuned {count}"),
-            Err(refusal) => write!(f, " {}", Code(refusal)),
-        }
-    }
+fn nearest(millihertz: &str) -> Option<Answer<Note, Code>> {
+    let nearest = find_by_pitch(pitch_of(millihertz)?);
+    let note = nearest.map(|nearest| Note(nearest.note.number()));
+    Some(Answer(note.map_err(Code)))
 }
 
-#[derive(Clone, Copy)]
-struct Press(Result<Option<Registered>, Refusal>);
-
-impl fmt::Display for Press {
-    fn fmt<W: fmt::Write>(&self, f: &mut fmt::Formatter<W>) -> fmt::Result {
-        match self.0 {
-            Ok(Some(press)) => {
-                write!(f, ", {} {}", press.channel, press.started_note.number())?;
-                match press.stopped_note {
-                    Some(note) => write!(f, " stops {}", note.number()),
-                    None => Ok(()),
-                }
-            }
-            Ok(None) => write!(f, ", rejected"),
-            Err(refusal) => write!(f, " {}", Code(refusal)),
-        }
-    }
-}
-
-#[derive(Clone, Copy)]
-struct Found(Option<Place>);
-
-impl fmt::Display for Found {
-    fn fmt<W: fmt::Write>(&self, f: &mut fmt::Formatter<W>) -> fmt::Result {
-        write!(f, ", {}", Or(self.0.map(Spot), "-"))
-    }
+fn values(millionths: &str) -> Option<Values> {
+    let detuning = Ratio::from_float(float(millionths)? / 1000000.0);
+    Some(Values {
+        fine: tuning_of(TuningKind::FineTuning, detuning),
+        bend: tuning_of(TuningKind::Bend, detuning),
+    })
 }

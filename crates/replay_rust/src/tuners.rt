@@ -1,92 +1,174 @@
-// The bytes of tuners: of each call a comma and what it sent.
+// The tuners, by the bytes that they send.
 
-use crate::channels;
-use crate::input::Input;
+use crate::answers::Sent;
+use crate::line::Line;
+use crate::words::{byte, first_channels, keys_of, mode, pitch_of, tuning_kind};
 use arithmetic::pitch::Pitch;
 use arithmetic::refusal::Refusal;
-use channels::tuning_value::TuningKind;
 use plan_tuner::aot::{AotTuner, PlanSent};
+use plans::aot::Planned;
 use plans::lists::PitchLists;
-use pools::jit::PoolingMode;
+use printing::answers::{Code, Plan};
+use senders::event::{Event, EventKind};
 use senders::jit::JitTuner;
-use show::{Code, Hex};
 use std::alloc::Global;
 use std::io::Write;
 use std::{fmt, io};
 
-const VELOCITY: u8 = 64;
+// ---- plan tuners
 
-// 1 for bends, the mode, the count of channels, the count of calls, and each call: 0 a press, 1 a release, 2 a repitch, 3 a pressure, else a stop; the
-// key, the pitch, the velocity or pressure.
-pub fn pool_tuner(out: &mut impl Write, input: &mut Input<'_>) -> io::Result<()> {
-    let kind: TuningKind = input.setting();
-    let mode: PoolingMode = input.setting();
-    let (mut tuner, _) = JitTuner::start(channels(input.number()), kind, mode);
-    write!(out, "pool tuner")?;
-    for _ in 0..input.number() {
-        let call = input.number();
-        let key = input.byte();
-        let pitch = Pitch::from_hz(input.hertz());
-        let value = input.byte();
-        let mut buffer = [0u8; 1024];
-        // Numbers, as the file has them.
-        let answer = match call {
-            0 => tuner.note_on(key, pitch, value, &mut buffer),
-            1 => tuner.note_off(key, value, &mut buffer).map(Some),
-            2 => tuner.note_pitch(key, pitch, &mut buffer).map(Some),
-            3 => tuner.note_attr(key, value, &mut buffer).map(Some),
-            _ => tuner.stop(&mut buffer).map(Some),
-        };
-        write!(out, "{}", Sent::of(answer, &buffer))?;
+pub fn open_plan_tuner(heading: &[&str]) -> Option<AotTuner> {
+    match *heading {
+        ["plan", "tuner", "by", kind, "channels", count] => {
+            let (tuner, _) = AotTuner::start(first_channels(count)?, tuning_kind(kind)?);
+            Some(tuner)
+        }
+        _ => None,
     }
-    Ok(())
 }
 
-// 1 for bends, the count of channels, the count of keys, and each key with its pitch in millihertz: the tuning, and a press of each key.
-pub fn plan_tuner(out: &mut impl Write, input: &mut Input<'_>, alloc: Global) -> io::Result<()> {
-    let kind: TuningKind = input.setting();
-    let (mut tuner, _) = AotTuner::start(channels(input.number()), kind);
-    let (keys, pitches) = input.lines(alloc)?;
+// The bytes of a plan of the keys, and of a press of each of them.
+pub fn replay_plan_tuner(
+    out: &mut impl Write,
+    mut tuner: AotTuner,
+    heading: &Line<'_>,
+    lines: &[Line<'_>],
+    alloc: Global,
+) -> io::Result<()> {
+    let (keys, pitches) = keys_of(lines, alloc)?;
     let lists = PitchLists {
         keys: &keys,
         pitches: &pitches,
     };
-    write!(out, "plan tuner")?;
     let mut buffer = [0u8; 256];
-    match tuner.set_tuning(&lists, &mut buffer) {
-        Ok(PlanSent::Tuned { channels, written }) => {
-            let sent = Sent::of(Ok(Some(written)), &buffer);
-            write!(out, " {channels}{sent}")?;
-        }
-        Ok(PlanSent::Untuned(channels)) => write!(out, " untuned {channels}")?,
-        Err(refusal) => write!(out, " {}", Code(refusal))?,
-    }
-    for key in &keys {
+    let answer = tuner.set_tuning(&lists, &mut buffer);
+    let sent = PlanTuned {
+        answer,
+        buffer: &buffer,
+    };
+    heading.answer(out, Some(sent))?;
+    for line in lines {
         let mut buffer = [0u8; 16];
-        let answer = tuner.note_on(*key, VELOCITY, &mut buffer).map(Some);
-        write!(out, "{}", Sent::of(answer, &buffer))?;
+        let answer = press(&tuner, &line.words, &mut buffer);
+        let sent = answer.map(|answer| Sent::of(answer.map(Some), &buffer));
+        line.answer(out, sent)?;
     }
     Ok(())
 }
 
-// What a call sent, or nothing for a press that is rejected.
-#[derive(Clone, Copy)]
-struct Sent<'a>(Result<Option<&'a [u8]>, Refusal>);
-
-impl<'a> Sent<'a> {
-    // Of how many bytes stand at the start of the buffer that was lent to it.
-    fn of(answer: Result<Option<usize>, Refusal>, buffer: &'a [u8]) -> Sent<'a> {
-        Sent(answer.map(|sent| sent.map(|count| buffer.get(..count).unwrap_or(&[]))))
+// A press of a key of the plan.
+fn press(tuner: &AotTuner, words: &[&str], buffer: &mut [u8]) -> Option<Result<usize, Refusal>> {
+    match *words {
+        ["key", key, "at", _, "mHz", "velocity", velocity] => {
+            Some(tuner.note_on(byte(key)?, byte(velocity)?, buffer))
+        }
+        _ => None,
     }
 }
 
-impl fmt::Display for Sent<'_> {
+// What a tuning came to, and the bytes that it sent.
+#[derive(Clone, Copy)]
+struct PlanTuned<'a> {
+    answer: Result<PlanSent, Refusal>,
+    buffer: &'a [u8],
+}
+
+impl fmt::Display for PlanTuned<'_> {
     fn fmt<W: fmt::Write>(&self, f: &mut fmt::Formatter<W>) -> fmt::Result {
-        match self.0 {
-            Ok(Some([])) => write!(f, ", -"),
-            Ok(Some(bytes)) => write!(f, ", {}", Hex(bytes)),
-            Ok(None) => write!(f, ", rejected"),
-            Err(refusal) => write!(f, " {}", Code(refusal)),
+        match self.answer {
+            Ok(PlanSent::Tuned { channels, written }) => {
+                let plan = Plan(Planned::Tuned(channels));
+                write!(f, "{plan}: {}", Sent::of(Ok(Some(written)), self.buffer))
+            }
+            Ok(PlanSent::Untuned(channels)) => write!(f, "{}", Plan(Planned::Untuned(channels))),
+            Err(refusal) => write!(f, "{}", Code(refusal)),
         }
     }
+}
+
+// ---- pool tuners
+
+pub fn open_pool_tuner(heading: &[&str]) -> Option<JitTuner> {
+    match *heading {
+        [
+            "pool",
+            "tuner",
+            "by",
+            kind,
+            "mode",
+            pooling_mode,
+            "channels",
+            count,
+        ] => {
+            let channels = first_channels(count)?;
+            let (tuner, _) = JitTuner::start(channels, tuning_kind(kind)?, mode(pooling_mode)?);
+            Some(tuner)
+        }
+        _ => None,
+    }
+}
+
+pub fn replay_pool_tuner(
+    out: &mut impl Write,
+    mut tuner: JitTuner,
+    heading: &Line<'_>,
+    lines: &[Line<'_>],
+) -> io::Result<()> {
+    heading.copy(out)?;
+    for line in lines {
+        let mut buffer = [0u8; 1024];
+        let answer = perform(&mut tuner, &line.words, &mut buffer);
+        let sent = answer.map(|answer| Sent::of(answer, &buffer));
+        line.answer(out, sent)?;
+    }
+    Ok(())
+}
+
+// The call that a line asks for, and what it answers.
+fn perform(
+    tuner: &mut JitTuner,
+    words: &[&str],
+    buffer: &mut [u8],
+) -> Option<Result<Option<usize>, Refusal>> {
+    if let Some(event) = event_of(words) {
+        return Some(tuner.play(event, buffer));
+    }
+    match *words {
+        ["pressure", "key", key, "value", pressure] => {
+            let answer = tuner.note_attr(byte(key)?, byte(pressure)?, buffer);
+            Some(answer.map(Some))
+        }
+        ["stop"] => Some(tuner.stop(buffer).map(Some)),
+        _ => None,
+    }
+}
+
+fn event_of(words: &[&str]) -> Option<Event> {
+    // What stands in a release, which has none.
+    let no_pitch = Pitch::from_hz(0.0);
+    let (kind, key, pitch, velocity) = match *words {
+        [
+            "press",
+            "key",
+            key,
+            "at",
+            pitch,
+            "mHz",
+            "velocity",
+            velocity,
+        ] => { (EventKind::Press, key, pitch_of(pitch)?, byte(velocity)?) }
+        ["release", "key", key, "velocity", velocity] => {
+            (EventKind::Release, key, no_pitch, byte(velocity)?)
+        }
+        ["repitch", "key", key, "at", pitch, "mHz"] => {
+            (EventKind::Repitch, key, pitch_of(pitch)?, 0)
+        }
+        _ => return None,
+    };
+    Some(Event {
+        kind,
+        key: byte(key)?,
+        pitch,
+        velocity,
+    })
 }

@@ -1,8 +1,8 @@
--- Channel messages, as the MIDI 1.0 Detailed Specification 4.2.1 has them. Assumes nothing.
+-- Channel messages, SPEC 8.1, as the MIDI 1.0 Detailed Specification 4.2.1 has them.
 use Rattle.std.specs.Prelude.{◌≡◌, Bool, true, ◌&&◌, List, [], ◌∷◌, ℕ, ◌<◌, ltb, ℤ, pos, negsuc}
 use Rattle.std.specs.Int.Signed.{le_z}
 
--- the channel first, and then the data; a bend is counted from its centre
+-- The channel comes first, and then the data; a bend is counted from its centre.
 pub data Message : Type 0 where
   note_off : (channel key velocity : ℕ) → Message
   note_on : (channel key velocity : ℕ) → Message
@@ -15,15 +15,15 @@ pub data Message : Type 0 where
 abbrev pub is_channel : ℕ → Bool
 is_channel ch = ltb ch 16
 
--- 7 bits
+-- SPEC 8.1: a data byte has 7 bits.
 abbrev pub is_data : ℕ → Bool
 is_data b = ltb b 128
 
--- 14 bits around the centre: -8192 to 8191
+-- SPEC 8.2: a bend has 14 bits around its centre, -8192 to 8191.
 abbrev pub is_bend : ℤ → Bool
 is_bend b = le_z (negsuc 8191) b && le_z b (pos 8191)
 
--- the messages there are
+-- The messages that there are.
 abbrev pub Valid : Message → Type 0
 Valid (note_off ch k v) = (ch < 16) × (k < 128) × (v < 128)
 Valid (note_on ch k v) = (ch < 16) × (k < 128) × (v < 128)

@@ -31,7 +31,7 @@ impl DataByte {
 impl TryFrom<u8> for DataByte {
     type Error = Refusal;
 
-    // The data byte of a number. Refuses 8 a number over 127.
+    // The data byte of a number. Refuses 8 a number over 127 (SPEC 8.1).
     ghost try_from_gives = { λ number r. outcome_by (λ b. b.number) r ≡ data_rule number };
 
     fn try_from(number: u8) -> Result<DataByte, Refusal> {

@@ -1,21 +1,21 @@
-// The pool tuner: a pool model whose presses, releases and repitches are sent as they happen. Each call decides, tests its room, writes its bytes, and only then
-// changes the tuner.
+// The pool tuner: a pool model whose presses, releases and repitches are sent as they happen. Each call decides, tests its room, writes its bytes, and only
+// then changes the tuner (SPEC 9.1b).
 
 ghost use Rattle.std.specs.Prelude.{◌≡◌, true, Some};
 ghost use Rattle.std.specs.Float.Ieee.Positive.{positive};
 ghost use Rattle.arithmetic.specs.Answers.{outcome, outcome_by};
 ghost use Rattle.channels.specs.ChannelList.{entries};
 ghost use Rattle.channels.specs.Places.{place};
-ghost use Rattle.channels.specs.TuningValue.{kind_of, sent_as};
-ghost use Rattle.pools.specs.PoolAnswers.{told, stopped_note};
+ghost use Rattle.channels.specs.TuningValue.{tuning_kind_of, sent_as};
+ghost use Rattle.pools.specs.PoolAnswers.{registered_view, stopped_note};
 ghost use Rattle.pools.specs.Pool.{found};
-ghost use Rattle.senders.specs.Lent.{Answers, Steps, sent};
+ghost use Rattle.senders.specs.Buffer.{WriteMeets, CallMeets, sent};
 ghost use Rattle.senders.specs.Midi.{bytes_of};
 ghost use Rattle.senders.specs.Mts.{tuning_messages};
 ghost use Rattle.senders.specs.Records.{bytes_in};
 ghost use Rattle.senders.specs.Tuner.{stop_messages, key_rule};
 ghost use Rattle.senders.specs.Answers.{press_answer};
-ghost use Rattle.senders.specs.Jit.{view, start_rule, Starts, note_on_rule, note_off_rule, note_pitch_rule, note_attr_rule, global_attr_rule, stop_rule, sound_messages, release_messages};
+ghost use Rattle.senders.specs.Jit.{view, start_rule, StartMeets, note_on_rule, note_off_rule, note_pitch_rule, note_attr_rule, global_attr_rule, stop_rule, press_bytes, release_messages};
 
 use crate::data_byte::DataByte;
 use crate::midi::ChannelMessageType;
@@ -37,66 +37,67 @@ const LONGEST_PRESS: usize = RECORD_LEN + LONGEST_TUNING + RECORD_LEN;
 // A note-off of every key.
 const LONGEST_STOP: usize = KEYS * RECORD_LEN;
 
-// A tuner of a pool model. Every content is some tuner, since it lies in the memory of programs in C.
+// A tuner of a pool model (SPEC 9.1). Every content is some tuner, since it lies in the memory of programs in C (SPEC 12.1).
 #[repr(C)]
 #[derive(Clone, Copy)]
 pub struct JitTuner {
     pub model: JitTuningModel,
-    kind: u16,
+    tuning_kind: u16,
 }
 
 impl JitTuner {
     // A tuner of a model's channels.
-    pub fn of(model: JitTuningModel, kind: TuningKind) -> JitTuner
+    pub fn of(model: JitTuningModel, tuning_kind: TuningKind) -> JitTuner
         ensures model { result.model ≡ model }
-        ensures kind { kind_of result.kind ≡ kind }
+        ensures tuning_kind { tuning_kind_of result.tuning_kind ≡ tuning_kind }
     {
         JitTuner {
             model,
-            kind: u16::from(kind),
+            tuning_kind: u16::from(tuning_kind),
         }
     }
 
-    // A tuner of the channels of a list, in which no key is found. Refuses 6 or 7 as the channel list does; the tuner has no channels then.
+    // A tuner of the channels of a list, in which no key is found. Refuses 6 or 7 as the channel list does; the tuner has no channels then (SPEC 9.1a).
     // Example: JitTuner::start([0, 1], Bend, Stop) is channels listed 2
     pub fn start(
         channels: &[u8],
-        kind: TuningKind,
+        tuning_kind: TuningKind,
         pooling_mode: PoolingMode,
     ) -> (JitTuner, Result<ChannelList, Refusal>)
-        ensures { (outcome_by entries result.1, view result.0) ≡ start_rule channels.now kind pooling_mode }
+        ensures { (outcome_by entries result.1, view result.0) ≡ start_rule channels.now tuning_kind pooling_mode }
     {
         let (model, answer) = JitTuningModel::open(channels, PoolGroupBy::Channel, pooling_mode);
-        (JitTuner::of(model, kind), answer)
+        (JitTuner::of(model, tuning_kind), answer)
     }
 
-    // The tuner becomes one of the channels of a list, in which no key is found. Refuses 6 or 7 as the channel list does; the tuner stays then.
+    // The tuner becomes one of the channels of a list, in which no key is found. Refuses 6 or 7 as the channel list does; the tuner stays then (SPEC 9.1a).
     #[tactic(auto, unfolding(pools::specs::Pool::open_rule))]
     pub fn restart(
         &mut self,
         channels: &[u8],
-        kind: TuningKind,
+        tuning_kind: TuningKind,
         pooling_mode: PoolingMode,
     ) -> Result<ChannelList, Refusal>
-        ensures told { outcome_by entries result ≡ (start_rule channels.now kind pooling_mode).0 }
-        ensures started { let rule = start_rule channels.now kind pooling_mode in Starts rule.0 rule.1 self.old self.new }
+        ensures answer { outcome_by entries result ≡ (start_rule channels.now tuning_kind pooling_mode).0 }
+        ensures started { let rule = start_rule channels.now tuning_kind pooling_mode in StartMeets rule.0 rule.1 self.old self.new }
     {
         let list = ChannelList::of(channels)?;
         *self = JitTuner::of(
             JitTuningModel::new(list, PoolGroupBy::Channel, pooling_mode),
-            kind,
+            tuning_kind,
         );
         Ok(list)
     }
 
     // How the channels are tuned.
-    pub fn kind(&self) -> TuningKind
-        ensures { result ≡ kind_of self.now.kind }
+    pub fn tuning_kind(&self) -> TuningKind
+        ensures { result ≡ tuning_kind_of self.now.tuning_kind }
     {
-        TuningKind::from(self.kind)
+        TuningKind::from(self.tuning_kind)
     }
 
-    // A press: the note-off of the note it stops, the tuning, the note-on; how many bytes were sent, or nothing where no channel is free. Refuses 8, 1, 11, 10.
+    // A press: the note-off of the note that it stops, the tuning, the note-on. It answers how many bytes were sent, or nothing where no channel is free.
+    // Refuses 8, 1, 11, 10 (SPEC 9.2).
     // Example: JitTuner::start([0, 1], Bend, Stop); note_on(1, 445 Hz, 100) is e0 21 46 90 45 64
     // Example: JitTuner::start([0, 1], Bend, Stop); note_on(1, 440 Hz, 100) is e0 00 40 90 45 64
     pub fn note_on(
@@ -106,7 +107,7 @@ impl JitTuner {
         velocity: u8,
         out: &mut [u8],
     ) -> Result<Option<usize>, Refusal>
-        ensures { Steps view (note_on_rule (view self.old) key pitch.hz velocity) self.old out.old (press_answer result) self.new out.new }
+        ensures { CallMeets view (note_on_rule (view self.old) key pitch.hz velocity) self.old out.old (press_answer result) self.new out.new }
     {
         let velocity = DataByte::try_from(velocity)?;
         let Some(press) = self.model.allocate_key(key, pitch)? else {
@@ -118,21 +119,21 @@ impl JitTuner {
         Ok(Some(sent))
     }
 
-    // A release: the note-off of a key that is found. Refuses 8, 10.
+    // A release: the note-off of a key that is found. Refuses 8, 10 (SPEC 9.2a).
     // Example: JitTuner::start([0, 1], Bend, Stop); note_on(1, 440 Hz, 100); note_off(1, 64) is 80 45 40
     pub fn note_off(&mut self, key: u8, velocity: u8, out: &mut [u8]) -> Result<usize, Refusal>
-        ensures { Steps view (note_off_rule (view self.old) key velocity) self.old out.old (outcome result) self.new out.new }
+        ensures { CallMeets view (note_off_rule (view self.old) key velocity) self.old out.old (outcome result) self.new out.new }
     {
         let sent = self.send_key(key, NoteMessage::Off, velocity, out)?;
         self.model.deregister_key(key);
         Ok(sent)
     }
 
-    // The tuning of the channel of a key that is found, by the pitch. Refuses 1, and 10 where the key is found.
+    // The tuning of the channel of a key that is found, by the pitch. Refuses 1, and 10 where the key is found (SPEC 9.2b).
     // Example: JitTuner::start([0, 1], Bend, Stop); note_on(1, 440 Hz, 100); note_pitch(1, 445 Hz) is e0 21 46
-    #[tactic(auto, using(pools::proofs::PoolPresses::repitch_measurable))]
+    #[tactic(auto, using(pools::proofs::Pools::Presses::repitch_measurable))]
     pub fn note_pitch(&self, key: u8, pitch: Pitch, out: &mut [u8]) -> Result<usize, Refusal>
-        ensures { Answers (note_pitch_rule (view self.now) key pitch.hz) out.old (outcome result) out.new }
+        ensures { WriteMeets (note_pitch_rule (view self.now) key pitch.hz) out.old (outcome result) out.new }
     {
         let Some(repitch) = self.model.repitch_key(key, pitch)? else {
             return Ok(0);
@@ -144,32 +145,32 @@ impl JitTuner {
         send(tuning.as_slice(), out)
     }
 
-    // The pressure of a key that is found. Refuses 8, 10.
+    // The pressure of a key that is found. Refuses 8, 10 (SPEC 9.2c).
     pub fn note_attr(&self, key: u8, pressure: u8, out: &mut [u8]) -> Result<usize, Refusal>
-        ensures { Answers (note_attr_rule (view self.now) key pressure) out.old (outcome result) out.new }
+        ensures { WriteMeets (note_attr_rule (view self.now) key pressure) out.old (outcome result) out.new }
     {
         self.send_key(key, NoteMessage::Pressure, pressure, out)
     }
 
-    // A message to every channel, except bends of a tuner that tunes by bends. Refuses 8 from left, 9, also where nothing is sent, and 10.
+    // A message to every channel, except bends of a tuner that tunes by bends. Refuses 8 from the left, 9, also where nothing is sent, and 10 (SPEC 9.4).
     // Example: JitTuner::start([0, 1], Bend, Stop); global_attr(ControlChange(7, 90)) is b0 07 5a b1 07 5a
     pub fn global_attr(&self, message: ChannelMessageType, out: &mut [u8]) -> Result<usize, Refusal>
-        ensures { Answers (global_attr_rule (view self.now) message) out.old (outcome result) out.new }
+        ensures { WriteMeets (global_attr_rule (view self.now) message) out.old (outcome result) out.new }
     {
-        send_checked_to_all(self.kind(), self.model.channels(), message, out)
+        send_checked_to_all(self.tuning_kind(), self.model.channels(), message, out)
     }
 
-    // Every key that is found is released with velocity 0, by rising key. Refuses 10.
+    // Every key that is found is released with velocity 0, by rising key. Refuses 10 (SPEC 9.2d).
     // Example: JitTuner::start([0, 1], Bend, Stop); note_on(1, 440 Hz, 100); stop() is 80 45 00
     pub fn stop(&mut self, out: &mut [u8]) -> Result<usize, Refusal>
-        ensures { Steps view (stop_rule (view self.old)) self.old out.old (outcome result) self.new out.new }
+        ensures { CallMeets view (stop_rule (view self.old)) self.old out.old (outcome result) self.new out.new }
     {
         let sent = self.send_releases(out)?;
         self.model.stop();
         Ok(sent)
     }
 
-    // A lookup: where the key is found.
+    // A lookup: where the key is found (SPEC 9.6).
     pub fn access_key(&self, key: u8) -> Option<Place>
         ensures { place result ≡ found (view self.now).pool key }
     {
@@ -184,17 +185,17 @@ impl JitTuner {
     fn send_key(
         &self,
         key: u8,
-        kind: NoteMessage,
+        message: NoteMessage,
         value: u8,
         out: &mut [u8],
     ) -> Result<usize, Refusal>
-        ensures { Answers (key_rule kind (view self.now).pool.channels value (found (view self.now).pool key)) out.old (outcome result) out.new }
+        ensures { WriteMeets (key_rule message (view self.now).pool.channels value (found (view self.now).pool key)) out.old (outcome result) out.new }
     {
         let found = self
             .model
             .access_key(key)
             .map(|place| (place.channel, place.note.number()));
-        send_checked_key(self.model.channels(), found, kind, value, out)
+        send_checked_key(self.model.channels(), found, message, value, out)
     }
 
     // A press on the channel that the model has found for it: the note-off of the stopped note with the new velocity, the tuning, the note-on.
@@ -205,7 +206,7 @@ impl JitTuner {
         out: &mut [u8],
     ) -> Result<usize, Refusal>
         requires { positive press.detuning ≡ true }
-        ensures { Answers (sent (bytes_of (sound_messages (view self.now) velocity.number (told (Some press))))) out.old (outcome result) out.new }
+        ensures { WriteMeets (sent (press_bytes (view self.now) velocity.number (registered_view (Some press)))) out.old (outcome result) out.new }
     {
         let Some(channel) = self.model.channels().entry(press.channel) else {
             return Ok(0);
@@ -228,7 +229,7 @@ impl JitTuner {
 
     // The releases of all found keys.
     fn send_releases(&self, out: &mut [u8]) -> Result<usize, Refusal>
-        ensures { Answers (sent (bytes_of (release_messages (view self.now)))) out.old (outcome result) out.new }
+        ensures { WriteMeets (sent (bytes_of (release_messages (view self.now)))) out.old (outcome result) out.new }
     {
         let channels = self.model.channels();
         let mut bytes = ArrayVec::<u8, LONGEST_STOP>::new();
@@ -248,12 +249,12 @@ impl JitTuner {
 
     // The bytes of a channel's tuning by a detuning that can be measured. It and `send_press` ask this, and no type says it: models answer any
     // f64 (`register_note`), so that a type would be made, with the same proof, where these are called, and be no plainer.
-    #[tactic(auto, using(crate::proofs::Tunings::tuning_accepted, crate::proofs::Tunings::is_value))]
+    #[tactic(auto, using(crate::proofs::Tuners::Tunings::tuning_accepted, crate::proofs::Tuners::Tunings::is_value))]
     fn tuning(&self, channel: Channel, detuning: f64) -> ArrayVec<u8, LONGEST_TUNING>
         requires { positive detuning ≡ true }
-        ensures { result.items ≡ bytes_of (tuning_messages channel.number (sent_as (kind_of self.now.kind) detuning)) }
+        ensures { result.items ≡ bytes_of (tuning_messages channel.number (sent_as (tuning_kind_of self.now.tuning_kind) detuning)) }
     {
-        tuning_bytes(self.kind(), channel, Ratio::from_float(detuning)).unwrap()
+        tuning_bytes(self.tuning_kind(), channel, Ratio::from_float(detuning)).unwrap()
     }
 }
 
@@ -268,7 +269,7 @@ fn stop_message(
     NoteMessage::Off.of_note(channel, stopped?.number(), velocity)
 }
 
-// By value: the tuner goes in and is handed back. A rule of the project asks for press, release, lookup and stop in this form too.
+// By value: the tuner goes in and is handed back (SPEC 9.7).
 impl JitTuner {
     // A press.
     pub fn pressed(
@@ -278,7 +279,7 @@ impl JitTuner {
         velocity: u8,
         out: &mut [u8],
     ) -> (JitTuner, Result<Option<usize>, Refusal>)
-        ensures { Steps view (note_on_rule (view self) key pitch.hz velocity) self out.old (press_answer result.1) result.0 out.new }
+        ensures { CallMeets view (note_on_rule (view self) key pitch.hz velocity) self out.old (press_answer result.1) result.0 out.new }
     {
         let answer = self.note_on(key, pitch, velocity, out);
         (self, answer)
@@ -291,7 +292,7 @@ impl JitTuner {
         velocity: u8,
         out: &mut [u8],
     ) -> (JitTuner, Result<usize, Refusal>)
-        ensures { Steps view (note_off_rule (view self) key velocity) self out.old (outcome result.1) result.0 out.new }
+        ensures { CallMeets view (note_off_rule (view self) key velocity) self out.old (outcome result.1) result.0 out.new }
     {
         let answer = self.note_off(key, velocity, out);
         (self, answer)
@@ -306,7 +307,7 @@ impl JitTuner {
 
     // The release of every found key.
     pub fn stopped(mut self, out: &mut [u8]) -> (JitTuner, Result<usize, Refusal>)
-        ensures { Steps view (stop_rule (view self)) self out.old (outcome result.1) result.0 out.new }
+        ensures { CallMeets view (stop_rule (view self)) self out.old (outcome result.1) result.0 out.new }
     {
         let answer = self.stop(out);
         (self, answer)

@@ -2,6 +2,7 @@
 #![tactic(auto)]
 
 pub(crate) mod data_byte;
+pub mod event;
 pub mod jit;
 pub mod midi;
 pub mod mts;

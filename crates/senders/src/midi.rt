@@ -3,8 +3,8 @@
 ghost use Rattle.std.specs.Prelude.{◌≡◌};
 ghost use Rattle.arithmetic.specs.Answers.{outcome, outcome_by};
 ghost use Rattle.channels.specs.Outcome.{value};
-ghost use Rattle.senders.specs.Lent.{Answers};
-ghost use Rattle.senders.specs.Midi.{bend_low, bend_high, bytes, meant, checked, message_rule};
+ghost use Rattle.senders.specs.Buffer.{WriteMeets};
+ghost use Rattle.senders.specs.Midi.{bend_low, bend_high, bytes, to_message, check_data, message_rule};
 ghost use Rattle.senders.specs.Records.{bytes_on};
 
 use crate::data_byte::DataByte;
@@ -17,7 +17,7 @@ const LOWEST_BEND: i16 = -8192;
 
 const HIGHEST_BEND: i16 = 8191;
 
-// The third byte of a message that has one data byte.
+// The third byte of a message that has one data byte (SPEC 8.1a).
 const PADDING: u8 = 0;
 
 // The channel-agnostic part of a channel message.
@@ -34,20 +34,20 @@ pub enum ChannelMessageType {
 }
 
 impl ChannelMessageType {
-    // Writes the message on a channel to the buffer's start, and answers how many bytes that were. Refuses 6, 8 from left, 9, 10.
+    // Writes the message on a channel to the buffer's start, and answers how many bytes that were. Refuses 6, 8 from the left, 9, 10 (SPEC 8.4).
     // Example: NoteOn(69, 100).to_raw_message(0, 3 bytes) is 90 45 64
     // Example: NoteOn(69, 100).to_raw_message(0, 2 bytes) is refused (10)
     pub fn to_raw_message(self, channel: u8, out: &mut [u8]) -> Result<usize, Refusal>
-        ensures { Answers (message_rule channel self) out.old (outcome result) out.new }
+        ensures { WriteMeets (message_rule channel self) out.old (outcome result) out.new }
     {
         let channel = Channel::try_from(channel)?;
         let record = self.check()?;
         send(&record.on(channel), out)
     }
 
-    // The message as a record. Refuses 8 from left, 9.
+    // The message as a record. Refuses 8 from the left, 9.
     pub(crate) fn check(self) -> Result<Record, Refusal>
-        ensures { outcome_by bytes_on result ≡ checked self (value (λ ch. bytes (meant ch self))) }
+        ensures { outcome_by bytes_on result ≡ check_data self (value (λ ch. bytes (to_message ch self))) }
     {
         let (kind, first, second) = match self {
             ChannelMessageType::NoteOff { key, velocity } => (Kind::NoteOff, key, velocity),
@@ -85,9 +85,9 @@ impl ChannelMessageType {
     }
 }
 
-// The low and the high seven bits of a bend, which is counted from the lowest one. Refuses 9.
+// The low and the high seven bits of a bend, which is counted from the lowest one (SPEC 8.2). Refuses 9.
 fn bend_bytes(bend: i16) -> Result<(u8, u8), Refusal>
-    ensures { outcome result ≡ checked (ChannelMessageType.PitchBendChange bend) (value (bend_low bend, bend_high bend)) }
+    ensures { outcome result ≡ check_data (ChannelMessageType.PitchBendChange bend) (value (bend_low bend, bend_high bend)) }
 {
     if bend < LOWEST_BEND || HIGHEST_BEND < bend {
         return Err(Refusal::BendOutOfRange);

@@ -1,10 +1,10 @@
-// The messages that tune a channel: the four controllers of a fine tuning, or a bend.
+// The messages that tune a channel: the four controllers of a fine tuning, or a bend (SPEC 8.3).
 
 ghost use Rattle.std.specs.Prelude.{◌≡◌};
 ghost use Rattle.arithmetic.specs.Answers.{outcome, outcome_by};
 ghost use Rattle.channels.specs.TuningValue.{tuning_rule};
 ghost use Rattle.channels.specs.declared.tuning_value.TuningKind.{TuningKind};
-ghost use Rattle.senders.specs.Lent.{Answers};
+ghost use Rattle.senders.specs.Buffer.{WriteMeets};
 ghost use Rattle.senders.specs.Message.{control};
 ghost use Rattle.senders.specs.Midi.{bytes};
 ghost use Rattle.senders.specs.Mts.{tuning_size, tuning_bytes, channel_tuning_rule};
@@ -37,57 +37,57 @@ pub const LONGEST_TUNING: usize = 4 * RECORD_LEN;
 
 // The next two functions differ in a constant alone: their names are the Rust's, which stay.
 
-// Writes the fine tuning of a channel by a detuning to the buffer's start. Refuses 6, 2, 10.
+// Writes the fine tuning of a channel by a detuning to the buffer's start. Refuses 6, 2, 10 (SPEC 8.5).
 // Example: channel_fine_tuning(0, 33/32, 12 bytes) is b0 65 00 b0 64 01 b0 06 62 b0 26 0c
 pub fn channel_fine_tuning(channel: u8, detuning: Ratio, out: &mut [u8]) -> Result<usize, Refusal>
-    ensures { Answers (channel_tuning_rule TuningKind.FineTuning channel detuning.float_value) out.old (outcome result) out.new }
+    ensures { WriteMeets (channel_tuning_rule TuningKind.FineTuning channel detuning.float_value) out.old (outcome result) out.new }
 {
     channel_tuning(TuningKind::FineTuning, channel, detuning, out)
 }
 
-// Writes the bend of a channel by a detuning to the buffer's start. Refuses 6, 2, 10.
+// Writes the bend of a channel by a detuning to the buffer's start. Refuses 6, 2, 10 (SPEC 8.5).
 // Example: channel_pitch_bend(0, 33/32, 3 bytes) is e0 06 51
 pub fn channel_pitch_bend(channel: u8, detuning: Ratio, out: &mut [u8]) -> Result<usize, Refusal>
-    ensures { Answers (channel_tuning_rule TuningKind.Bend channel detuning.float_value) out.old (outcome result) out.new }
+    ensures { WriteMeets (channel_tuning_rule TuningKind.Bend channel detuning.float_value) out.old (outcome result) out.new }
 {
     channel_tuning(TuningKind::Bend, channel, detuning, out)
 }
 
-// Writes the tuning of a channel by a detuning, of either kind, to the buffer's start. Refuses 6, 2, 10.
+// Writes the tuning of a channel by a detuning, of either kind, to the buffer's start. Refuses 6, 2, 10 (SPEC 8.5).
 pub fn channel_tuning(
-    kind: TuningKind,
+    tuning_kind: TuningKind,
     channel: u8,
     detuning: Ratio,
     out: &mut [u8],
 ) -> Result<usize, Refusal>
-    ensures { Answers (channel_tuning_rule kind channel detuning.float_value) out.old (outcome result) out.new }
+    ensures { WriteMeets (channel_tuning_rule tuning_kind channel detuning.float_value) out.old (outcome result) out.new }
 {
     let channel = Channel::try_from(channel)?;
-    let bytes = tuning_bytes(kind, channel, detuning)?;
+    let bytes = tuning_bytes(tuning_kind, channel, detuning)?;
     send(bytes.as_slice(), out)
 }
 
 // How many bytes a tuning of a kind takes, on any channel and by any detuning.
 #[tactic(auto, unfolding(crate::specs::Mts::tuning_size, channels::specs::TuningValue::tuning_of))]
-pub fn channel_tuning_len(kind: TuningKind) -> usize
-    ensures { result ≡ tuning_size kind }
+pub fn channel_tuning_len(tuning_kind: TuningKind) -> usize
+    ensures { result ≡ tuning_size tuning_kind }
 {
-    match kind {
+    match tuning_kind {
         TuningKind::FineTuning => 4 * RECORD_LEN,
         TuningKind::Bend => RECORD_LEN,
     }
 }
 
-// The bytes of the tuning of a channel by a detuning. Refuses 2.
+// The bytes of the tuning of a channel by a detuning. Refuses 2 (SPEC 5.3).
 pub fn tuning_bytes(
-    kind: TuningKind,
+    tuning_kind: TuningKind,
     channel: Channel,
     detuning: Ratio,
 ) -> Result<ArrayVec<u8, LONGEST_TUNING>, Refusal>
-    ensures { outcome_by (λ b. b.items) result ≡ tuning_bytes channel.number (tuning_rule kind detuning.float_value) }
+    ensures { outcome_by (λ b. b.items) result ≡ tuning_bytes channel.number (tuning_rule tuning_kind detuning.float_value) }
 {
     let mut bytes = ArrayVec::new();
-    match tuning_of(kind, detuning)? {
+    match tuning_of(tuning_kind, detuning)? {
         Tuning::Fine(value) => {
             let msb = DataByte::lowest_of(value / 128);
             let lsb = DataByte::lowest_of(value);

@@ -8,7 +8,7 @@ use channels::channel::Channel;
 
 pub(crate) const RECORD_LEN: usize = 3;
 
-// The kinds of message, each by the high four bits of its status byte.
+// The kinds of message, each by the high four bits of its status byte (SPEC 8.1).
 #[derive(Clone, Copy)]
 pub(crate) enum Kind {
     NoteOff = 0x8,

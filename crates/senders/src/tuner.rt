@@ -2,11 +2,12 @@
 
 ghost use Rattle.std.specs.Prelude.{◌≡◌};
 ghost use Rattle.arithmetic.specs.Answers.{optional, outcome};
+ghost use Rattle.arithmetic.specs.Note.{midi_number};
 ghost use Rattle.channels.specs.ChannelList.{entries};
-ghost use Rattle.senders.specs.Lent.{Answers};
+ghost use Rattle.senders.specs.Buffer.{WriteMeets};
 ghost use Rattle.senders.specs.Midi.{bytes_of};
 ghost use Rattle.senders.specs.Records.{bytes_in, number_in};
-ghost use Rattle.senders.specs.Tuner.{number_of, note_messages, on_channel, placed, is_kept, key_rule, to_all_rule};
+ghost use Rattle.senders.specs.Tuner.{note_messages, on_channel, place_from, is_suppressed, key_rule, to_all_rule};
 
 use crate::data_byte::DataByte;
 use crate::midi::ChannelMessageType;
@@ -40,7 +41,7 @@ impl NoteMessage {
     ) -> Option<[u8; RECORD_LEN]>
         ensures { bytes_in result ≡ bytes_of (note_messages self channel.number note value.number) }
     {
-        let key = number_of(note)?;
+        let key = data_byte_of(note)?;
         let kind = match self {
             NoteMessage::Off => Kind::NoteOff,
             NoteMessage::On => Kind::NoteOn,
@@ -70,36 +71,37 @@ impl NoteMessage {
 }
 
 // Writes a message of a key's note on its channel to the buffer's start: nothing for a key that is not found. `found` is where it is: a channel and a note, any
-// numbers. Refuses 8, also for such a key, and 10.
+// numbers. Refuses 8, also for such a key, and 10 (SPEC 9.5a).
 pub fn send_checked_key(
     channels: ChannelList,
     found: Option<(u8, i32)>,
-    kind: NoteMessage,
+    note_message: NoteMessage,
     value: u8,
     out: &mut [u8],
 ) -> Result<usize, Refusal>
-    ensures { Answers (key_rule kind (entries channels) value (placed (optional found))) out.old (outcome result) out.new }
+    ensures { WriteMeets (key_rule note_message (entries channels) value (place_from (optional found))) out.old (outcome result) out.new }
 {
     let value = DataByte::try_from(value)?;
-    let Some(message) = found.and_then(|(i, note)| kind.at_place(channels, i, note, value)) else {
+    let Some(message) = found.and_then(|(i, note)| note_message.at_place(channels, i, note, value))
+    else {
         return Ok(0);
     };
     send(&message, out)
 }
 
-// Writes a message to every channel of a list to the buffer's start, unless the tuner keeps such messages to itself. Refuses 8 from left, 9, also where nothing
-// is sent, and 10.
+// Writes a message to every channel of a list to the buffer's start, unless the tuner does not pass it on. Refuses 8 from the left, 9, also where nothing is
+// sent, and 10 (SPEC 9.4).
 #[tactic(auto, using(channels::proofs::ChannelLists::entries_few))]
 pub fn send_checked_to_all(
-    kind: TuningKind,
+    tuning_kind: TuningKind,
     channels: ChannelList,
     message: ChannelMessageType,
     out: &mut [u8],
 ) -> Result<usize, Refusal>
-    ensures { Answers (to_all_rule kind (entries channels) message) out.old (outcome result) out.new }
+    ensures { WriteMeets (to_all_rule tuning_kind (entries channels) message) out.old (outcome result) out.new }
 {
     let record = message.check()?;
-    if is_kept(kind, message) {
+    if is_suppressed(tuning_kind, message) {
         return Ok(0);
     }
     let mut bytes = ArrayVec::<u8, LONGEST_TO_ALL>::new();
@@ -112,17 +114,17 @@ pub fn send_checked_to_all(
     send(bytes.as_slice(), out)
 }
 
-// Whether a tuner keeps a message to itself: it tunes by bends, and the message is one.
-fn is_kept(kind: TuningKind, message: ChannelMessageType) -> bool
-    ensures { result ≡ is_kept kind message }
+// Whether a tuner does not pass a message on: it tunes by bends, and the message is one (SPEC 9.4).
+fn is_suppressed(tuning_kind: TuningKind, message: ChannelMessageType) -> bool
+    ensures { result ≡ is_suppressed tuning_kind message }
 {
-    kind == TuningKind::Bend && matches!(message, ChannelMessageType::PitchBendChange { .. })
+    tuning_kind == TuningKind::Bend && matches!(message, ChannelMessageType::PitchBendChange { .. })
 }
 
-// The number that MIDI has for a note, if it has one.
-#[tactic(auto, using(crate::proofs::Notes::number_is, crate::proofs::Notes::number_low))]
-fn number_of(note: i32) -> Option<DataByte>
-    ensures { number_in result ≡ number_of note }
+// The number that MIDI has for a note, if it has one (SPEC 1.3a).
+#[tactic(auto, using(crate::proofs::Tuners::Channels::midi_number_below))]
+fn data_byte_of(note: i32) -> Option<DataByte>
+    ensures { number_in result ≡ midi_number note }
 {
     let number = midi_number(note)?;
     Some(DataByte { number })

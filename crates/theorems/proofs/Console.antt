@@ -1,6 +1,5 @@
 -- The console program: its grammar, its refusals, and input in pieces.
 pub mod Grammar
 pub mod Refusals
-pub mod Decimal
 pub mod Streaming
 pub mod Runs

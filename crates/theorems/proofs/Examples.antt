@@ -1,78 +1,120 @@
 -- Twelve examples, joined in one theorem over one list, about the rules that the contracts cite; and the messages of the console's
--- sample. Assumes nothing.
-use mathlib.Core.Path.{◌≡◌, refl}
-use mathlib.Core.List.{List, [], ◌∷◌}
-use mathlib.Core.Option.{none}
-use Prim.Native.Nat.{ℕ, ◌^◌}
-use lib.IntN.{ℤ, pos, negsuc}
-use lib.Ieee.{Float, size, round, mul, div, le}
+-- sample.
+use mathlib.Core.Path.{◌≡◌, refl, ap, ◌∙◌}
+use mathlib.Core.Bool.{true}
+use mathlib.Core.List.{[], ◌∷◌}
+use mathlib.Core.Option.{some, none}
+use Prim.Native.Nat.{ℕ}
+use lib.IntN.{ℤ, pos}
+use lib.Ieee.{Float, size, round, mul, div, le, lt}
 use Rattle.arithmetic.specs.Division.{remainder}
-use Rattle.arithmetic.specs.Measure.{square, digit, next, digits, first32, measure, measure_rule}
-use Rattle.arithmetic.specs.Pitch.{is_pitch, octave_pitch, significands, factor, pitch_of, detuning_of}
+use Rattle.arithmetic.specs.Measure.{square, digit, next as next_digit, digits, first32, measure, measure_rule}
+use Rattle.arithmetic.specs.Pitch.{negligible, negligible_from, negligible_below, is_pitch, octave_pitch, significands, factor, pitch_of, detuning_of}
+use Rattle.arithmetic.specs.Note.{midi_number}
 use Rattle.arithmetic.specs.Nearest.{semitones, over_a4, nearest_note, nearest_rule}
-use Rattle.channels.specs.Outcome.{value}
+use Rattle.channels.specs.Outcome.{Outcome, value}
+use Rattle.channels.specs.FirstRefusal.{one_by_one}
+use Rattle.channels.specs.ChannelList.{entry_rule, list_rule}
+use Rattle.channels.specs.Lists.{without, upward, first}
 use Rattle.channels.specs.TuningValue.{clamp, fine_step, fine_value, bend_step, bend_value, tuning_of, sent_as, tuning_rule}
-use Rattle.channels.specs.declared.tuning_value.TuningKind.TheVariants.{FineTuning, Bend}
-use Rattle.channels.specs.declared.tuning_value.Tuning.TheVariants.{Fine, Bend as Bent}
-use Rattle.theorems.proofs.Plans.Examples.{f64, Nine, Ten, example_9_10}
-use Rattle.theorems.proofs.Pools.Examples.{Eleven, Twelve, example_11, example_12}
-use Rattle.senders.specs.Lent.{sent}
+use Rattle.channels.specs.declared.tuning_value.Tuning.TheVariants.{Fine}
+use Rattle.plans.specs.PlanLine.{group, of_group, insert, rising, joins}
+use Rattle.plans.specs.Walk.{latest, accepts, takes, next as next_channel, taken_keys, deferred_keys, channels, walk, count, note_of, assignment_from, assignment, replaced, entry_from, entry}
+use Rattle.plans.specs.PlanLists.{is_planned, note_line, note_lines, line_rule, note_lists}
+use Rattle.plans.specs.Plan.{planned}
+use Rattle.pools.specs.declared.settings.PoolingMode.{PoolingMode}
+use Rattle.pools.specs.declared.settings.PoolingMode.TheVariants.{Stop}
+use Rattle.pools.specs.Pool.{State, pool_count, pool_of, pool, found, fresh, open_rule, with_pool, with_key, enqueue, taken_in, taken, freed_in, freed, without_key, released, released_from, held_at, oldest_of, oldest, reclaim_by_mode, reclaim_unless_free, reclaim, Press, accepted, pressed_on, pressed, register_rule, outcome_and_state}
 use Rattle.senders.specs.Midi.{bytes_of}
-use Rattle.senders.specs.Mts.{channel_tuning_rule}
 use Rattle.senders.specs.Tuner.{note_messages, press_messages}
 use Rattle.senders.specs.declared.tuner.NoteMessage.TheVariants.{Off}
+use Rattle.theorems.specs.Examples.{Nine, Ten, two_channels, answer, next, accepted_on, Eleven, Twelve, All, examples}
+use Rattle.theorems.proofs.Pools.Answers.{register_pressed}
 
--- ---- what an example says
+-- ---- plans
 
--- the measure L of v
-abbrev Measures : Float → ℤ → Type 0
-Measures v l = measure_rule v ≡ value l
+pub example_9_10 : Nine × Ten
+unfolding planned count walk channels taken_keys deferred_keys next_channel takes latest accepts joins negligible negligible_from negligible_below round div le lt rising insert of_group group is_planned note_line note_lines one_by_one line_rule note_lists note_of assignment_from assignment replaced entry_from entry
+example_9_10 = ((refl, refl, refl), (refl, refl, refl))
 
--- the fine value and the bend value of v
-abbrev Tunes : Float → ℕ → ℤ → Type 0
-Tunes v fine bend = (tuning_rule FineTuning v ≡ value (Fine fine)) × (tuning_rule Bend v ≡ value (Bent bend))
+-- ---- pools
 
--- the bytes of v's bend, on channel 0
-abbrev Bends : Float → List ℕ → Type 0
-Bends v bytes = channel_tuning_rule Bend 0 v ≡ sent bytes
+-- What a press that meets no refusal answers and leaves.
+answer_of_pressed : (s : State) (key : ℕ) (hz : Float) → is_pitch hz ≡ true → found s key ≡ none
+    → let r = pressed s key (nearest_note hz) (detuning_of hz (nearest_note hz)) in
+    ◌≡◌ {A = Outcome Press × State} (outcome_and_state s (register_rule s key hz)) (value r.0, r.1)
+unfolding outcome_and_state
+answer_of_pressed s key hz p new = rw (register_pressed s key hz p new)
 
--- the note of a pitch
-abbrev Sounds : Float → ℤ → Type 0
-Sounds hz note = nearest_rule hz ≡ value (note, detuning_of hz note)
+module _ (s : State) (key : ℕ) (hz : Float) (p : is_pitch hz ≡ true) (new : found s key ≡ none) where
+  answer_is : answer s key hz ≡ value (pressed s key (nearest_note hz) (detuning_of hz (nearest_note hz))).0
+  unfolding answer
+  answer_is = ap (λ (x : Outcome Press × State). x.0) (answer_of_pressed s key hz p new)
 
--- each statement of a list holds
-abbrev pub All : List (Type 0) → Type 0
-All [] = Unit {0}
-All (A ∷ l) = A × All l
+  next_is : next s key hz ≡ (pressed s key (nearest_note hz) (detuning_of hz (nearest_note hz))).1
+  unfolding next
+  next_is = ap (λ (x : Outcome Press × State). x.1) (answer_of_pressed s key hz p new)
 
--- ---- the list
+-- The same with notes and detunings in the place of pitches: the rules compute.
 
-abbrev pub examples : List (Type 0)
-examples =
-    -- 1 to 5: v = 1, 2, 1/2, 33/32, 31/32
-    (Measures (f64 1 1) (pos 0) × Tunes (f64 1 1) 8192 (pos 0)) ∷
-    (Measures (f64 2 1) (pos 16777216) × Tunes (f64 2 1) 16383 (pos 8191) × Bends (f64 2 1) (0xe0 ∷ 0x7f ∷ 0x7f ∷ [])) ∷
-    (Tunes (f64 1 2) 0 (negsuc 8191) × Bends (f64 1 2) (0xe0 ∷ 0x00 ∷ 0x00 ∷ [])) ∷
-    (Tunes (f64 33 32) 12556 (pos 2182) × Bends (f64 33 32) (0xe0 ∷ 0x06 ∷ 0x51 ∷ [])) ∷
-    (Tunes (f64 31 32) 3689 (negsuc 2250) × Bends (f64 31 32) (0xe0 ∷ 0x35 ∷ 0x2e ∷ [])) ∷
-    -- 6 to 8: 440 Hz, 455 Hz, 2^-20 and 2^40 Hz
-    (nearest_rule (f64 440 1) ≡ value (pos 69, f64 1 1)) ∷
-    Sounds (f64 455 1) (pos 70) ∷
-    (Sounds (f64 1 (2 ^ 20)) (negsuc 275) × Sounds (f64 (2 ^ 40) 1) (pos 444)) ∷
-    -- plans, pools
-    Nine ∷
-    Ten ∷
-    Eleven ∷
-    Twelve ∷
-    []
+module _ (mode : PoolingMode) (a b : ℤ) (d e : Float) where
+  first_press : (found (two_channels mode) 1 ≡ none) × ((pressed (two_channels mode) 1 a d).0 ≡ accepted 0 none a d)
+  unfolding two_channels upward first one_by_one entry_rule list_rule pool_count pool_of pool found fresh open_rule reclaim_unless_free reclaim pressed_on pressed
+  first_press = (refl, refl)
 
-models : All (Nine ∷ Ten ∷ Eleven ∷ Twelve ∷ [])
-models = (example_9_10.0, (example_9_10.1, (example_11, (example_12, tt))))
+  second_press : let s = released (pressed (two_channels mode) 1 a d).1 1 in (found s 2 ≡ none) × ((pressed s 2 b e).0 ≡ accepted 1 none b e)
+  unfolding two_channels without upward first one_by_one entry_rule list_rule pool_count pool_of pool found fresh open_rule with_pool with_key enqueue taken_in taken freed_in freed without_key released released_from reclaim_unless_free reclaim pressed_on pressed
+  second_press = (refl, refl)
+
+module _ (a b c : ℤ) (d e f : Float) where
+  two_held : (found (pressed (two_channels Stop) 1 a d).1 2 ≡ none) × (found (pressed (pressed (two_channels Stop) 1 a d).1 2 b e).1 3 ≡ none)
+  unfolding two_channels upward first one_by_one entry_rule list_rule pool_count pool_of pool found fresh open_rule with_pool with_key enqueue taken_in taken reclaim_unless_free reclaim pressed_on pressed
+  two_held = (refl, refl)
+
+  third_press : let r = pressed (pressed (pressed (two_channels Stop) 1 a d).1 2 b e).1 3 c f in (r.0 ≡ accepted 0 (some a) c f) × (found r.1 1 ≡ none)
+  unfolding two_channels without upward first one_by_one entry_rule list_rule pool_count pool_of pool found fresh open_rule with_pool with_key enqueue taken_in taken freed_in freed without_key released released_from held_at oldest_of oldest reclaim_by_mode reclaim_unless_free reclaim pressed_on pressed
+  third_press = (refl, refl)
+
+pub example_11 : Eleven
+unfolding accepted_on
+example_11 mode x y p q =
+    let one = first_press mode (nearest_note x) (nearest_note y) (detuning_of x (nearest_note x)) (detuning_of y (nearest_note y)) in
+    let other = second_press mode (nearest_note x) (nearest_note y) (detuning_of x (nearest_note x)) (detuning_of y (nearest_note y)) in (
+      answer_is (two_channels mode) 1 x p one.0 ∙ ap value one.1,
+      rw (next_is (two_channels mode) 1 x p one.0) (answer_is _ 2 y q other.0 ∙ ap value other.1),
+    )
+
+pub example_12 : Twelve
+example_12 x y z p q r =
+    let one = first_press Stop (nearest_note x) (nearest_note y) (detuning_of x (nearest_note x)) (detuning_of y (nearest_note y)) in
+    let a = nearest_note x in
+    let b = nearest_note y in
+    let c = nearest_note z in
+    let held = two_held a b c (detuning_of x a) (detuning_of y b) (detuning_of z c) in
+    let third = third_press a b c (detuning_of x a) (detuning_of y b) (detuning_of z c) in
+    rw (next_is (two_channels Stop) 1 x p one.0, next_is _ 2 y q held.0)
+    (answer_is _ 3 z r held.1 ∙ ap value third.0, ap (λ (s : State). found s 1) (next_is _ 3 z r held.1) ∙ third.1)
+
+-- ---- all twelve
+
+example_models : All (Nine ∷ Ten ∷ Eleven ∷ Twelve ∷ [])
+example_models = (example_9_10.0, (example_9_10.1, (example_11, (example_12, tt))))
 
 pub twelve_examples : All examples
-unfolding round measure_rule measure digits digit next square first32 size tuning_rule sent_as tuning_of fine_value fine_step bend_value bend_step clamp nearest_rule nearest_note over_a4 semitones is_pitch le div detuning_of pitch_of octave_pitch factor significands remainder mul
-twelve_examples =
-    ((refl, (refl, refl)), ((refl, (refl, refl), refl), (((refl, refl), refl), (((refl, refl), refl), (((refl, refl), refl), (refl, (refl, ((refl, refl), models))))))))
+unfolding round measure_rule measure digits digit next_digit square first32 size tuning_rule sent_as tuning_of fine_value fine_step bend_value bend_step clamp nearest_rule nearest_note over_a4 semitones is_pitch le div detuning_of pitch_of octave_pitch factor significands remainder mul
+twelve_examples = (
+  (refl, (refl, refl)),
+  (
+    (refl, (refl, refl), refl),
+    (
+      ((refl, refl), refl),
+      (
+        ((refl, refl), refl),
+        (((refl, refl), refl), (refl, (refl, ((refl, refl), example_models)))),
+      ),
+    ),
+  ),
+)
 
 -- ---- the console's sample
 
@@ -82,4 +124,5 @@ pub sample :
     × (bytes_of (press_messages 1 none (Fine 8192) (pos 81) 90)
     ≡ 0xb1 ∷ 0x65 ∷ 0x00 ∷ 0xb1 ∷ 0x64 ∷ 0x01 ∷ 0xb1 ∷ 0x06 ∷ 0x40 ∷ 0xb1 ∷ 0x26 ∷ 0x00 ∷ 0x91 ∷ 0x51 ∷ 0x5a ∷ [])
     × (bytes_of (note_messages Off 0 (pos 69) 64) ≡ 0x80 ∷ 0x45 ∷ 0x40 ∷ [])
+unfolding midi_number
 sample = (refl, refl, refl)

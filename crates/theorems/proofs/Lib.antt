@@ -1,4 +1,4 @@
--- What is promised beyond the contracts, in files named for what they promise; docs/PROOFS.md leads to each theorem. Assumes nothing.
+-- What is promised beyond the contracts, in files named for what they promise; docs/PROOFS.md leads to each theorem.
 pub mod Numbers
 pub mod Values
 pub mod ChannelLists

@@ -4,4 +4,3 @@ pub mod Entries
 pub mod PlannedKeys
 pub mod Pitches
 pub mod Stable
-pub mod Examples

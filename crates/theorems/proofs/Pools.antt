@@ -10,4 +10,3 @@ pub mod Stop
 pub mod Refusals
 pub mod Presses
 pub mod Pitches
-pub mod Examples

@@ -1,11 +1,11 @@
--- The grammar of the console's lines: kind (`on`, `off`, `bend`), key, millihertz (at most 9 digits), velocity, all decimal, parted by commas. It is written
--- without the parser. Assumes nothing.
+-- The grammar of the console's lines, SPEC 10.2: kind (`on`, `off`, `bend`), key, millihertz and velocity, these three decimal, separated by commas. It is
+-- written without the parser.
 use Rattle.std.specs.Prelude.{ℕ, ◌≤◌, ◌≡◌, true, List, ◌∷◌, ◌++◌, length}
-use Rattle.lines.specs.Split.{comma}
-use Rattle.lines.specs.declared.line.Kind.{Kind}
-use Rattle.lines.specs.Grammar.{word, digits, decimal, allowed}
+use Rattle.console_lines.specs.Split.{comma}
+use Rattle.senders.specs.declared.event.EventKind.{EventKind}
+use Rattle.console_lines.specs.Grammar.{word, digits, decimal, allowed}
 
--- s spells n in 1 to `places` digits, "leading zeros allowed"
+-- SPEC 10.2a: the field s spells n in 1 to `places` digits, of which zeros may stand in front.
 pub record Spells (places : ℕ) (s : List ℕ) (n : ℕ) : Type 0 where
   pub least : 1 ≤ length s
   pub most : length s ≤ places
@@ -14,7 +14,7 @@ pub record Spells (places : ℕ) (s : List ℕ) (n : ℕ) : Type 0 where
 
 -- "At most 64 bytes a line. Key and velocity have 1 to 3 digits, millihertz 1 to 9": the line is an event of kind k with key a, millihertz m and
 -- velocity v.
-pub record Means (line : List ℕ) (k : Kind) (a m v : ℕ) : Type 0 where
+pub record Means (line : List ℕ) (k : EventKind) (a m v : ℕ) : Type 0 where
   pub key : List ℕ
   pub millihertz : List ℕ
   pub velocity : List ℕ

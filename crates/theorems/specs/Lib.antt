@@ -1,14 +1,19 @@
 -- The words of the theorems that no contract needs.
 pub mod Bounds
+pub mod ChannelLists
 pub mod PlannedKeys
+pub mod PlanRefusals
 pub mod PoolCalls
 pub mod PoolInvariant
 pub mod PoolTunerCalls
 pub mod PlanTunerCalls
+pub mod TunedKeys
 pub mod Entries
 pub mod Reader
 pub mod Padding
 pub mod Receiver
 pub mod ExpectedEffect
 pub mod Grammar
+pub mod ConsoleOutput
 pub mod FunctionsForC
+pub mod Examples

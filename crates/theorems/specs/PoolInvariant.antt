@@ -1,10 +1,10 @@
--- What holds of a pool model however it is played: of each pool, and of all of them. Assumes nothing.
+-- What holds of a pool model however it is played, SPEC 7.8: of each pool, and of all of them.
 use Rattle.std.specs.Prelude.{ℕ, ◌+◌, ◌<◌, ◌≤◌, ◌≡◌, length, get_or}
 use Rattle.std.proofs.Math.Option.{some}
 use Rattle.channels.specs.Lists.{upward}
 use Rattle.channels.specs.Places.{Place}
 use Rattle.pools.specs.Pool.{key_count, Pool, State, empty_pool, pool_count, pool_of, found}
-use Rattle.theorems.specs.PoolCalls.{times, standing}
+use Rattle.theorems.specs.PoolCalls.{times, occurrences}
 
 -- A key is found on a note of the pool i.
 pub record Holds (s : State) (i k : ℕ) : Type 0 where
@@ -12,9 +12,10 @@ pub record Holds (s : State) (i k : ℕ) : Type 0 where
   pub is : found s k ≡ some place
   pub here : pool_of s.group place.note ≡ i
 
--- In pool i each of n channels stands once, free or with a key of its press order, and each key of that order is found in the pool and stands there once.
+-- SPEC 7.8: in pool i each of n channels stands once, free or with a key of its press order, and each key of that order is found in the pool and stands there
+-- once.
 pub record PoolOk (n : ℕ) (s : State) (i : ℕ) (p : Pool) : Type 0 where
-  pub once : (c : ℕ) → standing s p c ≡ times c (upward 0 n)
+  pub once : (c : ℕ) → occurrences s p c ≡ times c (upward 0 n)
   pub total : length p.free + length p.order ≡ n
   pub holds : (k : ℕ) → 0 < times k p.order → Holds s i k
   pub distinct : (k : ℕ) → times k p.order ≤ 1

@@ -1,24 +1,35 @@
--- Calls of a pool tuner one after the other, each with a buffer of some length. The calls that are left out, `note_pitch`, `note_attr`, `global_attr` and
--- the lookup, change no tuner. Assumes nothing.
+-- Calls of a pool tuner one after the other, SPEC 9.2, each with a buffer of some length. The calls that are left out, `note_pitch`, `note_attr`,
+-- `global_attr` and the lookup, change no tuner.
 use Rattle.std.specs.Prelude.{List, [], ◌∷◌, ℕ, ◌<◌, Float}
 use Rattle.pools.specs.Pool.{key_count}
-use Rattle.theorems.specs.PoolCalls.{Call as Pool-as-Call, after as Pool·after}
-use Rattle.senders.specs.Lent.{fitted, settled}
-use Rattle.senders.specs.Jit.{Tuner, with_pool, note_on_rule, note_off_rule, stop_rule}
+use Rattle.theorems.specs.PoolCalls.{Call as Pool-as-Call, step as Pool·step}
+use Rattle.senders.specs.Buffer.{check_room, state_after}
+use Rattle.channels.specs.declared.tuning_value.TuningKind.{TuningKind}
+use Rattle.pools.specs.declared.settings.PoolingMode.{PoolingMode}
+use Rattle.senders.specs.Event.{play_rule}
+use Rattle.senders.specs.declared.event.Event.{Event}
+use Rattle.senders.specs.Jit.{Tuner, with_pool, start_rule, note_on_rule, note_off_rule, stop_rule}
 
--- any key there is, any f64, any velocity and any room: calls may be refused, and presses rejected; and any call of the pool model, which may be made on a tuner's block
+-- Any key that there is, any f64, any velocity and any room may be passed: calls may be refused, and presses rejected. Any call of the pool model may be
+-- made too, on the tuner's own model.
 pub data Call : Type 0 where
   note_on : (key : ℕ) → key < key_count → (hz : Float) → (velocity room : ℕ) → Call
   note_off : (key velocity room : ℕ) → Call
   on_pool : (c : Pool-as-Call) → Call
   stop : (room : ℕ) → Call
+  play : (e : Event) → e.key < key_count → (room : ℕ) → Call
 
-unfoldable pub after : Tuner → Call → Tuner
-after t (note_on key h hz velocity room) = settled t (fitted room (note_on_rule t key hz velocity))
-after t (note_off key velocity room) = settled t (fitted room (note_off_rule t key velocity))
-after t (on_pool c) = with_pool t (Pool·after t.pool c)
-after t (stop room) = settled t (fitted room (stop_rule t))
+unfoldable pub step : Tuner → Call → Tuner
+step t (note_on key h hz velocity room) = state_after t (check_room room (note_on_rule t key hz velocity))
+step t (note_off key velocity room) = state_after t (check_room room (note_off_rule t key velocity))
+step t (on_pool c) = with_pool t (Pool·step t.pool c)
+step t (stop room) = state_after t (check_room room (stop_rule t))
+step t (play e h room) = state_after t (check_room room (play_rule t e))
 
-unfoldable pub played : Tuner → List Call → Tuner
-played t [] = t
-played t (c ∷ cs) = played (after t c) cs
+unfoldable pub run : Tuner → List Call → Tuner
+run t [] = t
+run t (c ∷ cs) = run (step t c) cs
+
+-- The tuner that any calls have led to, from one that was started.
+abbrev pub reached : List ℕ → TuningKind → PoolingMode → List Call → Tuner
+reached channels kind mode calls = run (start_rule channels kind mode).1 calls

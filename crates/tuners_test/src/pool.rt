@@ -1,33 +1,85 @@
 // Whole passages on the pool tuner: the console's sample session, every mode and both tuning kinds, notes without a number, unknown keys, messages to all,
-// `stop`, and every refusal. Each call that sends bytes is first made with a buffer one byte short.
+// `stop`, and every refusal.
 
-use crate::shown::{Answer, LISTS, Played, lookup, play, started};
+use crate::shown::{Answer, LISTS, Played, look_up, play, started};
 use arithmetic::refusal::Refusal;
-use channels::keys::Place;
 use channels::list::ChannelList;
 use channels::tuning_value::TuningKind;
 use channels::{Pitch, Ratio};
 use pools::jit::PoolingMode;
+use printing::answers::At;
+use senders::event::{Event, EventKind};
 use senders::jit::JitTuner;
 use senders::midi::ChannelMessageType;
 use senders::mts::{channel_fine_tuning, channel_pitch_bend};
-use std::io;
 use std::io::Write;
+use std::{fmt, io};
 
 // ---- the calls
 
-// Data and not closures: `play`, the same for both tuners, makes each call up to three times, on the tuner and on copies of it, and `by_value` picks those
-// that stand by value too.
 #[derive(Clone, Copy)]
 pub enum Call {
-    On { key: u8, hz: f64, velocity: u8 },
-    Off { key: u8, velocity: u8 },
-    Pitch { key: u8, hz: f64 },
+    Play(Event),
     Attr { key: u8, pressure: u8 },
     All(ChannelMessageType),
     Stop,
     Fine { channel: u8, detuning: f64 },
     Bend { channel: u8, detuning: f64 },
+}
+
+impl fmt::Display for Call {
+    fn fmt<W: fmt::Write>(&self, f: &mut fmt::Formatter<W>) -> fmt::Result {
+        match self {
+            Call::Play(event) => show_event(f, event),
+            Call::Attr { key, pressure } => write!(f, "pressure {pressure} on key {key}"),
+            Call::All(message) => write!(f, "to all {message:?}"),
+            Call::Stop => write!(f, "stop"),
+            Call::Fine { channel, detuning } => {
+                write!(f, "fine tuning of MIDI channel {channel} by {detuning:?}")
+            }
+            Call::Bend { channel, detuning } => {
+                write!(f, "bend of MIDI channel {channel} by {detuning:?}")
+            }
+        }
+    }
+}
+
+fn show_event<W: fmt::Write>(f: &mut fmt::Formatter<W>, event: &Event) -> fmt::Result {
+    let hz = event.pitch.as_hz();
+    let key = event.key;
+    let velocity = event.velocity;
+    match event.kind {
+        EventKind::Press => write!(f, "press key {key} at {hz:?} Hz, velocity {velocity}"),
+        EventKind::Release => write!(f, "release key {key}, velocity {velocity}"),
+        EventKind::Repitch => write!(f, "repitch key {key} to {hz:?} Hz"),
+    }
+}
+
+fn event(kind: EventKind, key: u8, hz: f64, velocity: u8) -> Call {
+    let pitch = Pitch::from_hz(hz);
+    Call::Play(Event {
+        kind,
+        key,
+        pitch,
+        velocity,
+    })
+}
+
+fn press(key: u8, hz: f64, velocity: u8) -> Call {
+    event(EventKind::Press, key, hz, velocity)
+}
+
+// What would be refused of a press decides nothing of a release and a repitch (SPEC 9.8).
+fn release(key: u8, velocity: u8) -> Call {
+    event(EventKind::Release, key, 0.0, velocity)
+}
+
+fn repitch(key: u8, hz: f64) -> Call {
+    event(EventKind::Repitch, key, hz, 255)
+}
+
+fn pressure(key: u8, pressure: u8) -> Call {
+    Call::Attr { key, pressure }
 }
 
 impl Played for JitTuner {
@@ -39,11 +91,7 @@ impl Played for JitTuner {
 
     fn perform(&mut self, call: Call, out: &mut [u8]) -> Result<Answer, Refusal> {
         let sent = match call {
-            Call::On { key, hz, velocity } => {
-                return pressed(self.note_on(key, Pitch::from_hz(hz), velocity, out));
-            }
-            Call::Off { key, velocity } => self.note_off(key, velocity, out),
-            Call::Pitch { key, hz } => self.note_pitch(key, Pitch::from_hz(hz), out),
+            Call::Play(event) => return pressed(self.play(event, out)),
             Call::Attr { key, pressure } => self.note_attr(key, pressure, out),
             Call::All(message) => self.global_attr(message, out),
             Call::Stop => self.stop(out),
@@ -59,14 +107,7 @@ impl Played for JitTuner {
 
     fn by_value(self, call: Call, out: &mut [u8]) -> Option<(JitTuner, Result<Answer, Refusal>)> {
         match call {
-            Call::On { key, hz, velocity } => {
-                let (tuner, answer) = self.pressed(key, Pitch::from_hz(hz), velocity, out);
-                Some((tuner, pressed(answer)))
-            }
-            Call::Off { key, velocity } => {
-                let (tuner, answer) = self.released(key, velocity, out);
-                Some((tuner, answer.map(Answer::Sent)))
-            }
+            Call::Play(event) => event_by_value(self, event, out),
             Call::Stop => {
                 let (tuner, answer) = self.stopped(out);
                 Some((tuner, answer.map(Answer::Sent)))
@@ -75,12 +116,12 @@ impl Played for JitTuner {
         }
     }
 
-    fn find(&self, key: u8) -> Option<Place> {
-        self.access_key(key)
+    fn find(&self, key: u8) -> Option<At> {
+        self.access_key(key).map(At::from)
     }
 
-    fn find_by_value(self, key: u8) -> Option<Place> {
-        self.looked_up(key)
+    fn find_by_value(self, key: u8) -> Option<At> {
+        self.looked_up(key).map(At::from)
     }
 
     fn show_state(&self, _out: &mut impl Write) -> io::Result<()> {
@@ -88,234 +129,245 @@ impl Played for JitTuner {
     }
 }
 
+fn event_by_value(
+    tuner: JitTuner,
+    event: Event,
+    out: &mut [u8],
+) -> Option<(JitTuner, Result<Answer, Refusal>)> {
+    match event.kind {
+        EventKind::Press => {
+            let (tuner, answer) = tuner.pressed(event.key, event.pitch, event.velocity, out);
+            Some((tuner, pressed(answer)))
+        }
+        EventKind::Release => {
+            let (tuner, answer) = tuner.released(event.key, event.velocity, out);
+            Some((tuner, answer.map(Answer::Sent)))
+        }
+        EventKind::Repitch => None,
+    }
+}
+
 fn pressed(answer: Result<Option<usize>, Refusal>) -> Result<Answer, Refusal> {
     answer.map(|sent| sent.map_or(Answer::Rejected, Answer::Sent))
-}
-
-fn press(
-    out: &mut impl Write,
-    tuner: &mut JitTuner,
-    key: u8,
-    hz: f64,
-    velocity: u8,
-) -> io::Result<()> {
-    write!(out, "  on {key}:")?;
-    play(out, tuner, Call::On { key, hz, velocity })
-}
-
-fn release(out: &mut impl Write, tuner: &mut JitTuner, key: u8, velocity: u8) -> io::Result<()> {
-    write!(out, "  off {key}:")?;
-    play(out, tuner, Call::Off { key, velocity })
-}
-
-fn repitch(out: &mut impl Write, tuner: &mut JitTuner, key: u8, hz: f64) -> io::Result<()> {
-    write!(out, "  pitch {key}:")?;
-    play(out, tuner, Call::Pitch { key, hz })
-}
-
-fn pressure(out: &mut impl Write, tuner: &mut JitTuner, key: u8, pressure: u8) -> io::Result<()> {
-    write!(out, "  attr {key}:")?;
-    play(out, tuner, Call::Attr { key, pressure })
-}
-
-fn to_all(
-    out: &mut impl Write,
-    tuner: &mut JitTuner,
-    message: ChannelMessageType,
-) -> io::Result<()> {
-    write!(out, "  all:")?;
-    play(out, tuner, Call::All(message))
-}
-
-fn stop(out: &mut impl Write, tuner: &mut JitTuner) -> io::Result<()> {
-    write!(out, "  stop:")?;
-    play(out, tuner, Call::Stop)
 }
 
 // ---- the passages
 
 pub fn all(out: &mut impl Write) -> io::Result<()> {
+    writeln!(
+        out,
+        "-- SPEC 9.8: presses, releases and repitches are events; here a release has 0 Hz and a repitch velocity 255, which decide nothing"
+    )?;
     sample(out)?;
-    passages(out, TuningKind::FineTuning)?;
-    passages(out, TuningKind::Bend)?;
+    for kind in [TuningKind::FineTuning, TuningKind::Bend] {
+        for mode in [PoolingMode::Block, PoolingMode::Stop, PoolingMode::Ignore] {
+            passage(out, kind, mode)?;
+        }
+    }
     lists(out)?;
     detunings(out)
 }
 
 fn sample(out: &mut impl Write) -> io::Result<()> {
-    writeln!(out, "sample")?;
+    writeln!(
+        out,
+        "-- SPEC 10.5, 9.2: the console's sample, a pool tuner of MIDI channels 0 and 1, FineTuning, Stop"
+    )?;
     let (mut tuner, _) = JitTuner::start(&[0, 1], TuningKind::FineTuning, PoolingMode::Stop);
-    let tuner = &mut tuner;
-    press(out, tuner, 1, 440.0, 100)?;
-    press(out, tuner, 2, 880.0, 90)?;
-    release(out, tuner, 1, 64)?;
-    lookup(out, tuner, 1)?;
-    lookup(out, tuner, 2)
-}
-
-fn passages(out: &mut impl Write, kind: TuningKind) -> io::Result<()> {
-    writeln!(out, "block")?;
-    passage(out, kind, PoolingMode::Block)?;
-    writeln!(out, "stop")?;
-    passage(out, kind, PoolingMode::Stop)?;
-    writeln!(out, "ignore")?;
-    passage(out, kind, PoolingMode::Ignore)
+    play(
+        out,
+        &mut tuner,
+        &[press(1, 440.0, 100), press(2, 880.0, 90), release(1, 64)],
+    )?;
+    look_up(out, &tuner, 1)?;
+    look_up(out, &tuner, 2)
 }
 
 fn passage(out: &mut impl Write, kind: TuningKind, mode: PoolingMode) -> io::Result<()> {
+    writeln!(
+        out,
+        "-- SPEC 9.2, 7.3: presses, on a pool tuner of MIDI channels 3, 15 and 0, {kind:?}, {mode:?}; 9.5: notes without a MIDI number"
+    )?;
     let (mut tuner, _) = JitTuner::start(&[3, 15, 0], kind, mode);
     let tuner = &mut tuner;
-    press(out, tuner, 200, 440.0, 127)?;
-    press(out, tuner, 7, 455.0, 0)?;
-    press(out, tuner, 100, 261.0, 1)?;
-    press(out, tuner, 8, 6000.0, 77)?;
-    press(out, tuner, 9, 20000.0, 78)?;
-    press(out, tuner, 10, 4.0, 79)?;
-    press(out, tuner, 11, 262.5, 80)?;
+    play(
+        out,
+        tuner,
+        &[
+            press(200, 440.0, 127),
+            press(7, 455.0, 0),
+            press(100, 261.0, 1),
+            press(8, 6000.0, 77),
+            press(9, 20000.0, 78),
+            press(10, 4.0, 79),
+            press(11, 262.5, 80),
+        ],
+    )?;
     refusals(out, tuner)?;
     changes(out, tuner)?;
-    release(out, tuner, 9, 5)?;
-    release(out, tuner, 10, 6)?;
-    release(out, tuner, 200, 7)?;
-    press(out, tuner, 255, 1000.0, 64)?;
-    press(out, tuner, 0, 30.0, 64)?;
-    lookup(out, tuner, 255)?;
+    writeln!(
+        out,
+        "-- SPEC 9.2, 7.4: releases, and presses of other keys then"
+    )?;
+    play(
+        out,
+        tuner,
+        &[
+            release(9, 5),
+            release(10, 6),
+            release(200, 7),
+            press(255, 1000.0, 64),
+            press(0, 30.0, 64),
+        ],
+    )?;
+    look_up(out, tuner, 255)?;
+    messages(out, tuner)?;
     stops(out, tuner)
 }
 
-// Messages to all, a stop, a stop of nothing, and a press after these.
-fn stops(out: &mut impl Write, tuner: &mut JitTuner) -> io::Result<()> {
-    messages(out, tuner)?;
-    stop(out, tuner)?;
-    lookup(out, tuner, 255)?;
-    stop(out, tuner)?;
-    press(out, tuner, 255, 1001.0, 64)?;
-    release(out, tuner, 255, 0)?;
-    lookup(out, tuner, 255)
-}
-
-// Presses and releases: 8, 1, 11.
 fn refusals(out: &mut impl Write, tuner: &mut JitTuner) -> io::Result<()> {
-    press(out, tuner, 11, 0.0, 128)?;
-    press(out, tuner, 11, 0.0, 127)?;
-    press(out, tuner, 11, 440.0, 127)?;
-    press(out, tuner, 11, 0.0 / 0.0, 127)?;
-    press(out, tuner, 99, 1.0 / 0.0, 127)?;
-    release(out, tuner, 11, 128)?;
-    release(out, tuner, 99, 200)?;
-    release(out, tuner, 99, 127)
-}
-
-// Pressures and repitches, of found keys and others.
-fn changes(out: &mut impl Write, tuner: &mut JitTuner) -> io::Result<()> {
-    pressure(out, tuner, 11, 33)?;
-    pressure(out, tuner, 11, 128)?;
-    pressure(out, tuner, 9, 34)?;
-    pressure(out, tuner, 99, 127)?;
-    pressure(out, tuner, 99, 255)?;
-    repitch(out, tuner, 11, 255.0)?;
-    repitch(out, tuner, 11, 1.0)?;
-    repitch(out, tuner, 11, 40000.0)?;
-    repitch(out, tuner, 11, 0.0)?;
-    repitch(out, tuner, 99, 440.0)?;
-    repitch(out, tuner, 99, 0.0)?;
-    Ok(())
-}
-
-// Messages to all, of every kind.
-fn messages(out: &mut impl Write, tuner: &mut JitTuner) -> io::Result<()> {
-    to_all(
+    writeln!(
+        out,
+        "-- SPEC 2.2: a press is refused (8), (1), (11), and a rejected one never (10); a release (8), also where the key is unknown"
+    )?;
+    play(
         out,
         tuner,
+        &[
+            press(11, 0.0, 128),
+            press(11, 0.0, 127),
+            press(11, 440.0, 127),
+            press(11, 0.0 / 0.0, 127),
+            press(99, 1.0 / 0.0, 127),
+            release(11, 128),
+            release(99, 200),
+            release(99, 127),
+        ],
+    )
+}
+
+fn changes(out: &mut impl Write, tuner: &mut JitTuner) -> io::Result<()> {
+    writeln!(
+        out,
+        "-- SPEC 9.2: the key pressure of a held key, and the tuning for a new pitch; 2.2: refused (8) and (1), also where the key is unknown"
+    )?;
+    play(
+        out,
+        tuner,
+        &[
+            pressure(11, 33),
+            pressure(11, 128),
+            pressure(9, 34),
+            pressure(99, 127),
+            pressure(99, 255),
+            repitch(11, 255.0),
+            repitch(11, 1.0),
+            repitch(11, 40000.0),
+            repitch(11, 0.0),
+            repitch(99, 440.0),
+            repitch(99, 0.0),
+        ],
+    )
+}
+
+fn messages(out: &mut impl Write, tuner: &mut JitTuner) -> io::Result<()> {
+    writeln!(
+        out,
+        "-- SPEC 9.4: a message to every channel, in the list's order; no bend where the tuner tunes by bends; 2.2: refused (8), (9)"
+    )?;
+    let messages = [
         ChannelMessageType::NoteOff {
             key: 1,
             velocity: 2,
         },
-    )?;
-    to_all(
-        out,
-        tuner,
         ChannelMessageType::NoteOn {
             key: 128,
             velocity: 2,
         },
-    )?;
-    to_all(
-        out,
-        tuner,
         ChannelMessageType::PolyphonicKeyPressure {
             key: 1,
             pressure: 128,
         },
-    )?;
-    to_all(
-        out,
-        tuner,
         ChannelMessageType::ControlChange {
             controller: 123,
             value: 0,
         },
-    )?;
-    to_all(out, tuner, ChannelMessageType::ProgramChange { program: 5 })?;
-    to_all(
-        out,
-        tuner,
+        ChannelMessageType::ProgramChange { program: 5 },
         ChannelMessageType::ChannelPressure { pressure: 6 },
-    )?;
-    to_all(
-        out,
-        tuner,
         ChannelMessageType::PitchBendChange { value: -1 },
+        ChannelMessageType::PitchBendChange { value: 8192 },
+    ];
+    for message in messages {
+        play(out, tuner, &[Call::All(message)])?;
+    }
+    Ok(())
+}
+
+fn stops(out: &mut impl Write, tuner: &mut JitTuner) -> io::Result<()> {
+    writeln!(
+        out,
+        "-- SPEC 9.2, 7.6: stop sends the note-offs of all held keys with velocity 0, by rising key; then all channels are free"
     )?;
-    to_all(
+    play(out, tuner, &[Call::Stop])?;
+    look_up(out, tuner, 255)?;
+    play(
         out,
         tuner,
-        ChannelMessageType::PitchBendChange { value: 8192 },
-    )
+        &[Call::Stop, press(255, 1001.0, 64), release(255, 0)],
+    )?;
+    look_up(out, tuner, 255)
 }
 
 // ---- channel lists
 
 fn lists(out: &mut impl Write) -> io::Result<()> {
-    writeln!(out, "lists")?;
+    writeln!(
+        out,
+        "-- SPEC 2.2, 7.3, 9.4: pool tuners by bends, Stop, of a channel list that is empty, refused (6), refused (7), and full"
+    )?;
     for channels in LISTS {
         let mut tuner: JitTuner = started(out, channels)?;
-        begin(out, &mut tuner)?;
+        let program = ChannelMessageType::ProgramChange { program: 5 };
+        play(
+            out,
+            &mut tuner,
+            &[press(5, 440.0, 9), Call::All(program), Call::Stop],
+        )?;
+        look_up(out, &tuner, 5)?;
     }
     Ok(())
 }
 
-// What is played on a tuner of each.
-fn begin(out: &mut impl Write, tuner: &mut JitTuner) -> io::Result<()> {
-    press(out, tuner, 5, 440.0, 9)?;
-    to_all(out, tuner, ChannelMessageType::ProgramChange { program: 5 })?;
-    stop(out, tuner)?;
-    lookup(out, tuner, 5)
-}
-
-// ---- a detuning passed: 6, 2, 10
+// ---- a detuning passed
 
 fn detunings(out: &mut impl Write) -> io::Result<()> {
-    writeln!(out, "detunings")?;
-    detuned(out, 0, 1.0)?;
-    detuned(out, 1, 2.0)?;
-    detuned(out, 2, 0.5)?;
-    detuned(out, 3, 1.03125)?;
-    detuned(out, 15, 0.96875)?;
-    detuned(out, 15, 1000.0)?;
-    detuned(out, 15, 0.001)?;
-    detuned(out, 16, 0.0)?;
-    detuned(out, 15, 0.0)?;
-    detuned(out, 0, -1.0)?;
-    detuned(out, 0, 0.0 / 0.0)?;
-    detuned(out, 0, 1.0 / 0.0)
-}
-
-fn detuned(out: &mut impl Write, channel: u8, detuning: f64) -> io::Result<()> {
-    let (mut tuner, _) = JitTuner::start(&[], TuningKind::Bend, PoolingMode::Block);
-    let tuner = &mut tuner;
-    write!(out, "  fine:")?;
-    play(out, tuner, Call::Fine { channel, detuning })?;
-    write!(out, "  bend:")?;
-    play(out, tuner, Call::Bend { channel, detuning })
+    writeln!(
+        out,
+        "-- SPEC 8.3, 5.1, 5.2, 11.1: fine tuning and a bend by a detuning; 2.2: refused (6), (2), (10)"
+    )?;
+    for (channel, detuning) in [
+        (0, 1.0),
+        (1, 2.0),
+        (2, 0.5),
+        (3, 1.03125),
+        (15, 0.96875),
+        (15, 1000.0),
+        (15, 0.001),
+        (16, 0.0),
+        (15, 0.0),
+        (0, -1.0),
+        (0, 0.0 / 0.0),
+        (0, 1.0 / 0.0),
+    ] {
+        let (mut tuner, _) = JitTuner::start(&[], TuningKind::Bend, PoolingMode::Block);
+        play(
+            out,
+            &mut tuner,
+            &[
+                Call::Fine { channel, detuning },
+                Call::Bend { channel, detuning },
+            ],
+        )?;
+    }
+    Ok(())
 }

@@ -1,9 +1,8 @@
-// How a call's answer and its bytes are shown. A buffer is lent full of aa, and what a call did not send must stay so.
+// How a call, its answer and its bytes are shown. A buffer is lent full of aa, and what a call did not send must stay so.
 
 use arithmetic::refusal::Refusal;
-use channels::keys::Place;
 use channels::list::ChannelList;
-use show::{Code, Hex, Or, Spot};
+use printing::answers::{At, ByValue, Listed, Or, PlanTuned, Refused, Sent};
 use std::io::Write;
 use std::{fmt, io};
 
@@ -41,19 +40,6 @@ fn sent_by(answer: Result<Answer, Refusal>) -> usize {
     answer.map(Answer::count).unwrap_or(0)
 }
 
-// The bytes that a call sent, if any.
-#[derive(Clone, Copy)]
-struct Bytes<'a>(&'a [u8]);
-
-impl fmt::Display for Bytes<'_> {
-    fn fmt<W: fmt::Write>(&self, f: &mut fmt::Formatter<W>) -> fmt::Result {
-        match self.0 {
-            [] => write!(f, "-"),
-            bytes => write!(f, "{}", Hex(bytes)),
-        }
-    }
-}
-
 // An answer with the bytes that it sent, and a word for each byte behind them that has not kept its content.
 #[derive(Clone, Copy)]
 struct Shown<'a> {
@@ -73,16 +59,16 @@ impl<'a> Shown<'a> {
 impl fmt::Display for Shown<'_> {
     fn fmt<W: fmt::Write>(&self, f: &mut fmt::Formatter<W>) -> fmt::Result {
         match self.answer {
-            Ok(Answer::Sent(_)) => write!(f, " {}", Bytes(self.sent))?,
-            Ok(Answer::Rejected) => write!(f, " rejected")?,
+            Ok(Answer::Sent(_)) => write!(f, "{}", Sent(self.sent))?,
+            Ok(Answer::Rejected) => write!(f, "rejected")?,
             Ok(
                 Answer::Tuned {
                     channels,
                     written: _,
                 },
-            ) => write!(f, " tuned {channels} {}", Bytes(self.sent))?,
-            Ok(Answer::Untuned(channels)) => write!(f, " untuned {channels} -")?,
-            Err(refusal) => write!(f, " {}", Code(refusal))?,
+            ) => write!(f, "{}", PlanTuned::Tuned(channels, Sent(self.sent)))?,
+            Ok(Answer::Untuned(channels)) => write!(f, "{}", PlanTuned::Untuned(channels))?,
+            Err(refusal) => write!(f, "{}", Refused(refusal))?,
         }
         for byte in self.rest {
             if *byte != FILLER {
@@ -93,9 +79,10 @@ impl fmt::Display for Shown<'_> {
     }
 }
 
-// A tuner as the passages here play it.
+// A tuner as the passages here play it. Calls are data and not closures, since each is made up to three times, on the tuner and on copies of it.
 pub trait Played: Copy {
-    type Call: Copy;
+    // Shown as what is asked.
+    type Call: Copy + fmt::Display;
 
     fn opened(channels: &[u8]) -> (Self, Result<ChannelList, Refusal>);
 
@@ -104,9 +91,9 @@ pub trait Played: Copy {
     // The same by value, where the tuner has it so.
     fn by_value(self, call: Self::Call, out: &mut [u8]) -> Option<(Self, Result<Answer, Refusal>)>;
 
-    fn find(&self, key: u8) -> Option<Place>;
+    fn find(&self, key: u8) -> Option<At>;
 
-    fn find_by_value(self, key: u8) -> Option<Place>;
+    fn find_by_value(self, key: u8) -> Option<At>;
 
     // What is to be seen of the tuner after a call that was a byte short.
     fn show_state(&self, out: &mut impl Write) -> io::Result<()>;
@@ -115,18 +102,25 @@ pub trait Played: Copy {
 // Enough for each call: sixteen channels take 192 bytes.
 const ROOM: usize = 200;
 
-// Makes a call first one byte short and then with room, and shows both answers.
-pub fn play<T: Played>(out: &mut impl Write, tuner: &mut T, call: T::Call) -> io::Result<()> {
+pub fn play<T: Played>(out: &mut impl Write, tuner: &mut T, calls: &[T::Call]) -> io::Result<()> {
+    for &call in calls {
+        play_one(out, tuner, call)?;
+    }
+    Ok(())
+}
+
+// Makes a call, by value too, and on a copy one byte short.
+fn play_one<T: Played>(out: &mut impl Write, tuner: &mut T, call: T::Call) -> io::Result<()> {
     let before = *tuner;
     let mut buffer = [FILLER; ROOM];
     let answer = tuner.perform(call, &mut buffer);
-    try_short(out, before, call, sent_by(answer).saturating_sub(1))?;
-    write!(out, "{}", Shown::of(answer, &buffer))?;
+    write!(out, "  {call}: {}", Shown::of(answer, &buffer))?;
     let mut other = [FILLER; ROOM];
     if let Some((copy, by_value)) = before.by_value(call, &mut other) {
         let same = by_value == answer && other == buffer && same_keys(*tuner, copy);
-        write!(out, "{}", unless(same))?;
+        write!(out, "{}", ByValue(same))?;
     }
+    try_short(out, before, call, sent_by(answer).saturating_sub(1))?;
     writeln!(out)
 }
 
@@ -142,35 +136,30 @@ fn try_short<T: Played>(
     if room < ROOM {
         let lent = &mut buffer[..room];
         let answer = tuner.perform(call, lent);
-        write!(out, "{}", Shown::of(answer, lent))?;
+        write!(out, "; room {room}: {}", Shown::of(answer, lent))?;
         tuner.show_state(out)?;
     }
     Ok(())
-}
-
-// Words where a call by value does not do the same.
-fn unless(same: bool) -> &'static str {
-    if same { "" } else { " by value: another" }
-}
-
-fn same_place(a: Option<Place>, b: Option<Place>) -> bool {
-    a.map(Place::record) == b.map(Place::record)
 }
 
 // Whether each key is found at the same place.
 fn same_keys<T: Played>(tuner: T, copy: T) -> bool {
     let mut same = true;
     for key in 0..=255 {
-        same = same && same_place(tuner.find(key), copy.find_by_value(key));
+        same = same && tuner.find(key) == copy.find_by_value(key);
     }
     same
 }
 
-pub fn lookup<T: Played>(out: &mut impl Write, tuner: &T, key: u8) -> io::Result<()> {
+pub fn look_up<T: Played>(out: &mut impl Write, tuner: &T, key: u8) -> io::Result<()> {
     let place = tuner.find(key);
-    let same = same_place(place, tuner.find_by_value(key));
-    let found = Or(place.map(Spot), "not found");
-    writeln!(out, "  key {key}: {found}{}", unless(same))
+    let same = place == tuner.find_by_value(key);
+    writeln!(
+        out,
+        "  look up key {key}: {}{}",
+        Or(place, "not found"),
+        ByValue(same)
+    )
 }
 
 // Channel lists: an empty one, two that are refused, and a full one.
@@ -184,7 +173,7 @@ pub const LISTS: [&'static [u8]; 4] = [
 // A tuner of a channel list.
 pub fn started<T: Played>(out: &mut impl Write, channels: &[u8]) -> io::Result<T> {
     let (tuner, answer) = T::opened(channels);
-    let listed = answer.map(|list| list.len()).map_err(Code);
-    writeln!(out, "  start: {}", show::Answer(listed))?;
+    let listed = printing::answers::Answer(answer.map(Listed).map_err(Refused));
+    writeln!(out, "  start on MIDI channels {channels:?}: {listed}")?;
     Ok(tuner)
 }

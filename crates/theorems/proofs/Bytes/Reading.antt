@@ -1,4 +1,4 @@
--- What a reader that follows the Specification makes of one message's bytes, whatever it read before. Assumes nothing.
+-- What a reader that follows the Specification makes of one message's bytes, whatever it read before.
 use mathlib.Core.Path.{◌≡◌, refl, sym, ap, ◌∙◌}
 use mathlib.Core.Bool.{true, false}
 use mathlib.Core.List.{List, [], ◌∷◌, ◌++◌, append_assoc}
@@ -10,8 +10,8 @@ use borrow.Author.Tests.{lt-ltb, le-ltb}
 use Rattle.senders.specs.Message.{Message, note_off, note_on, key_pressure, control, program, channel_pressure, bend, is_bend, Valid}
 use Rattle.senders.specs.Midi.{status, bytes, bend_low, bend_high}
 use Rattle.theorems.specs.Reader.{State, due, has_one, of_one, of_two, read}
-use Rattle.theorems.specs.Padding.{heard_as, all_heard_as, unpadded}
-use Rattle.senders.proofs.Bends.{low_small, high_small, bend_back}
+use Rattle.theorems.specs.Padding.{read_with_padding, all_read_with_padding, unpadded}
+use Rattle.senders.proofs.Bytes.Bends.{low_small, high_small, bend_back}
 
 -- ---- one record, whatever was read before
 
@@ -22,64 +22,64 @@ module _ (st : State) (kind ch : ℕ) (l : 8 ≤ kind) (h : kind < 15) (c : ch <
   channel_status : ltb (status kind ch) 240 ≡ true
   channel_status = lt-ltb (status kind ch) 240 (omega arith)
 
-  kind_of_lem : status kind ch / 16 ≡ kind
-  kind_of_lem = omega arith
+  status_kind : status kind ch / 16 ≡ kind
+  status_kind = omega arith
 
-  channel_of_lem : status kind ch % 16 ≡ ch
-  channel_of_lem = omega arith
+  status_channel : status kind ch % 16 ≡ ch
+  status_channel = omega arith
 
   read_two :
       (a b : ℕ) (rest : List ℕ) → has_one kind ≡ false → a < 128 → b < 128
       → read st (status kind ch ∷ a ∷ b ∷ rest) ≡ of_two kind ch a b ∷ read (due (status kind ch)) rest
-  read_two a b rest o p q = simp (not_data, channel_status, lt-ltb a 128 p, lt-ltb b 128 q, kind_of_lem, channel_of_lem, o)
+  read_two a b rest o p q = simp (not_data, channel_status, lt-ltb a 128 p, lt-ltb b 128 q, status_kind, status_channel, o)
 
   read_one :
       (a : ℕ) (rest : List ℕ) → has_one kind ≡ true → a < 128
       → read st (status kind ch ∷ a ∷ rest) ≡ of_one kind ch a ∷ read (due (status kind ch)) rest
-  read_one a rest o p = simp (not_data, channel_status, lt-ltb a 128 p, kind_of_lem, channel_of_lem, o)
+  read_one a rest o p = simp (not_data, channel_status, lt-ltb a 128 p, status_kind, status_channel, o)
 
-  -- the padding is one message more
+  -- The padding is one message more.
   read_padding :
       (a : ℕ) (rest : List ℕ) → has_one kind ≡ true → a < 128
       → read st (status kind ch ∷ a ∷ 0 ∷ rest) ≡ of_one kind ch a ∷ of_one kind ch 0 ∷ read (due (status kind ch)) rest
-  read_padding a rest o p = read_one a (0 ∷ rest) o p ∙ simp (kind_of_lem, channel_of_lem, o)
+  read_padding a rest o p = read_one a (0 ∷ rest) o p ∙ simp (status_kind, status_channel, o)
 
   unpadded_two :
       (a b : ℕ) (rest : List ℕ) → has_one kind ≡ false → a < 128 → b < 128
       → read st (unpadded (status kind ch ∷ a ∷ b ∷ rest)) ≡ of_two kind ch a b ∷ read (due (status kind ch)) (unpadded rest)
-  unpadded_two a b rest o p q = rw (kind_of_lem, o) (read_two a b (unpadded rest) o p q)
+  unpadded_two a b rest o p q = rw (status_kind, o) (read_two a b (unpadded rest) o p q)
 
   unpadded_one :
       (a : ℕ) (rest : List ℕ) → has_one kind ≡ true → a < 128
       → read st (unpadded (status kind ch ∷ a ∷ 0 ∷ rest)) ≡ of_one kind ch a ∷ read (due (status kind ch)) (unpadded rest)
-  unpadded_one a rest o p = rw (kind_of_lem, o) (read_one a (unpadded rest) o p)
+  unpadded_one a rest o p = rw (status_kind, o) (read_one a (unpadded rest) o p)
 
-  -- running status: without a status byte the data bytes are a message of the kind before
+  -- Running status: without a status byte the data bytes are a message of the kind before.
   pub running_status :
       (a b : ℕ) (rest : List ℕ) → has_one kind ≡ false → a < 128 → b < 128
       → read (due (status kind ch)) (a ∷ b ∷ rest) ≡ of_two kind ch a b ∷ read (due (status kind ch)) rest
-  running_status a b rest o p q = simp (lt-ltb a 128 p, lt-ltb b 128 q, kind_of_lem, channel_of_lem, o)
+  running_status a b rest o p q = simp (lt-ltb a 128 p, lt-ltb b 128 q, status_kind, status_channel, o)
 
--- real-time bytes stand anywhere and change nothing
+-- Real-time bytes stand anywhere and change nothing.
 pub real_time_passed : (st : State) (b : ℕ) (rest : List ℕ) → 0xf8 ≤ b → read st (b ∷ rest) ≡ read st rest
 real_time_passed st b rest h = simp (le-ltb b 128 (omega arith), le-ltb b 240 (omega arith), le-ltb b 248 h)
 
 -- ---- one message
 
--- where the reader stands afterwards: its status byte runs on
-abbrev pub behind : Message → State
-behind (note_off ch k v) = due (status 0x8 ch)
-behind (note_on ch k v) = due (status 0x9 ch)
-behind (key_pressure ch k p) = due (status 0xa ch)
-behind (control ch n v) = due (status 0xb ch)
-behind (program ch p) = due (status 0xc ch)
-behind (channel_pressure ch p) = due (status 0xd ch)
-behind (bend ch b) = due (status 0xe ch)
+-- Behind a message its status byte runs on.
+abbrev pub state_behind : Message → State
+state_behind (note_off ch k v) = due (status 0x8 ch)
+state_behind (note_on ch k v) = due (status 0x9 ch)
+state_behind (key_pressure ch k p) = due (status 0xa ch)
+state_behind (control ch n v) = due (status 0xb ch)
+state_behind (program ch p) = due (status 0xc ch)
+state_behind (channel_pressure ch p) = due (status 0xd ch)
+state_behind (bend ch b) = due (status 0xe ch)
 
 bend_read : (ch : ℕ) (b : ℤ) {ms : List Message} → is_bend b ≡ true → of_two 0xe ch (bend_low b) (bend_high b) ∷ ms ≡ bend ch b ∷ ms
 bend_read ch b {ms} h = ap (λ (z : ℤ). bend ch z ∷ ms) (bend_back b h)
 
-pub message_padded : (st : State) (m : Message) (rest : List ℕ) → Valid m → read st (bytes m ++ rest) ≡ heard_as m ++ read (behind m) rest
+pub message_padded : (st : State) (m : Message) (rest : List ℕ) → Valid m → read st (bytes m ++ rest) ≡ read_with_padding m ++ read (state_behind m) rest
 message_padded st (note_off ch a b) rest v = read_two st 0x8 ch (lit≤ tt) (lit< tt) v.0 a b rest refl v.1 v.2
 message_padded st (note_on ch a b) rest v = read_two st 0x9 ch (lit≤ tt) (lit< tt) v.0 a b rest refl v.1 v.2
 message_padded st (key_pressure ch a b) rest v = read_two st 0xa ch (lit≤ tt) (lit< tt) v.0 a b rest refl v.1 v.2
@@ -91,7 +91,7 @@ message_padded st (bend ch b) rest v =
     ∙ bend_read ch b v.1
 
 pub message_unpadded :
-    (st : State) (m : Message) (rest : List ℕ) → Valid m → read st (unpadded (bytes m ++ rest)) ≡ m ∷ read (behind m) (unpadded rest)
+    (st : State) (m : Message) (rest : List ℕ) → Valid m → read st (unpadded (bytes m ++ rest)) ≡ m ∷ read (state_behind m) (unpadded rest)
 message_unpadded st (note_off ch a b) rest v = unpadded_two st 0x8 ch (lit≤ tt) (lit< tt) v.0 a b rest refl v.1 v.2
 message_unpadded st (note_on ch a b) rest v = unpadded_two st 0x9 ch (lit≤ tt) (lit< tt) v.0 a b rest refl v.1 v.2
 message_unpadded st (key_pressure ch a b) rest v = unpadded_two st 0xa ch (lit≤ tt) (lit< tt) v.0 a b rest refl v.1 v.2
@@ -104,7 +104,8 @@ message_unpadded st (bend ch b) rest v =
 
 -- ---- lists of messages with their padding
 
-pub all_append : (ms ns : List Message) → all_heard_as (ms ++ ns) ≡ all_heard_as ms ++ all_heard_as ns
+pub all_append : (ms ns : List Message) → all_read_with_padding (ms ++ ns) ≡ all_read_with_padding ms ++ all_read_with_padding ns
 all_append [] ns = refl
 all_append (m ∷ ms) ns =
-    ap (λ (l : List Message). heard_as m ++ l) (all_append ms ns) ∙ sym (append_assoc (heard_as m) (all_heard_as ms) (all_heard_as ns))
+    ap (λ (l : List Message). read_with_padding m ++ l) (all_append ms ns)
+    ∙ sym (append_assoc (read_with_padding m) (all_read_with_padding ms) (all_read_with_padding ns))

@@ -10,12 +10,12 @@ use Rattle.arithmetic.specs.Division.{quotient}
 use Rattle.arithmetic.specs.Measure.{measure}
 use Rattle.theorems.specs.Bounds.{NearestBound}
 use Rattle.arithmetic.specs.Nearest.{semitones, over_a4, nearest_note}
-use Rattle.arithmetic.proofs.Integers.{add_parts, mul_parts, same, sub_parts_ℤ, between_parts}
+use Rattle.arithmetic.proofs.Numbers.Integers.{add_parts, mul_parts, eq_by_parts, sub_parts_ℤ, between_parts}
 use Rattle.theorems.proofs.Numbers.MeasureFactor.{above, below, floor}
-use Rattle.arithmetic.proofs.Measure.{measure_law}
+use Rattle.arithmetic.proofs.Measure.Law.{measure_law}
 use lib.Signed.{◌≤ℤ◌}
 use Rattle.arithmetic.specs.Pitch.{is_pitch}
-use Rattle.arithmetic.proofs.Nearest.{ratio_positive, nearest_parts}
+use Rattle.arithmetic.proofs.Notes.Nearest.{ratio_positive, nearest_parts}
 
 -- ---- the nearest note
 
@@ -40,11 +40,11 @@ nearest_law v h =
 pub nearest_range : (x : Float) → T (is_pitch x) → (negsuc 275 ≤ℤ nearest_note x) × (nearest_note x ≤ℤ pos 444)
 nearest_range x h = let r = nearest_parts x h in between_parts 444 275 (nearest_note x) r.0 r.1
 
--- the bound: with d = note - 69, v is less than 5001 / 10000 of a semitone from d semitones
+-- With d = note - 69, v is less than 5001 / 10000 of a semitone from d semitones.
 pub nearest_bound : (x : Float) → T (is_pitch x) → NearestBound (nearest_note x -ℤ pos 69) (over_a4 x)
 unfolding nearest_note
 nearest_bound x h =
     let d = semitones (measure (over_a4 x)) in
     subst (λ (k : ℤ). NearestBound k (over_a4 x))
-    (same d (pos 69 +ℤ d -ℤ pos 69) (omega (arith, sub_parts_ℤ (pos 69 +ℤ d) (pos 69), add_parts (pos 69) d)))
+    (eq_by_parts d (pos 69 +ℤ d -ℤ pos 69) (omega (arith, sub_parts_ℤ (pos 69 +ℤ d) (pos 69), add_parts (pos 69) d)))
     (nearest_law (over_a4 x) (ratio_positive x h))

@@ -14,13 +14,13 @@ use lib.Ieee.Exact.{HasValue}
 use lib.Ieee.Positive.{num, den, positive}
 use Rattle.arithmetic.specs.Pitch.{octave_pitch, significands, factor}
 use Rattle.theorems.specs.Bounds.{IsSignificand}
-use Rattle.arithmetic.proofs.Integers.{plus, less, add_parts, up_is, down_is}
-use Rattle.theorems.proofs.Numbers.MeasureFactor.{root_lt}
-use Rattle.arithmetic.proofs.Tables.{all, all_at}
+use Rattle.arithmetic.proofs.Numbers.Integers.{plus, less, add_parts, up_is, down_is}
+use Rattle.theorems.proofs.Numbers.MeasureFactor.{lt_of_pow_lt}
+use Rattle.arithmetic.proofs.Numbers.Tables.{all_below, at_from_all_below}
 
 -- ---- the tables' values
 
--- each octave pitch is exactly 440 * 2 ^ j
+-- Each octave pitch is exactly 440 * 2 ^ j.
 pub octave_value : (j : ℤ) → HasValue (octave_pitch j) false (440 * up j) (down j)
 unfolding octave_pitch
 octave_value j = (refl, same_number)
@@ -40,21 +40,21 @@ octave_value j = (refl, same_number)
 abbrev significand : ℕ → ℕ
 significand k = get_or significands k 0
 
--- the rule of both the significands and the factors, as a test that antt computes at each of the twelve
-right : ℕ → Bool
-right k =
+-- The rule of the significands, as a test that antt computes at each of the twelve.
+is_nearest : ℕ → Bool
+is_nearest k =
     let m = significand k in
     ltb ((2 * m - 1) ^ 12) (2 ^ (k + 636)) && ltb (2 ^ (k + 636)) ((2 * m + 1) ^ 12)
 
-all_right : T (all right 12)
-unfolding right significands
-all_right = tt
+all_nearest : T (all_below is_nearest 12)
+unfolding is_nearest significands
+all_nearest = tt
 
--- the twelve numbers are significands of the factors, and no others are
+-- The twelve numbers are significands of the factors, and no others are.
 pub significand_rule : (k : ℕ) → k < 12 → IsSignificand k (get_or significands k 0)
-unfolding right
+unfolding is_nearest
 significand_rule k h =
-    let t = all_at right 12 k all_right h in
+    let t = at_from_all_below is_nearest 12 k all_nearest h in
     let m = significand k in
     let a = ltb ((2 * m - 1) ^ 12) (2 ^ (k + 636)) in
     let b = ltb (2 ^ (k + 636)) ((2 * m + 1) ^ 12) in
@@ -62,16 +62,16 @@ significand_rule k h =
 
 pub significand_unique : (k m n : ℕ) → IsSignificand k m → IsSignificand k n → m ≡ n
 significand_unique k m n h g =
-    let a = root_lt (2 * m - 1) (2 * n + 1) 12 (lt_trans h.0 g.1) in
-    let b = root_lt (2 * n - 1) (2 * m + 1) 12 (lt_trans g.0 h.1) in
+    let a = lt_of_pow_lt (2 * m - 1) (2 * n + 1) 12 (lt_trans h.0 g.1) in
+    let b = lt_of_pow_lt (2 * n - 1) (2 * m + 1) 12 (lt_trans g.0 h.1) in
     omega arith
 
 -- R[k] is exactly m / 2 ^ 52
-exact : ℕ → Bool
-exact k = positive (factor k) && eqb (num (factor k) * 2 ^ 52) (significand k * den (factor k))
+is_exact : ℕ → Bool
+is_exact k = positive (factor k) && eqb (num (factor k) * 2 ^ 52) (significand k * den (factor k))
 
-all_exact : T (all exact 12)
-unfolding exact factor significands round
+all_exact : T (all_below is_exact 12)
+unfolding is_exact factor significands round
 all_exact = tt
 
 value_by : (x : Float) (a c : ℕ) → T (positive x) → num x * c ≡ a * den x → HasValue x false a c
@@ -81,9 +81,9 @@ value_by (fin true m f) a c p e = absurd p
 value_by (fin false m f) a c p e = (refl, e)
 
 pub factor_value : (k : ℕ) → k < 12 → HasValue (factor k) false (get_or significands k 0) (2 ^ 52)
-unfolding exact
+unfolding is_exact
 factor_value k h =
-    let t = all_at exact 12 k all_exact h in
+    let t = at_from_all_below is_exact 12 k all_exact h in
     let p = positive (factor k) in
     let q = eqb (num (factor k) * 2 ^ 52) (significand k * den (factor k)) in
     value_by (factor k) (significand k) (2 ^ 52) (and_l p q t) (eqb→eq (num (factor k) * 2 ^ 52) (significand k * den (factor k)) (and_r p q t))

@@ -1,4 +1,4 @@
--- The invariant through each change of a pool: a free channel that is taken, one that is freed, a release, and the room for a press. Assumes nothing.
+-- The invariant through each change of a pool: a free channel that is taken, one that is freed, a release, and the room for a press.
 use Prim.Native.Nat.{ℕ, zero, suc, ◌<◌, ◌≤◌}
 use mathlib.Core.Path.{◌≡◌, refl, sym, ap, subst, ◌∙◌}
 use mathlib.Core.Bool.{Bool, true, false, cond}
@@ -10,18 +10,20 @@ use lib.IntN.{ℤ}
 use lib.Ieee.{Float}
 use lib.ListN.{length, get_or, set, drop, length-set, length-append}
 use lib.Seq.{get_or-set_same, get_or-set_other}
-use Rattle.pools.specs.declared.jit.PoolingMode.{PoolingMode}
-use Rattle.pools.specs.declared.jit.PoolingMode.TheVariants.{Block, Stop, Ignore}
+use Rattle.pools.specs.declared.settings.PoolingMode.{PoolingMode}
+use Rattle.pools.specs.declared.settings.PoolingMode.TheVariants.{Block, Stop, Ignore}
 use Rattle.channels.specs.Lists.{member, without, first}
 use Rattle.channels.specs.Places.{Place}
-use Rattle.pools.specs.Pool.{key_count, Pool, State, Held, pool_of, pool, found, with_pool, with_key, behind, taken_in, taken, freed_in, freed, forgotten, released, oldest, made_room, room_by, room_for, pressed_on, pressed}
-use Rattle.theorems.specs.PoolCalls.{times, keys_on, standing}
-use Rattle.pools.proofs.Queues.{behind_room}
-use Rattle.pools.proofs.Pools.{pool_small, oldest_is, released_found, released_none, released_other}
+use Rattle.pools.specs.Pool.{key_count, Pool, State, Held, pool_of, pool, found, with_pool, with_key, enqueue, taken_in, taken, freed_in, freed, without_key, released, oldest, reclaim_by_mode, reclaim_unless_free, reclaim, pressed_on, pressed}
+use Rattle.theorems.specs.PoolCalls.{times, keys_on, occurrences}
+use Rattle.pools.proofs.Queues.{enqueue_room}
+use Rattle.pools.proofs.Models.Views.{pool_small}
+use Rattle.pools.proofs.Pools.PressCases.{oldest_is}
+use Rattle.pools.proofs.Pools.Releases.{released_found, released_none, released_other}
 use Rattle.theorems.proofs.Pools.Occurrences.{times_cons, times_same, either, member_times, member_not, sum_without, times_append, times_without, length_without}
-use Rattle.channels.proofs.ListLaws.{first_rest}
+use Rattle.channels.proofs.Lists.Laws.{first_rest}
 use Rattle.theorems.specs.PoolInvariant.{Holds, Ok, PoolOk}
-use Rattle.theorems.proofs.Pools.OnePool.{absent, anew, apart, frame, free_low, keys_cons, keys_found, keys_none, keys_same, moved, one_pool, pool_ok, seated}
+use Rattle.theorems.proofs.Pools.OnePool.{absent, pool_set_ok, apart, same_places_ok, free_low, keys_cons, keys_found, keys_none, keys_same, same_place_holds, one_pool, pool_ok, enqueued_ok}
 
 -- ---- a press takes a free channel
 
@@ -35,11 +37,11 @@ taken_same s key note c h = get_or-set_same s.keys key _ none h
 
 module _ (n : ℕ) (s : State) (ok : Ok n s) (key : ℕ) (small : key < key_count) (e : found s key ≡ none) (note : ℤ) where
   pub taken_ok : (c : ℕ) → first (pool s note).free ≡ some c → Ok n (taken s key note c)
-  unfolding taken with_key with_pool taken_in standing
+  unfolding taken with_key with_pool taken_in occurrences
   taken_ok c h =
-      anew n s t (pool_of s.group note) (taken_in p key) ok (pool_small s.group note) refl refl refl (length-set s.keys key (some place) ∙ ok.keys)
+      pool_set_ok n s t (pool_of s.group note) (taken_in p key) ok (pool_small s.group note) refl refl refl (length-set s.keys key (some place) ∙ ok.keys)
       low
-      (seated n s t (pool_of s.group note) refl (drop 1 p.free) p.order key place ok.few
+      (enqueued_ok n s t (pool_of s.group note) refl (drop 1 p.free) p.order key place ok.few
       (λ x. omega (arith, p_ok.once x, ap (times x) parts, times_cons x c (drop 1 p.free)))
       (omega (arith, p_ok.total, ap length parts))
       p_ok.holds
@@ -96,8 +98,8 @@ module _ (n : ℕ) (s : State) (ok : Ok n s) (key : ℕ) (q : Place) (e : found 
   module _ (t : State) (g : t.group ≡ s.group) (agree : (k : ℕ) → k ≢ key → found t k ≡ found s k) where
     freed_by : (has : Bool) → member key (pool s q.note).order ≡ has
         → PoolOk n t (pool_of s.group q.note)
-        (cond has (record { free = behind (pool s q.note).free q.channel; order = without key (pool s q.note).order }) (pool s q.note))
-    unfolding standing
+        (cond has (record { free = enqueue (pool s q.note).free q.channel; order = without key (pool s q.note).order }) (pool s q.note))
+    unfolding occurrences
     freed_by true h =
         let p : Pool = pool s q.note in
         let inside : times key p.order ≡ 1 = omega (arith, member_times p.order key h, q_ok.distinct key) in
@@ -105,7 +107,7 @@ module _ (n : ℕ) (s : State) (ok : Ok n s) (key : ℕ) (q : Place) (e : found 
         let other : (k : ℕ) → 0 < times k (without key p.order) → k ≢ key = λ k m same. omega (arith, ap (λ (x : ℕ). times x (without key p.order)) same) in
         let less : (k : ℕ) → times k (without key p.order) ≤ times k p.order = λ k. omega (arith, times_without k p.order key inside) in
         let room : length p.free < 16 = omega (arith, ok.few, q_ok.total, length_without p.order key inside) in
-        rw (behind_room p.free q.channel room)
+        rw (enqueue_room p.free q.channel room)
         (record {
           once = λ c.
               omega (
@@ -117,21 +119,21 @@ module _ (n : ℕ) (s : State) (ok : Ok n s) (key : ℕ) (q : Place) (e : found 
                 keys_same s t c (without key p.order) (λ k m. agree k (other k m)),
               );
           total = omega (arith, q_ok.total, length-append p.free (q.channel ∷ []), length_without p.order key inside);
-          holds = λ k m. moved s t (pool_of s.group q.note) k g (agree k (other k m)) (q_ok.holds k (omega (arith, less k)));
+          holds = λ k m. same_place_holds s t (pool_of s.group q.note) k g (agree k (other k m)) (q_ok.holds k (omega (arith, less k)));
           distinct = λ k. omega (arith, less k, q_ok.distinct k);
         })
     freed_by false h =
-        frame n s t (pool_of s.group q.note) g (pool s q.note)
+        same_places_ok n s t (pool_of s.group q.note) g (pool s q.note)
         (λ k m. agree k (λ same. omega (arith, member_not (pool s q.note).order key h, ap (λ (x : ℕ). times x (pool s q.note).order) same)))
         q_ok
 
-    -- whether or not the key is still found afterwards
-    lost_ok : t.channels ≡ s.channels → t.pools ≡ (freed s key q).pools → length t.keys ≡ key_count
+    -- This holds whether or not the key is still found afterwards.
+    freed_pools_ok : t.channels ≡ s.channels → t.pools ≡ (freed s key q).pools → length t.keys ≡ key_count
         → ((p : Place) → found t key ≡ some p → p.channel < n)
         → Ok n t
     unfolding freed with_pool freed_in
-    lost_ok c pools keys low =
-        anew n s t (pool_of s.group q.note) (freed_in (pool s q.note) key q.channel) ok (pool_small s.group q.note) c g pools keys
+    freed_pools_ok c pools keys low =
+        pool_set_ok n s t (pool_of s.group q.note) (freed_in (pool s q.note) key q.channel) ok (pool_small s.group q.note) c g pools keys
         (λ k p f.
         either key k (λ same. low p (subst (λ (x : ℕ). found t x ≡ some p) same f)) (λ ne. ok.low k p (sym (agree k ne) ∙ f)))
         (freed_by (member key (pool s q.note).order) refl)
@@ -141,54 +143,55 @@ module _ (n : ℕ) (s : State) (ok : Ok n s) (key : ℕ) (q : Place) (e : found 
   pub freed_ok : Ok n (freed s key q)
   unfolding freed with_pool
   freed_ok =
-      lost_ok (freed s key q) refl (λ k ne. freed_found s key q k) refl refl ok.keys (λ p f. ok.low key p (sym (freed_found s key q key) ∙ f))
+      freed_pools_ok (freed s key q) refl (λ k ne. freed_found s key q k) refl refl ok.keys (λ p f. ok.low key p (sym (freed_found s key q key) ∙ f))
 
-  -- a release
-  pub forgotten_ok : Ok n (forgotten (freed s key q) key)
-  unfolding freed forgotten with_pool with_key found
-  forgotten_ok =
-      lost_ok (forgotten (freed s key q) key) refl (λ k ne. get_or-set_other s.keys key k none none ne) refl refl (length-set s.keys key none ∙ ok.keys)
+  -- A release makes the key unknown.
+  pub without_key_ok : Ok n (without_key (freed s key q) key)
+  unfolding freed without_key with_pool with_key found
+  without_key_ok =
+      freed_pools_ok (without_key (freed s key q) key) refl (λ k ne. get_or-set_other s.keys key k none none ne) refl refl
+      (length-set s.keys key none ∙ ok.keys)
       (λ p f. let gone = set_none s.keys key in let z : ◌≡◌ {A = ℕ} 0 1 = cc in absurd (omega arith))
 
 pub released_ok : (n : ℕ) (s : State) → Ok n s → (key : ℕ) → Ok n (released s key)
 released_ok n s ok key = go (found s key) refl
   where
     go : (p : Option Place) → found s key ≡ p → Ok n (released s key)
-    go (some q) e = rw (released_found s key q e) (forgotten_ok n s ok key q e)
+    go (some q) e = rw (released_found s key q e) (without_key_ok n s ok key q e)
     go none e = rw (released_none s key e) ok
 
 -- ---- room for a press
 
 -- What a press of a key that is not held finds: a state with nothing lost, in which the key is still not held.
-pub record RoomOk (n : ℕ) (s : State) (key : ℕ) : Type 0 where
+pub record ReclaimOk (n : ℕ) (s : State) (key : ℕ) : Type 0 where
   pub sound : Ok n s
   pub new : found s key ≡ none
 
 module _ (n : ℕ) (s : State) (ok : Ok n s) (key : ℕ) (e : found s key ≡ none) where
-  made_ok : (mode : PoolingMode) (note : ℤ) (old : Option Held) → oldest s note ≡ old → RoomOk n (made_room mode s old).state key
-  unfolding made_room
-  made_ok Block note old h = record { sound = ok; new = e }
-  made_ok Stop note none h = record { sound = ok; new = e }
-  made_ok Stop note (some o) h =
+  reclaimed_ok : (mode : PoolingMode) (note : ℤ) (old : Option Held) → oldest s note ≡ old → ReclaimOk n (reclaim_by_mode mode s old).state key
+  unfolding reclaim_by_mode
+  reclaimed_ok Block note old h = record { sound = ok; new = e }
+  reclaimed_ok Stop note none h = record { sound = ok; new = e }
+  reclaimed_ok Stop note (some o) h =
       record {
         sound = released_ok n s ok o.key;
         new = released_other s o.key key (λ same. apart s key o.key o.place e (oldest_is s note o h).1 (sym same)) ∙ e;
       }
-  made_ok Ignore note none h = record { sound = ok; new = e }
-  made_ok Ignore note (some o) h = record { sound = freed_ok n s ok o.key o.place (oldest_is s note o h).1; new = freed_found s o.key o.place key ∙ e }
+  reclaimed_ok Ignore note none h = record { sound = ok; new = e }
+  reclaimed_ok Ignore note (some o) h = record { sound = freed_ok n s ok o.key o.place (oldest_is s note o h).1; new = freed_found s o.key o.place key ∙ e }
 
-  pub room_ok : (note : ℤ) → RoomOk n (room_for s note).state key
-  unfolding room_for room_by
-  room_ok note = go (first (pool s note).free)
+  pub reclaim_ok : (note : ℤ) → ReclaimOk n (reclaim s note).state key
+  unfolding reclaim reclaim_unless_free
+  reclaim_ok note = go (first (pool s note).free)
     where
-      go : (c : Option ℕ) → RoomOk n (room_by c s note).state key
+      go : (c : Option ℕ) → ReclaimOk n (reclaim_unless_free c s note).state key
       go (some c) = record { sound = ok; new = e }
-      go none = made_ok s.mode note (oldest s note) refl
+      go none = reclaimed_ok s.mode note (oldest s note) refl
 
   pub pressed_ok : key < key_count → (note : ℤ) (d : Float) → Ok n (pressed s key note d).1
   unfolding pressed pressed_on
-  pressed_ok small note d = go (first (pool (room_for s note).state note).free) refl
+  pressed_ok small note d = go (first (pool (reclaim s note).state note).free) refl
     where
-      go : (c : Option ℕ) → first (pool (room_for s note).state note).free ≡ c → Ok n (pressed_on c (room_for s note) s key note d).1
-      go (some c) h = let r = room_ok note in taken_ok n (room_for s note).state r.sound key small r.new note c h
+      go : (c : Option ℕ) → first (pool (reclaim s note).state note).free ≡ c → Ok n (pressed_on c (reclaim s note) s key note d).1
+      go (some c) h = let r = reclaim_ok note in taken_ok n (reclaim s note).state r.sound key small r.new note c h
       go none h = ok

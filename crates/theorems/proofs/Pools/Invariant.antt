@@ -1,33 +1,33 @@
 -- Pools lose no channel: however a model was opened and whatever calls followed, refused and rejected ones included, each channel of each pool stands
--- exactly once, free or with one key that has not lost it. Assumes nothing.
+-- exactly once, free or with one key that has not lost it.
 use Prim.Native.Nat.{ℕ, ◌<◌, ◌≤◌}
 use mathlib.Core.Path.{◌≡◌, refl, sym, subst, ◌∙◌}
 use mathlib.Core.List.{List, []}
 use mathlib.Core.Option.{Option, some, none}
 use native.Mathlib.Omega.{arith}
 use lib.ListN.{length, get_or, length-replicate, get_or-replicate}
-use Rattle.pools.specs.declared.jit.PoolGroupBy.{PoolGroupBy}
-use Rattle.pools.specs.declared.jit.PoolingMode.{PoolingMode}
+use Rattle.pools.specs.declared.settings.PoolGroupBy.{PoolGroupBy}
+use Rattle.pools.specs.declared.settings.PoolingMode.{PoolingMode}
 use Rattle.channels.specs.Lists.{upward}
 use Rattle.channels.specs.ChannelList.{list_rule, present}
 use Rattle.channels.specs.Places.{Place}
 use Rattle.pools.specs.Pool.{key_count, Pool, State, empty_pool, pool_count, found, fresh, open_rule}
-use Rattle.theorems.specs.PoolCalls.{Call, after, played, standing}
-use Rattle.channels.proofs.ChannelLists.{Verdict, listed, offended, verdict, fine_listed, offence_refused, channels_few}
+use Rattle.theorems.specs.PoolCalls.{Call, step, run, reached, occurrences}
 use Rattle.theorems.proofs.Pools.Occurrences.{times_none, times_range, times_past, length_range}
+use Rattle.theorems.proofs.ChannelLists.{channels_different}
 use Rattle.theorems.specs.PoolInvariant.{Ok, PoolOk}
 use Rattle.theorems.proofs.Pools.OnePool.{keys_none}
-use Rattle.plans.proofs.SortedKeys.{replicated_at}
+use Rattle.plans.proofs.Lines.SortedKeys.{replicated_at}
 use Rattle.theorems.proofs.Pools.Changes.{pressed_ok, released_ok}
-use Rattle.theorems.proofs.Pools.Kept.{after_kept, played_kept}
+use Rattle.theorems.proofs.Pools.Kept.{step_kept, run_kept}
 
 -- ---- every call, and every sequence
 
-pub after_ok : (n : ℕ) (s : State) → Ok n s → (c : Call) → Ok n (after s c)
-after_ok n = after_kept (Ok n) (λ t ok key small e note d. pressed_ok n t ok key e small note d) (released_ok n)
+pub step_ok : (n : ℕ) (s : State) → Ok n s → (c : Call) → Ok n (step s c)
+step_ok n = step_kept (Ok n) (λ t ok key small e note d. pressed_ok n t ok key e small note d) (released_ok n)
 
-played_ok : (n : ℕ) (s : State) → Ok n s → (cs : List Call) → Ok n (played s cs)
-played_ok n = played_kept (Ok n) (λ t ok key small e note d. pressed_ok n t ok key e small note d) (released_ok n)
+run_ok : (n : ℕ) (s : State) → Ok n s → (cs : List Call) → Ok n (run s cs)
+run_ok n = run_kept (Ok n) (λ t ok key small e note d. pressed_ok n t ok key e small note d) (released_ok n)
 
 -- ---- a fresh model
 
@@ -36,7 +36,7 @@ unfolding fresh found
 fresh_none channels group mode k = replicated_at none key_count k
 
 pub fresh_ok : (channels : List ℕ) → length channels ≤ 16 → (group : PoolGroupBy) (mode : PoolingMode) → Ok (length channels) (fresh channels group mode)
-unfolding fresh standing
+unfolding fresh occurrences
 fresh_ok channels few group mode =
     record {
       few = few;
@@ -63,43 +63,35 @@ fresh_ok channels few group mode =
         }
 
 pub present_few : (cs : List ℕ) → length (present (list_rule cs)) ≤ 16
-unfolding list_rule
-present_few cs = go (verdict [] cs)
-  where
-    go : Verdict [] cs → length (present (list_rule cs)) ≤ 16
-    go (listed f) = rw (fine_listed [] cs f) (channels_few cs f)
-    go (offended m o) = rw (offence_refused [] cs m o) (omega arith)
+present_few cs = (channels_different cs).0
 
 -- ---- the theorem
 
--- a model as it was opened, and then played
-abbrev pub model : List ℕ → PoolGroupBy → PoolingMode → List Call → State
-model channels group mode calls = played (open_rule channels group mode).1 calls
-
-pub model_ok : (channels : List ℕ) (group : PoolGroupBy) (mode : PoolingMode) (calls : List Call)
-    → Ok (length (present (list_rule channels))) (model channels group mode calls)
+pub reached_ok : (channels : List ℕ) (group : PoolGroupBy) (mode : PoolingMode) (calls : List Call)
+    → Ok (length (present (list_rule channels))) (reached channels group mode calls)
 unfolding open_rule
-model_ok channels group mode calls =
-    played_ok (length (present (list_rule channels))) (fresh (present (list_rule channels)) group mode) (fresh_ok (present (list_rule channels)) (present_few channels) group mode) calls
+reached_ok channels group mode calls =
+    let cs = present (list_rule channels) in
+    run_ok (length cs) (fresh cs group mode) (fresh_ok cs (present_few channels) group mode) calls
 
 -- Each channel of each pool stands exactly once, free or with one key that has not lost it; a number that is no channel stands nowhere.
 module _ (channels : List ℕ) (group : PoolGroupBy) (mode : PoolingMode) (calls : List Call) where
-  pub channels_once : let s = model channels group mode calls in
-      (i : ℕ) → i < pool_count s.group → (c : ℕ) → c < length s.channels → standing s (get_or s.pools i empty_pool) c ≡ 1
+  pub channels_once : let s = reached channels group mode calls in
+      (i : ℕ) → i < pool_count s.group → (c : ℕ) → c < length s.channels → occurrences s (get_or s.pools i empty_pool) c ≡ 1
   channels_once i h c k =
-      let ok = model_ok channels group mode calls in
+      let ok = reached_ok channels group mode calls in
       (ok.each i h).once c ∙ times_range c 0 (length (present (list_rule channels))) (omega arith) (omega (arith, ok.channels))
 
-  pub no_others : let s = model channels group mode calls in
-      (i : ℕ) → i < pool_count s.group → (c : ℕ) → length s.channels ≤ c → standing s (get_or s.pools i empty_pool) c ≡ 0
+  pub no_others : let s = reached channels group mode calls in
+      (i : ℕ) → i < pool_count s.group → (c : ℕ) → length s.channels ≤ c → occurrences s (get_or s.pools i empty_pool) c ≡ 0
   no_others i h c k =
-      let ok = model_ok channels group mode calls in
+      let ok = reached_ok channels group mode calls in
       (ok.each i h).once c ∙ times_past c 0 (length (present (list_rule channels))) (omega (arith, ok.channels))
 
   -- A found key, whether or not it has lost its channel, sounds on one of the model's channels: the channel list has an entry for it.
-  pub found_channel : let s = model channels group mode calls in
+  pub found_channel : let s = reached channels group mode calls in
       (key : ℕ) (p : Place) → found s key ≡ some p → p.channel < length s.channels
   found_channel key p e =
-      let ok = model_ok channels group mode calls in
+      let ok = reached_ok channels group mode calls in
       let low = ok.low key p e in
       omega (arith, ok.channels)

@@ -1,5 +1,5 @@
 -- How often a number stands in a list. A count, a length and a count of the keys on a channel are each a sum over the list, so their laws are stated
--- once, for any sum. Assumes nothing.
+-- once, for any sum.
 use Prim.Native.Nat.{ℕ, zero, suc, ◌+◌, ◌<◌, ◌≤◌}
 use mathlib.Core.Path.{◌≡◌, refl, sym, ap, ◌∙◌}
 use mathlib.Core.Bool.{Bool, true, false, cond, ◌||◌, false≢true}
@@ -37,7 +37,7 @@ pub times_other : (n x : ℕ) → x ≢ n → times n (x ∷ []) ≡ 0
 unfolding times
 times_other n x h = rw (ne_eqb x n h)
 
--- two numbers are equal or not
+-- Two numbers are equal or not.
 pub either : (n x : ℕ) {P : Type 0} → (x ≡ n → P) → (x ≢ n → P) → P
 either n x {P} f g = go (eqb x n) refl
   where

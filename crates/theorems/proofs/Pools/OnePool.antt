@@ -1,4 +1,4 @@
--- The invariant of one pool: the keys on a channel, what a change of one pool leaves of the others, and keys that are apart. Assumes nothing.
+-- The invariant of one pool: the keys on a channel, what a change of one pool leaves of the others, and keys that are apart.
 use Prim.Native.Nat.{ℕ, zero, suc, ◌+◌, ◌<◌, ◌≤◌}
 use mathlib.Core.Path.{◌≡◌, refl, sym, ap, subst, ◌∙◌}
 use mathlib.Core.Bool.{Bool, true, false}
@@ -11,15 +11,15 @@ use lib.ListN.{length, get_or, set, drop, length-set, length-append}
 use lib.Seq.{get_or-set_same, get_or-set_other}
 use lib.Dec.{leb}
 use borrow.Author.Tests.{leb-true, leb-false}
-use Rattle.pools.specs.declared.jit.PoolGroupBy.{PoolGroupBy}
+use Rattle.pools.specs.declared.settings.PoolGroupBy.{PoolGroupBy}
 use Rattle.channels.specs.Lists.{upward, first}
 use Rattle.channels.specs.Places.{Place}
-use Rattle.pools.specs.Pool.{key_count, Pool, State, empty_pool, pool_count, pool_of, pool, found, behind}
-use Rattle.theorems.specs.PoolCalls.{times, channel_at, keys_on, standing}
-use Rattle.pools.proofs.Queues.{behind_room}
-use Rattle.pools.proofs.Pools.{pool_small}
+use Rattle.pools.specs.Pool.{key_count, Pool, State, empty_pool, pool_count, pool_of, pool, found, enqueue}
+use Rattle.theorems.specs.PoolCalls.{times, channel_at, keys_on, occurrences}
+use Rattle.pools.proofs.Queues.{enqueue_room}
+use Rattle.pools.proofs.Models.Views.{pool_small}
 use Rattle.theorems.proofs.Pools.Occurrences.{times_cons, times_same, times_other, times_one, either, sum_append, times_append, times_past}
-use Rattle.channels.proofs.ListLaws.{first_rest}
+use Rattle.channels.proofs.Lists.Laws.{first_rest}
 use Rattle.theorems.specs.PoolInvariant.{Holds, Ok, PoolOk}
 
 -- ---- the keys on a channel
@@ -37,7 +37,7 @@ module _ (s : State) (c : ℕ) where
   unfolding keys_on channel_at
   keys_found x p e = rw e (omega arith)
 
--- only the keys' places count
+-- Only the places of the keys in the list count.
 pub keys_same : (s t : State) (c : ℕ) (l : List ℕ) → ((k : ℕ) → 0 < times k l → found t k ≡ found s k) → keys_on t c l ≡ keys_on s c l
 unfolding keys_on
 keys_same s t c [] h = refl
@@ -47,24 +47,24 @@ keys_same s t c (x ∷ l) h =
 
 -- ---- what holds of each pool
 
--- a key found in one state is found in another that has the same place for it
-pub moved : (s t : State) (i k : ℕ) → t.group ≡ s.group → found t k ≡ found s k → Holds s i k → Holds t i k
-moved s t i k g e h = record { place = h.place; is = e ∙ h.is; here = ap (λ (b : PoolGroupBy). pool_of b h.place.note) g ∙ h.here }
+-- A key that is found in one state is found in another that has the same place for it.
+pub same_place_holds : (s t : State) (i k : ℕ) → t.group ≡ s.group → found t k ≡ found s k → Holds s i k → Holds t i k
+same_place_holds s t i k g e h = record { place = h.place; is = e ∙ h.is; here = ap (λ (b : PoolGroupBy). pool_of b h.place.note) g ∙ h.here }
 
 module _ (n : ℕ) (s t : State) (i : ℕ) (g : t.group ≡ s.group) where
-  -- a pool that stays as it is, with the places of its keys
-  pub frame : (p : Pool) → ((k : ℕ) → 0 < times k p.order → found t k ≡ found s k) → PoolOk n s i p → PoolOk n t i p
-  unfolding standing
-  frame p h ok =
+  -- A pool stays as it is where the places of its keys do.
+  pub same_places_ok : (p : Pool) → ((k : ℕ) → 0 < times k p.order → found t k ≡ found s k) → PoolOk n s i p → PoolOk n t i p
+  unfolding occurrences
+  same_places_ok p h ok =
       record {
         once = λ c. ap (λ (m : ℕ). times c p.free + m) (keys_same s t c p.order h) ∙ ok.once c;
         total = ok.total;
-        holds = λ k m. moved s t i k g (h k m) (ok.holds k m);
+        holds = λ k m. same_place_holds s t i k g (h k m) (ok.holds k m);
         distinct = ok.distinct;
       }
 
-  -- a key takes a channel that stood apart
-  pub seated : (free order : List ℕ) (key : ℕ) (q : Place)
+  -- A key takes a channel that was neither free nor with another key.
+  pub enqueued_ok : (free order : List ℕ) (key : ℕ) (q : Place)
       → n ≤ 16
       → ((c : ℕ) → times c free + keys_on s c order + times c (q.channel ∷ []) ≡ times c (upward 0 n))
       → length free + suc (length order) ≡ n
@@ -74,10 +74,10 @@ module _ (n : ℕ) (s t : State) (i : ℕ) (g : t.group ≡ s.group) where
       → ((k : ℕ) → 0 < times k order → found t k ≡ found s k)
       → found t key ≡ some q
       → pool_of t.group q.note ≡ i
-      → PoolOk n t i (record { free = free; order = behind order key })
-  unfolding standing
-  seated free order key q few once total holds distinct absent agree is here =
-      rw (behind_room order key (omega arith))
+      → PoolOk n t i (record { free = free; order = enqueue order key })
+  unfolding occurrences
+  enqueued_ok free order key q few once total holds distinct absent agree is here =
+      rw (enqueue_room order key (omega arith))
       (record {
         once = λ c.
             omega (
@@ -93,22 +93,22 @@ module _ (n : ℕ) (s t : State) (i : ℕ) (g : t.group ≡ s.group) where
             (λ e. rw (← e) (record { place = q; is = is; here = here }))
             (λ ne.
             let old : 0 < times k order = omega (arith, times_append k order (key ∷ []), times_other k key ne) in
-            moved s t i k g (agree k old) (holds k old));
+            same_place_holds s t i k g (agree k old) (holds k old));
         distinct = λ k.
             either k key
             (λ e. omega (arith, times_append k order (key ∷ []), times_one k key, ap (λ (x : ℕ). times x order) e, absent))
             (λ ne. omega (arith, times_append k order (key ∷ []), times_other k key ne, distinct k));
       })
 
--- a state of which one pool is set anew
-pub anew : (n : ℕ) (s t : State) (i : ℕ) (p : Pool) → Ok n s → i < pool_count s.group → t.channels ≡ s.channels → t.group ≡ s.group
+-- One pool of a state is set, and the others stay.
+pub pool_set_ok : (n : ℕ) (s t : State) (i : ℕ) (p : Pool) → Ok n s → i < pool_count s.group → t.channels ≡ s.channels → t.group ≡ s.group
     → t.pools ≡ set s.pools i p
     → length t.keys ≡ key_count
     → ((k : ℕ) (q : Place) → found t k ≡ some q → q.channel < n)
     → PoolOk n t i p
     → ((j : ℕ) → j < pool_count s.group → j ≢ i → (k : ℕ) → 0 < times k (get_or s.pools j empty_pool).order → found t k ≡ found s k)
     → Ok n t
-anew n s t i p ok h c g e keys low here others =
+pool_set_ok n s t i p ok h c g e keys low here others =
     record {
       few = ok.few;
       channels = ap length c ∙ ok.channels;
@@ -119,7 +119,7 @@ anew n s t i p ok h c g e keys low here others =
           let inside : j < pool_count s.group = subst (λ (b : PoolGroupBy). j < pool_count b) g k in
           either i j
           (λ q. subst (λ (m : ℕ). PoolOk n t m (get_or t.pools m empty_pool)) (sym q) (subst (PoolOk n t i) (sym new) here))
-          (λ ne. subst (PoolOk n t j) (sym (old j ne)) (frame n s t j g (get_or s.pools j empty_pool) (others j inside ne) (ok.each j inside)));
+          (λ ne. subst (PoolOk n t j) (sym (old j ne)) (same_places_ok n s t j g (get_or s.pools j empty_pool) (others j inside ne) (ok.each j inside)));
     }
   where
     new : get_or t.pools i empty_pool ≡ p
@@ -130,11 +130,11 @@ anew n s t i p ok h c g e keys low here others =
 
 -- ---- keys apart
 
--- a key that is found is none that is not
+-- A key that is found is none that is not found.
 pub apart : (s : State) (key k : ℕ) (p : Place) → found s key ≡ none → found s k ≡ some p → k ≢ key
 apart s key k p e f q = let z : ◌≡◌ {A = ℕ} 0 1 = cc in omega arith
 
--- a key is in one pool
+-- A key is in one pool.
 pub one_pool : (s : State) (i j k : ℕ) → Holds s i k → Holds s j k → i ≡ j
 one_pool s i j k a b =
     let x = a.is in
@@ -142,7 +142,7 @@ one_pool s i j k a b =
     let same : a.place ≡ b.place = cc in
     sym a.here ∙ ap (λ (p : Place). pool_of s.group p.note) same ∙ b.here
 
--- a key that is not held has no channel
+-- A key that is not held has no channel.
 pub absent : (n : ℕ) (s : State) (i : ℕ) (p : Pool) → PoolOk n s i p → (key : ℕ) → found s key ≡ none → times key p.order ≡ 0
 absent n s i p ok key e = go (times key p.order) refl
   where
@@ -155,17 +155,17 @@ module _ (n : ℕ) (s : State) (ok : Ok n s) (note : ℤ) where
   unfolding pool
   pool_ok = ok.each (pool_of s.group note) (pool_small s.group note)
 
--- a number that stands somewhere among the first n is one of them
-below : (c n : ℕ) → 0 < times c (upward 0 n) → c < n
-below c n h = go (leb n c) refl
+-- A number that stands somewhere among the first n is one of them.
+below_of_times : (c n : ℕ) → 0 < times c (upward 0 n) → c < n
+below_of_times c n h = go (leb n c) refl
   where
     go : (b : Bool) → leb n c ≡ b → c < n
     go true e = absurd (omega (arith, times_past c 0 n (omega (arith, leb-true n c e))))
     go false e = leb-false n c e
 
--- a free channel is one of the model's
+-- A free channel is one of the model's.
 pub free_low : (n : ℕ) (s : State) → Ok n s → (note : ℤ) (c : ℕ) → first (pool s note).free ≡ some c → c < n
-unfolding standing
+unfolding occurrences
 free_low n s ok note c h =
     let free = (pool s note).free in
-    below c n (omega (arith, (pool_ok n s ok note).once c, ap (times c) (first_rest free c h), times_cons c c (drop 1 free), times_same c))
+    below_of_times c n (omega (arith, (pool_ok n s ok note).once c, ap (times c) (first_rest free c h), times_cons c c (drop 1 free), times_same c))

@@ -1,4 +1,4 @@
--- What an accepted press was made of: the nearest note of its pitch, and the detuning from it, which lies from 0.96 to 1.04. Assumes nothing.
+-- What an accepted press was made of: the nearest note of its pitch, and the detuning from it, which lies from 0.96 to 1.04.
 use mathlib.Core.Path.{◌≡◌, sym, ap, subst, ◌∙◌}
 use mathlib.Core.Bool.{not}
 use mathlib.Core.Option.{Option}
@@ -10,15 +10,15 @@ use Rattle.arithmetic.specs.Outcome.{value}
 use Rattle.arithmetic.specs.Pitch.{is_pitch, detuning_of}
 use Rattle.arithmetic.specs.Nearest.{nearest_note}
 use Rattle.theorems.proofs.Numbers.NearestDetuning.{nearest_close}
-use Rattle.arithmetic.proofs.Nearest.{nearest_detuning}
+use Rattle.arithmetic.proofs.Notes.Nearest.{nearest_detuning}
 use Rattle.channels.specs.Places.{is_held}
 use Rattle.pools.specs.Pool.{State, Press, accepted, found, pressed, unless_held, register_rule}
 use Rattle.channels.specs.TuningValue.{sent_as}
 use Rattle.theorems.specs.Bounds.{value_of, StepBound}
 use Rattle.channels.specs.declared.tuning_value.TuningKind.{TuningKind}
-use Rattle.pools.proofs.PoolPresses.{made_with}
-use Rattle.pools.proofs.Pools.{value_by}
-use Rattle.theorems.proofs.Values.Bounds.{sent_law}
+use Rattle.pools.proofs.Pools.Presses.{made_with}
+use Rattle.pools.proofs.Pools.Presses.{value_by}
+use Rattle.theorems.proofs.Values.{sent_law}
 
 module _
     (s : State) (key : ℕ) (hz : Float) {c : ℕ} {st : Option ℤ} {z : ℤ} {d : Float} {u : State}

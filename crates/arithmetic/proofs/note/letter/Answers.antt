@@ -1,9 +1,9 @@
--- `note::letter` meets its contract. Assumes nothing.
+-- `note::letter` meets its contract.
 use mathlib.Core.Path.{ap}
 use Rattle.arithmetic.specs.Outcome.{value}
 use Rattle.arithmetic.specs.Note.{letter_of, letter_rule}
-use Rattle.arithmetic.proofs.Outcomes.{hands_on}
-use Rattle.arithmetic.proofs.Notes.{at_no_note, at_note}
+use Rattle.arithmetic.proofs.Rules.Outcomes.{hands_on}
+use Rattle.arithmetic.proofs.Notes.Bounds.{at_no_note, at_note}
 use Rattle.arithmetic.proofs.note.letter.Goals as goal
 
 pub returns-in_err-note : goal.returns-in_err-note

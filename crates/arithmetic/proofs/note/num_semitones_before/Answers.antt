@@ -1,12 +1,12 @@
--- `note::num_semitones_before` meets its contract. Assumes nothing.
+-- `note::num_semitones_before` meets its contract.
 use native.Mathlib.Omega.{arith}
 use lib.IntN.{◌-ℤ◌}
 use Rattle.std.proofs.lemmas.Int.{to_z-of_z}
 use Rattle.arithmetic.specs.Outcome.{value, refuse◌unless◌then◌}
 use Rattle.arithmetic.specs.Refusal.{note_out_of_range}
 use Rattle.arithmetic.specs.Note.{is_note, before_rule}
-use Rattle.arithmetic.proofs.Outcomes.{hands_on}
-use Rattle.arithmetic.proofs.Notes.{at_no_note, at_note, note_fits, before_fits}
+use Rattle.arithmetic.proofs.Rules.Outcomes.{hands_on}
+use Rattle.arithmetic.proofs.Notes.Bounds.{at_no_note, at_note, note_fits, difference_fits}
 use Rattle.arithmetic.proofs.note.num_semitones_before.Goals as goal
 
 pub returns-in_err-note : goal.returns-in_err-note
@@ -27,6 +27,6 @@ returns c =
     let z = c.in_ok-other.other in
     let f = note_fits y.number y.is_note in
     let g = note_fits z.number z.is_note in
-    let d = before_fits y.number z.number y.is_note z.is_note in
+    let d = difference_fits y.number z.number y.is_note z.is_note in
     at_note c.args.note c.ranges.note c.in_ok-note.ensures (λ y. refuse note_out_of_range unless is_note c.args.other then value (c.args.other -ℤ y)) _
     (at_note c.args.other c.ranges.other c.in_ok-other.ensures (λ z. value (z -ℤ y.number)) _ (grind (arith, to_z-of_z)))

@@ -1,13 +1,13 @@
--- `note::octave` meets its contract. Assumes nothing.
+-- `note::octave` meets its contract.
 use native.Mathlib.Omega.{arith}
 use mir.Syntax.{w32}
 use mir.Val.{SFits}
 use Rattle.std.proofs.lemmas.Int.{to_z-of_z}
 use Rattle.arithmetic.specs.Outcome.{value}
 use Rattle.arithmetic.specs.Note.{octave_of, octave_rule}
-use Rattle.arithmetic.proofs.Outcomes.{hands_on}
-use Rattle.arithmetic.proofs.Quotients.{div_euclid_is}
-use Rattle.arithmetic.proofs.Notes.{at_no_note, at_note, note_fits, octave_fits}
+use Rattle.arithmetic.proofs.Rules.Outcomes.{hands_on}
+use Rattle.arithmetic.proofs.Numbers.Quotients.{div_euclid_is}
+use Rattle.arithmetic.proofs.Notes.Bounds.{at_no_note, at_note, note_fits, octave_fits}
 use Rattle.arithmetic.proofs.note.octave.Goals as goal
 
 pub returns-in_err-note : goal.returns-in_err-note

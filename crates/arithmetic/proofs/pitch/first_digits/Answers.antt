@@ -1,4 +1,4 @@
--- `pitch::first_digits` meets its contract: `Scaled` has the arithmetic. Assumes nothing.
+-- `pitch::first_digits` meets its contract: `Scaled` has the arithmetic.
 use mathlib.Core.Path.{sym, ap, ◌∙◌}
 use Prim.Native.Nat.{ℕ, ◌+◌, ◌-◌, ◌*◌, ◌^◌, ◌<◌}
 use native.Mathlib.Omega.{arith}
@@ -6,7 +6,7 @@ use lib.Count.{count_leading_zeros}
 use lib.IntN.{pos, ◌-ℤ◌}
 use Rattle.arithmetic.specs.Outcome.{value}
 use Rattle.arithmetic.specs.Measure.{digits}
-use Rattle.arithmetic.proofs.Scaled.{size_pos, zeros_size, first32_word, scaled}
+use Rattle.arithmetic.proofs.Measure.Scaled.{size_pos, zeros_size, first32_word, scaled}
 use Rattle.arithmetic.proofs.pitch.first_digits.Goals as goal
 
 pub returns : goal.returns

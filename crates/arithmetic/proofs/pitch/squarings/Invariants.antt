@@ -1,4 +1,4 @@
--- `pitch::squarings`: what is written and the digits still to come make the number of all 24. Assumes nothing.
+-- `pitch::squarings`: what is written and the digits still to come make the number of all 24.
 use mathlib.Core.Path.{◌≡◌}
 use Prim.Native.Nat.{◌+◌, ◌*◌, ◌-◌, ◌^◌, ◌<◌}
 use Rattle.arithmetic.specs.Measure.{digits}

@@ -1,4 +1,4 @@
--- `tuning::detuning_from` meets its contract. Assumes nothing.
+-- `tuning::detuning_from` meets its contract.
 use Rattle.arithmetic.specs.Pitch.{detuning_of}
 use Rattle.arithmetic.proofs.tuning.detuning_from.Goals as goal
 

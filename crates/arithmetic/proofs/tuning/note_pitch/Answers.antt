@@ -1,4 +1,4 @@
--- `tuning::note_pitch` meets its contract. Assumes nothing.
+-- `tuning::note_pitch` meets its contract.
 use mathlib.Core.Path.{◌≡◌, ap, ◌∙◌}
 use mathlib.Core.Bool.{true}
 use Prim.Native.Nat.{◌+◌, ◌-◌, ◌/◌, ◌%◌}
@@ -9,16 +9,17 @@ use mir.Val.{to_z, of_z}
 use Rattle.std.proofs.lemmas.Int.{ints}
 use Rattle.arithmetic.specs.Note.{is_note}
 use Rattle.arithmetic.specs.Pitch.{pitch_of}
-use Rattle.arithmetic.specs.Inside.{note_at}
-use Rattle.arithmetic.proofs.Integers.{plus, less}
-use Rattle.arithmetic.proofs.Notes.{bounds}
+use Rattle.arithmetic.specs.Internal.{note_at}
+use Rattle.arithmetic.proofs.Numbers.Integers.{plus, less}
+use Rattle.arithmetic.proofs.Notes.Bounds.{note_bounds}
 use Rattle.arithmetic.proofs.tuning.note_pitch.Goals as goal
 
 -- the note stands where the quotient and the remainder say
-stands : (z : ℤ) → is_note z ≡ true → let n = nat_abs (to_z w32 (of_z w32 (to_z w32 (of_z w32 z) -ℤ negsuc 302))) in note_at (to_z w32 (of_z w32 (negsuc 30 +ℤ to_z w32 (n / 12)))) (n % 12) ≡ z
+stands : (z : ℤ) → is_note z ≡ true → let n = nat_abs (to_z w32 (of_z w32 (to_z w32 (of_z w32 z) -ℤ negsuc 302))) in
+    note_at (to_z w32 (of_z w32 (negsuc 30 +ℤ to_z w32 (n / 12)))) (n % 12) ≡ z
 unfolding note_at
 stands z e =
-    let b = bounds z e in
+    let b = note_bounds z e in
     let k = plus z + 303 - less z in
     let m : to_z w32 (of_z w32 (to_z w32 (of_z w32 z) -ℤ negsuc 302)) ≡ pos k = omega (arith, ints) in
     rw m (omega (arith, ints))

@@ -1,9 +1,9 @@
--- `tuning::pitch_of` meets its contract. Assumes nothing.
+-- `tuning::pitch_of` meets its contract.
 use mathlib.Core.Path.{ap, ◌∙◌}
 use Rattle.arithmetic.specs.Outcome.{value}
 use Rattle.arithmetic.specs.Pitch.{pitch_of, pitch_rule}
-use Rattle.arithmetic.proofs.Outcomes.{hands_on}
-use Rattle.arithmetic.proofs.Notes.{at_no_note, at_note}
+use Rattle.arithmetic.proofs.Rules.Outcomes.{hands_on}
+use Rattle.arithmetic.proofs.Notes.Bounds.{at_no_note, at_note}
 use Rattle.arithmetic.proofs.tuning.pitch_of.Goals as goal
 
 pub returns-in_err-note : goal.returns-in_err-note

@@ -1,4 +1,4 @@
--- `tuning::within` meets its contract: the table has the twelve boundaries, which antt computes. Assumes nothing.
+-- `tuning::within` meets its contract: the table has the twelve boundaries, which antt computes.
 use mathlib.Core.Path.{◌≡◌, refl, ◌∙◌}
 use borrow.Author.Rules.{rules}
 use borrow.Author.Tests.{tests}
@@ -9,13 +9,13 @@ use Rattle.std.specs.List.{sum_by}
 use Rattle.std.proofs.lemmas.Iterator.{YieldsList-from_slice, YieldsList-from_map}
 use Rattle.std.proofs.lemmas.Iterator.Consumers.{sum_by_from_yields_List, fits_by_from_yields_list}
 use Rattle.arithmetic.specs.Measure.{square, digit, next, digits}
-use Rattle.arithmetic.specs.Inside.{within}
+use Rattle.arithmetic.specs.Internal.{within, boundary, come_to}
 use Rattle.arithmetic.specs.declared.tuning.TheConstants.{BOUNDARIES}
-use Rattle.arithmetic.proofs.Tables.{all}
-use Rattle.arithmetic.proofs.Boundaries.{boundary, come_to, all_counted, within_small}
+use Rattle.arithmetic.proofs.Numbers.Tables.{all_below}
+use Rattle.arithmetic.proofs.Notes.Boundaries.{all_counted, within_small}
 use Rattle.arithmetic.proofs.tuning.within.Goals as goal
 
-table-passes : T (all (boundary BOUNDARIES) 12)
+table-passes : T (all_below (boundary BOUNDARIES) 12)
 unfolding within digits digit next square
 table-passes = tt
 

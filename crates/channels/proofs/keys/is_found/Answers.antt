@@ -1,7 +1,7 @@
--- `keys::is_found` meets its contract. Assumes nothing.
+-- `keys::is_found` meets its contract.
 use Rattle.std.proofs.Common.{◌∙◌}
-use Rattle.channels.proofs.RecordNumbers.{note_read, place_held}
+use Rattle.channels.proofs.Records.{note_read, place_held}
 use Rattle.channels.proofs.keys.is_found.Goals as goal
 
 pub returns : goal.returns
-returns c = c.is_note.ensures ∙ rw (c.note_of.ensures, note_read c.args.cell) (place_held c.args.cell)
+returns c = c.is_note.ensures ∙ rw (c.note_of.ensures, note_read c.args.raw) (place_held c.args.raw)

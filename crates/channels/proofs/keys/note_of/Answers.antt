@@ -1,4 +1,4 @@
--- `keys::note_of` meets its contract. Assumes nothing.
+-- `keys::note_of` meets its contract.
 use Rattle.std.proofs.Common.{arith}
 use Rattle.std.proofs.lemmas.Int.{ints}
 use Rattle.channels.specs.Places.{note_of}

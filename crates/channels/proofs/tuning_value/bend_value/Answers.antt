@@ -1,4 +1,4 @@
--- `tuning_value::bend_value` meets its contract: the step fits, and clamped it fits an i16. Assumes nothing.
+-- `tuning_value::bend_value` meets its contract: the step fits, and clamped it fits an i16.
 use Rattle.std.proofs.Common.{◌≡◌, pos, ◌*ℤ◌, w64, to_z, of_z, ap, ◌∙◌, arith}
 use Rattle.std.proofs.lemmas.Int.{to_z-of_z}
 use lib.IntN.{negsuc}
@@ -14,5 +14,6 @@ returns c =
     let l = c.args.l in
     let step : to_z w64 (of_z w64 (quot_z (to_z w64 (of_z w64 (to_z w64 (of_z w64 l) *ℤ pos 3))) (pos 1024))) ≡ bend_step l =
     rw (to_z-of_z w64 l c.ranges.l, to_z-of_z w64 (l *ℤ pos 3) (times_fits l c.requires)) (to_z-of_z w64 (bend_step l) (bend_fits l c.requires)) in
-    let value : c.clamp.result ≡ bend_value l = c.clamp.ensures.value ∙ clamp_ends (negsuc 8191) (pos 8191) _ (omega arith) ∙ ap (clamp (negsuc 8191) (pos 8191)) step in
+    let value : c.clamp.result ≡ bend_value l =
+    c.clamp.ensures.value ∙ clamp_ends (negsuc 8191) (pos 8191) _ (omega arith) ∙ ap (clamp (negsuc 8191) (pos 8191)) step in
     rw (to_z-of_z w64 c.clamp.result (record { sfits = c.clamp.type_inv }), value) (to_z-of_z w16 (bend_value l) (bend_small l))

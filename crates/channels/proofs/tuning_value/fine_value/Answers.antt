@@ -1,4 +1,4 @@
--- `tuning_value::fine_value` meets its contract: the step fits. Assumes nothing.
+-- `tuning_value::fine_value` meets its contract: the step fits.
 use Rattle.std.proofs.Common.{◌≡◌, pos, ◌+ℤ◌, ◌*ℤ◌, w64, to_z, of_z, ap, ◌∙◌, arith}
 use Rattle.std.proofs.lemmas.Int.{to_z-of_z}
 use lib.Signed.{shr_z}

@@ -1,4 +1,4 @@
--- `tuning_value::tunings_of` meets its contract: the measure is refused, or it is small and its values are the answers. Assumes nothing.
+-- `tuning_value::tunings_of` meets its contract: the measure is refused, or it is small and its values are the answers.
 use Rattle.std.proofs.Common.{◌≡◌, ℕ, ◌^◌, ◌<◌, T, ℤ, w64, to_z, of_z, ap, ◌∙◌, rules, arith}
 use Rattle.std.proofs.lemmas.Int.{to_z-of_z}
 use Rattle.std.proofs.lemmas.Result.{err_from_is_err_and}
@@ -9,7 +9,7 @@ use Rattle.arithmetic.specs.Outcome.{value}
 use Rattle.channels.specs.declared.tuning_value.TuningKind.TheVariants.{FineTuning, Bend}
 use Rattle.channels.specs.declared.tuning_value.Tuning.TheVariants.{Fine, Bend as Bent}
 use Rattle.channels.specs.TuningValue.{fine_value, bend_value, tuning_of}
-use Rattle.channels.proofs.Values.{none_measured, Known, known, measured_small, measured_value}
+use Rattle.channels.proofs.Values.{none_measured, Measured, measured, measured_small, measured_value}
 use Rattle.channels.proofs.tuning_value.tunings_of.Goals as goal
 use Rattle.channels.proofs.tuning_value.tunings_of.Goals.{In_ok-l, Start}
 
@@ -22,23 +22,23 @@ returns-in_err-l c =
       bend = rw (p.1, p.2) (none_measured Bend v _ c.in_err-l.ensures);
     }
 
-held : (s : Start) → T (fits binary64 s.args.detuning.float_value)
-held s = search rules
+detuning_fits : (s : Start) → T (fits binary64 s.args.detuning.float_value)
+detuning_fits s = search rules
 
-level : (c : In_ok-l) → Known c.args.detuning.float_value c.in_ok-l.l
-level c = known c.args.detuning.float_value c.in_ok-l.l c.in_ok-l.ensures
+level : (c : In_ok-l) → Measured c.args.detuning.float_value c.in_ok-l.l
+level c = measured c.args.detuning.float_value c.in_ok-l.l c.in_ok-l.ensures
 
-small : (c : In_ok-l) → mag c.in_ok-l.l < 2 ^ 40
-small c = measured_small c.args.detuning.float_value c.in_ok-l.l (held c.before.before.before) (level c)
+measure_small : (c : In_ok-l) → mag c.in_ok-l.l < 2 ^ 40
+measure_small c = measured_small c.args.detuning.float_value c.in_ok-l.l (detuning_fits c.before.before.before) (level c)
 
 back : (c : In_ok-l) → to_z w64 (of_z w64 c.in_ok-l.l) ≡ c.in_ok-l.l
-back c = let h = small c in to_z-of_z w64 c.in_ok-l.l (record { sfits = omega arith })
+back c = let h = measure_small c in to_z-of_z w64 c.in_ok-l.l (record { sfits = omega arith })
 
 pub fine_value-requires : goal.fine_value-requires
-fine_value-requires c = let a = (goal.at.fine_value-requires c).In_ok-l in rw (back a) (small a)
+fine_value-requires c = let a = (goal.at.fine_value-requires c).In_ok-l in rw (back a) (measure_small a)
 
 pub bend_value-requires : goal.bend_value-requires
-bend_value-requires c = let a = (goal.at.bend_value-requires c).In_ok-l in rw (back a) (small a)
+bend_value-requires c = let a = (goal.at.bend_value-requires c).In_ok-l in rw (back a) (measure_small a)
 
 pub returns : goal.returns
 unfolding tuning_of

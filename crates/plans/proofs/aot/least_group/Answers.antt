@@ -1,10 +1,10 @@
--- `aot::least_group` meets its contract: what the chain gives, and the least of that. Assumes nothing.
+-- `aot::least_group` meets its contract: what the chain gives, and the least of that.
 use Rattle.std.proofs.Common.{rules, tests}
 use Rattle.std.specs.Int.Signed.{le_z}
 use Rattle.std.proofs.lemmas.Iterator.{YieldsList-from_slice}
 use Rattle.std.proofs.lemmas.Iterator.Consumers.{YieldsList-at, YieldsList-from_filter, YieldsList-from_filter_map, reduce_from_yields_List}
 use Rattle.plans.specs.PlanInternal.{group_up_to}
-use Rattle.plans.proofs.NextEntry.{least_reduced}
+use Rattle.plans.proofs.Model.NextEntry.{least_reduced}
 use Rattle.plans.proofs.aot.least_group.Goals as goal
 
 pub returns : goal.returns

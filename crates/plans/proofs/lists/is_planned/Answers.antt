@@ -1,4 +1,4 @@
--- `lists::is_planned` meets its contract, by its two tests. Assumes nothing.
+-- `lists::is_planned` meets its contract, by its two tests.
 use lib.Ieee.{of_bits}
 use Rattle.plans.specs.PlanLists.{is_planned}
 use Rattle.plans.proofs.lists.is_planned.Goals as goal

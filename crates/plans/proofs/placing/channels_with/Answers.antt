@@ -1,4 +1,4 @@
--- `placing::channels_with` meets its contract, by its two tests. Assumes nothing.
+-- `placing::channels_with` meets its contract, by its two tests.
 use mathlib.Core.Path.{◌≡◌, sym, ◌∙◌}
 use mathlib.Core.Bool.{true, false}
 use Prim.Native.Nat.{ℕ, zero, suc, ◌+◌, ◌<◌, ◌≤◌}
@@ -6,7 +6,7 @@ use native.Mathlib.Numerals.{add-one}
 use native.Mathlib.Omega.{arith}
 use borrow.Author.Tests.{ltb-true}
 use lib.Ieee.{Float}
-use Rattle.plans.specs.Line.{joins}
+use Rattle.plans.specs.PlanLine.{joins}
 use Rattle.plans.specs.PlanInternal.{channels_with}
 use Rattle.plans.proofs.placing.channels_with.Goals as goal
 use Rattle.plans.proofs.placing.channels_with.Goals.{then-used-gt0, else-used-gt0}

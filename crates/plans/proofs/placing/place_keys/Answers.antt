@@ -1,25 +1,24 @@
--- `placing::place_keys` meets its contract: each turn is one of the pass. Assumes nothing.
+-- `placing::place_keys` meets its contract: each turn is one of the pass.
 use Rattle.std.proofs.Common.{Option as Optional, Some, ℤ, ◌≡◌, ℕ, ◌+◌, ◌-◌, ◌<◌, ◌≤◌, List, ◌∷◌, true, length, get_or, map, drop, set, refl, sym, ap, ◌∙◌, subst, arith}
-use lib.ListN.{length-map, length-replicate}
+use lib.ListN.{length-map, length-replicate, drop_of_length-le}
 use lib.Ieee.{Float, nan}
 use Rattle.arithmetic.specs.Note.{is_note}
 use Rattle.channels.specs.Lists.{Each}
 use Rattle.channels.specs.declared.keys.Place.{Place}
-use Rattle.channels.specs.Places.{place_of, cell_of, place}
+use Rattle.channels.specs.Places.{place_of, record_of, place}
 use Rattle.std.proofs.lemmas.List.{drop_more}
-use lib.ListN.{drop_of_length-le}
-use Rattle.channels.proofs.RecordNumbers.{place_record}
+use Rattle.channels.proofs.Records.{place_record}
 use Rattle.plans.specs.declared.placing.Run.{Run}
 use Rattle.plans.specs.declared.sorted_keys.SortedKeys.{SortedKeys}
-use Rattle.plans.specs.Line.{Line, group}
-use Rattle.plans.specs.PlanBlock.{detuning_of}
-use Rattle.plans.specs.Plan.{records_in, records_of}
-use Rattle.plans.specs.PlanInternal.{Filled, Seats, channels_with, line_at, lines_of, slot_of}
-use Rattle.plans.proofs.Planned.{Ready, ready as ready_keys}
-use Rattle.plans.proofs.Records.{noted_found, noted_at}
-use Rattle.plans.proofs.PlanBlocks.{lines_kept}
-use Rattle.plans.proofs.SortedKeys.{accepted_few, replicated_at}
-use Rattle.plans.proofs.Pass.{Pass, no_run, some_channel, one_more_channel, pass_begins, pass_next, pass_ends, used_few, own_lines, each_drop}
+use Rattle.plans.specs.PlanLine.{PlanLine, group}
+use Rattle.plans.specs.PlanNumbers.{detuning_of}
+use Rattle.plans.specs.Plan.{records_in, key_records}
+use Rattle.plans.specs.PlanInternal.{Filled, Assignments, channels_with, line_at, lines_of, slot_of}
+use Rattle.plans.proofs.Planning.Planned.{Ready, filled_ready as ready_keys}
+use Rattle.plans.proofs.Model.Records.{noted_found, noted_at}
+use Rattle.plans.proofs.Model.Views.{lines_kept}
+use Rattle.plans.proofs.Lines.SortedKeys.{accepted_few, replicated_at}
+use Rattle.plans.proofs.Walk.Pass.{Pass, no_run, some_channel, one_more_channel, pass_begins, pass_next, pass_ends, used_few, own_lines, Each-map_drop}
 use Rattle.plans.proofs.placing.place_keys.Goals as goal
 use Rattle.plans.proofs.placing.place_keys.Goals.{In-loop-key}
 
@@ -42,40 +41,42 @@ loop-key-init c =
 
 -- ---- in a turn
 module _ (c : In-loop-key) where
-  abbrev line : ℕ → Line
+  abbrev line : ℕ → PlanLine
   line = line_at c.args.keys.now.records c.args.keys.now.detunings
 
   abbrev ks : List ℕ
   ks = c.as_slice-key-items.result.now
 
-  ready : Ready (in_list c.args.keys.now ks)
-  ready = ready_in_list c.args.keys.now ks c.as_slice-key-items.ensures.value c.requires
+  keys_ready : Ready (in_list c.args.keys.now ks)
+  keys_ready = ready_in_list c.args.keys.now ks c.as_slice-key-items.ensures.value c.requires
 
   abbrev i : ℕ
   i = c.loop-key.key-index
 
-  abbrev x : Line
+  abbrev x : PlanLine
   x = line (get_or ks i 0)
 
-  abbrev rest : List Line
+  abbrev rest : List PlanLine
   rest = map line (drop (i + 1) ks)
 
-  here : drop i ks ≡ get_or ks i 0 ∷ drop (i + 1) ks
-  here = drop_more ks i 0 c.loop-key-test.true
+  keys_from : drop i ks ≡ get_or ks i 0 ∷ drop (i + 1) ks
+  keys_from = drop_more ks i 0 c.loop-key-test.true
 
   pass : Pass c.args.by (map line ks) c.args.keys.now.detunings c.loop-key.records c.loop-key.runs c.loop-key.count i (x ∷ rest)
-  pass = subst (λ (l : List ℕ). Pass c.args.by (map line ks) c.args.keys.now.detunings c.loop-key.records c.loop-key.runs c.loop-key.count i (map line l)) here
+  pass =
+      subst
+      (λ (l : List ℕ). Pass c.args.by (map line ks) c.args.keys.now.detunings c.loop-key.records c.loop-key.runs c.loop-key.count i (map line l)) keys_from
       c.loop-key.invariant
 
-  next : (P : Line → Type 0) → Each P (lines_of (in_list c.args.keys.now ks)) → P x
+  of_next_line : (P : PlanLine → Type 0) → Each P (lines_of (in_list c.args.keys.now ks)) → P x
   unfolding lines_of
-  next P h = (subst (λ (l : List ℕ). Each P (map line l)) here (each_drop P line ks i h)).0
+  of_next_line P h = (subst (λ (l : List ℕ). Each P (map line l)) keys_from (Each-map_drop P line ks i h)).0
 
   a_note : is_note x.note ≡ true
-  a_note = next (λ (y : Line). is_note y.note ≡ true) ready.ok.notes
+  a_note = of_next_line (λ (y : PlanLine). is_note y.note ≡ true) keys_ready.ok.notes
 
-  small : x.key < 256
-  small = next (λ (y : Line). y.key < 256) ready.ok.bytes
+  key_small : x.key < 256
+  key_small = of_next_line (λ (y : PlanLine). y.key < 256) keys_ready.ok.bytes
 
 pub unwrap-requires : goal.unwrap-requires
 unwrap-requires c =
@@ -99,7 +100,7 @@ module _ (t : In-loop-key) (r : Optional Place) (e : place r ≡ place_of (get_o
 
     few_keys : i t < 256
     unfolding lines_of
-    few_keys = omega (arith, t.loop-key-test.true, accepted_few (lines_of (in_list t.args.keys.now (ks t))) (ready t).ok, length-map (ks t) (line t))
+    few_keys = omega (arith, t.loop-key-test.true, accepted_few (lines_of (in_list t.args.keys.now (ks t))) (keys_ready t).ok, length-map (ks t) (line t))
 
     module _ (n : ℕ) (f d : Float) (v : n ≡ channels_with (get_or t.loop-key.runs at no_run).used f d) where
       some_used : 1 ≤ n
@@ -142,16 +143,16 @@ loop-key-preserved c =
     let by = c.args.by in
     let ds = c.args.keys.now.detunings in
     let used = c.channels_with-used.result in
-    let cell = c.record.result in
+    let raw = c.record.result in
     let note : c.unwrap.result.note.number ≡ (x t).note = note_is t c.place_of.result c.place_of.ensures c.unwrap.result c.unwrap.ensures in
     let at : c.slot-at.result ≡ slot_of (group by (x t).note) =
     at_is t c.place_of.result c.place_of.ensures c.unwrap.result c.unwrap.ensures c.slot-at.result c.slot-at.ensures.place in
     let channels = c.channels_with-used.ensures
     ∙ (λ j. channels_with (get_or l.runs (at j) no_run).used (get_or ds (get_or l.runs (at j) no_run).last nan) (x t).detuning) in
-    let found = ap place_of c.record.ensures ∙ ap (λ (z : ℤ). place_of (cell_of z (used - 1))) note ∙ place_record (x t).note (a_note t) (used - 1) in
-    let p = pass_next by (map (line t) (ks t)) ds l.records l.runs l.count (i t) (x t) (rest t) (pass t) (a_note t) refl (small t) used channels
-    c.max-count.result c.max-count.ensures cell found in
-    subst (λ (k : ℕ). Pass by (map (line t) (ks t)) ds (set l.records (x t).key cell) (set l.runs k (record { used = used; last = (x t).key }))
+    let found = ap place_of c.record.ensures ∙ ap (λ (z : ℤ). place_of (record_of z (used - 1))) note ∙ place_record (x t).note (a_note t) (used - 1) in
+    let p = pass_next by (map (line t) (ks t)) ds l.records l.runs l.count (i t) (x t) (rest t) (pass t) (a_note t) refl (key_small t) used channels
+    c.max-count.result c.max-count.ensures raw found in
+    subst (λ (k : ℕ). Pass by (map (line t) (ks t)) ds (set l.records (x t).key raw) (set l.runs k (record { used = used; last = (x t).key }))
     c.max-count.result (i t + 1) (rest t)) (sym at) p
 
 pub returns : goal.returns
@@ -162,14 +163,14 @@ returns c =
     let ds = s.detunings in
     let f = line_at s.records ds in
     let ks = c.as_slice-key-items.result.now in
-    let here = c.as_slice-key-items.ensures.value in
-    let r = ready_in_list s ks here c.requires in
+    let keys_from = c.as_slice-key-items.ensures.value in
+    let r = ready_in_list s ks keys_from c.requires in
     let by = c.args.by in
     let nil = drop_of_length-le ks {i = l.key-index} c.loop-key-test.false in
     let p = subst (λ (k : List ℕ). Pass by (map f ks) ds l.records l.runs l.count l.key-index (map f k)) nil l.invariant in
     let few = rw (sym r.long.detunings) at r.ok.bytes in
     let kept = lines_kept ds (map f ks) few r.ok.detunings (own_lines s.records ds ks).1 in
     let read = map detuning_of ds in
-    let same : length l.records ≡ length read = p.cells_long ∙ sym (length-map ds detuning_of ∙ r.long.detunings) in
-    subst (λ (k : List ℕ). Seats by (map f k) (records_of l.records read) l.count) here
-    (pass_ends by (map f ks) r.ok r.ordered l.records read same p.cells_long kept ds l.runs l.count l.key-index p)
+    let same : length l.records ≡ length read = p.records_long ∙ sym (length-map ds detuning_of ∙ r.long.detunings) in
+    subst (λ (k : List ℕ). Assignments by (map f k) (key_records l.records read) l.count) keys_from
+    (pass_ends by (map f ks) r.ok r.ordered l.records read same p.records_long kept ds l.runs l.count l.key-index p)

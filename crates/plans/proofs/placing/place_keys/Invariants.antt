@@ -1,7 +1,7 @@
--- `placing::place_keys` meets its contract. The loop's invariant is the pass at a key. Assumes nothing.
+-- `placing::place_keys` meets its contract. The loop's invariant is the pass at a key.
 use Rattle.std.proofs.Common.{map, drop}
 use Rattle.plans.specs.PlanInternal.{line_at}
-use Rattle.plans.proofs.Pass.{Pass}
+use Rattle.plans.proofs.Walk.Pass.{Pass}
 use Rattle.plans.proofs.placing.place_keys.Given as goal
 
 abbrev pub invariant-loop-key : goal.invariant-loop-key

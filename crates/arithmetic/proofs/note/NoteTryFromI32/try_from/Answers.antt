@@ -1,11 +1,11 @@
--- `Note::try_from` meets its contract. Assumes nothing.
+-- `Note::try_from` meets its contract.
 use mathlib.Core.Path.{refl, sym, ◌∙◌}
 use mir.Syntax.{w32}
 use mir.ValLaws.{to_z-of_z}
 use Rattle.arithmetic.specs.Outcome.{value}
 use Rattle.arithmetic.specs.Note.{note_rule}
 use Rattle.arithmetic.specs.Refusal.{note_out_of_range}
-use Rattle.arithmetic.proofs.Outcomes.{stops, passes}
+use Rattle.arithmetic.proofs.Rules.Outcomes.{stops, passes}
 use Rattle.arithmetic.proofs.note.NoteTryFromI32.try_from.Goals as goal
 
 pub returns-then-is_note : goal.returns-then-is_note

@@ -1,8 +1,8 @@
--- `pitch::Pitch::is_in_range` meets its contract: the code's two limits are the definition's. Assumes nothing.
+-- `pitch::Pitch::is_in_range` meets its contract: the code's two limits are the definition's.
 use mathlib.Core.Path.{sym, ◌∙◌}
 use lib.Ieee.{of_bits}
 use Rattle.arithmetic.specs.Pitch.{is_pitch}
-use Rattle.arithmetic.proofs.Order.{partial_le_is}
+use Rattle.arithmetic.proofs.Numbers.Floats.{partial_le_is}
 use Rattle.arithmetic.proofs.pitch.Pitch.is_in_range.Goals as goal
 
 pub returns-then-le : goal.returns-then-le

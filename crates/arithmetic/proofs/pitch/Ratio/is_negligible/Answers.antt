@@ -1,8 +1,8 @@
--- `pitch::Ratio::is_negligible` meets its contract: the code's two limits are the nearest f64 of the decimals. Assumes nothing.
+-- `pitch::Ratio::is_negligible` meets its contract: the code's two limits are the nearest f64 of the decimals.
 use mathlib.Core.Path.{sym, ◌∙◌}
 use lib.Ieee.{of_bits, round}
 use Rattle.arithmetic.specs.Pitch.{negligible_from, negligible_below, negligible}
-use Rattle.arithmetic.proofs.Order.{partial_le_is, partial_lt_is}
+use Rattle.arithmetic.proofs.Numbers.Floats.{partial_le_is, partial_lt_is}
 use Rattle.arithmetic.proofs.pitch.Ratio.is_negligible.Goals as goal
 
 pub returns-then-le : goal.returns-then-le

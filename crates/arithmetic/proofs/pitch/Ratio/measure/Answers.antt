@@ -1,10 +1,10 @@
--- `pitch::Ratio::measure` meets its contract: the digits that the squarings write, behind those of the octave, and nothing leaves its type. Assumes nothing.
+-- `pitch::Ratio::measure` meets its contract: the digits that the squarings write, behind those of the octave, and nothing leaves its type.
 use mathlib.Core.Path.{ap}
 use Prim.Native.Nat.{◌+◌, ◌*◌, ◌^◌, ◌<◌}
 use native.Mathlib.Omega.{arith}
 use Rattle.std.proofs.lemmas.Int.{ints}
 use Rattle.arithmetic.specs.Outcome.{value}
-use Rattle.arithmetic.proofs.Measure.{digits_lt}
+use Rattle.arithmetic.proofs.Measure.Law.{digits_lt}
 use Rattle.arithmetic.proofs.pitch.Ratio.measure.Goals as goal
 use Rattle.arithmetic.proofs.pitch.Ratio.measure.Goals.{After-squarings}
 

@@ -1,11 +1,11 @@
--- `tuning::Place::pitch` meets its contract: the octaves of a note lie in the table. Assumes nothing.
+-- `tuning::Place::pitch` meets its contract: the octaves of a note lie in the table.
 use mathlib.Core.Path.{◌≡◌, ap, ◌∙◌}
 use native.Mathlib.Omega.{arith}
 use mir.Syntax.{w32}
 use mir.Val.{to_z, of_z}
 use Rattle.std.proofs.lemmas.Int.{ints}
 use Rattle.arithmetic.specs.Pitch.{octave_pitch}
-use Rattle.arithmetic.proofs.Pitches.{place_octaves, pitch_at}
+use Rattle.arithmetic.proofs.Notes.Pitches.{place_octaves, pitch_at}
 use Rattle.arithmetic.proofs.tuning.Place.pitch.Goals as goal
 use Rattle.arithmetic.proofs.tuning.Place.pitch.Goals.{Start}
 

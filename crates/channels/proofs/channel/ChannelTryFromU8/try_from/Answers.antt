@@ -1,11 +1,11 @@
--- `Channel::try_from` meets its contract. Assumes nothing.
+-- `Channel::try_from` meets its contract.
 use mathlib.Core.Path.{refl}
 use native.Mathlib.Omega.{arith}
 use borrow.Author.Tests.{le-leb, lt-leb}
 use Rattle.channels.specs.Outcome.{value}
 use Rattle.channels.specs.Channel.{channel_rule}
 use Rattle.channels.specs.Refusal.{channel_over15}
-use Rattle.arithmetic.proofs.Outcomes.{stops, passes}
+use Rattle.arithmetic.proofs.Rules.Outcomes.{stops, passes}
 use Rattle.channels.proofs.channel.ChannelTryFromU8.try_from.Goals as goal
 
 pub returns-then-number-lt-CHANNELS : goal.returns-then-number-lt-CHANNELS

@@ -1,4 +1,4 @@
--- `list::ChannelList::entry` meets its contract: channel i of the array as it is read. Assumes nothing.
+-- `list::ChannelList::entry` meets its contract: channel i of the array as it is read.
 use Rattle.std.proofs.Common.{arith}
 use Rattle.channels.proofs.ChannelLists.{entries_few, entry_at, entry_past}
 use Rattle.channels.proofs.list.ChannelList.entry.Goals as goal

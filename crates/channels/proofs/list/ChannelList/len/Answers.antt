@@ -1,4 +1,4 @@
--- `list::ChannelList::len` meets its contract: the count, or sixteen where it is larger. Assumes nothing.
+-- `list::ChannelList::len` meets its contract: the count, or sixteen where it is larger.
 use Rattle.std.proofs.Common.{arith}
 use Rattle.channels.proofs.ChannelLists.{length_entries}
 use Rattle.channels.proofs.list.ChannelList.len.Goals as goal

@@ -1,11 +1,10 @@
--- `list::ChannelList::of` meets its contract, entry by entry. Assumes nothing.
+-- `list::ChannelList::of` meets its contract, entry by entry.
 use Rattle.std.proofs.Common.{◌≡◌, ◌<◌, ◌∷◌, [], get_or, length, length-set, length-append, sym, ap, ◌∙◌, arith}
 use Rattle.channels.specs.ChannelList.{entries, list_rule}
-use Rattle.arithmetic.proofs.Outcomes.{hands_on_by}
-use Rattle.channels.proofs.Channels.{channel_of_number, refused_over}
-use Rattle.channels.proofs.ChannelLists.{length_entries, entries_more, channels_more, channels_room, over_at, twice_at, fine_at, ended}
+use Rattle.arithmetic.proofs.Rules.Outcomes.{hands_on_by}
+use Rattle.channels.proofs.ChannelLists.{channel_of_number, refused_over, length_entries, entries_push, channels_push, channels_room, over_at, twice_at, fine_at, all_fine}
 use Rattle.channels.proofs.list.ChannelList.of.Goals as goal
-use Rattle.channels.proofs.list.ChannelList.of.Goals.{Else-has}
+use Rattle.channels.proofs.list.ChannelList.of.Goals.{Else-is_member}
 
 pub loop-number-init : goal.loop-number-init
 unfolding list_rule
@@ -25,25 +24,25 @@ returns-in_err-channel c =
     (let e = refused_over _ _ c.in_err-channel.ensures in
     rw e.1 (over_at _ _ _ c.loop-number.invariant.rule c.loop-number-test.true e.0))
 
-pub returns-then-has : goal.returns-then-has
-returns-then-has c =
+pub returns-then-is_member : goal.returns-then-is_member
+returns-then-is_member c =
     let l = channel_of_number _ _ c.in_ok-channel.ensures in
-    twice_at _ _ _ c.loop-number.invariant.rule c.loop-number-test.true l.1 (rw l.0 at (sym c.if-has.ensures))
+    twice_at _ _ _ c.loop-number.invariant.rule c.loop-number-test.true l.1 (rw l.0 at (sym c.if-is_member.ensures))
 
 -- one more entry has a place
-room : (c : Else-has) → c.loop-number.list.count < 16
+room : (c : Else-is_member) → c.loop-number.list.count < 16
 room c =
     let l = channel_of_number _ _ c.in_ok-channel.ensures in
-    omega (arith, channels_room _ _ c.loop-number.invariant.fine l.1 (rw l.0 at (sym c.if-has.ensures)), c.loop-number.invariant.counted)
+    omega (arith, channels_room _ _ c.loop-number.invariant.fine l.1 (rw l.0 at (sym c.if-is_member.ensures)), c.loop-number.invariant.counted)
 
 pub overflow_cast-list : goal.overflow_cast-list
-overflow_cast-list c = omega (arith, room (goal.at.overflow_cast-list c).Else-has)
+overflow_cast-list c = omega (arith, room (goal.at.overflow_cast-list c).Else-is_member)
 
 pub bounds-list-list : goal.bounds-list-list
-bounds-list-list c = room (goal.at.bounds-list-list c).Else-has
+bounds-list-list c = room (goal.at.bounds-list-list c).Else-is_member
 
 pub overflow_add-list : goal.overflow_add-list
-overflow_add-list c = omega (arith, room (goal.at.overflow_add-list c).Else-has)
+overflow_add-list c = omega (arith, room (goal.at.overflow_add-list c).Else-is_member)
 
 pub loop-number-preserved : goal.loop-number-preserved
 loop-number-preserved c =
@@ -52,16 +51,16 @@ loop-number-preserved c =
     let x = get_or c.args.channels.now c.loop-number.number-index 0 in
     let inv = c.loop-number.invariant in
     let is = channel_of_number _ _ c.in_ok-channel.ensures in
-    let new = rw is.0 at (sym c.if-has.ensures) in
-    let more = entries_more l x is.1 (omega (arith, inv.places, room at.Else-has)) (room at.Else-has) in
+    let new = rw is.0 at (sym c.if-is_member.ensures) in
+    let more = entries_push l x is.1 (omega (arith, inv.places, room at.Else-is_member)) (room at.Else-is_member) in
     let same = c.number.ensures ∙ is.0 in
     rw same
     record {
       places = length-set l.channels l.count x ∙ inv.places;
       counted = omega (arith, inv.counted, ap length more, length-append (entries l) (x ∷ []));
-      fine = rw more (channels_more [] (entries l) x inv.fine is.1 new);
+      fine = rw more (channels_push [] (entries l) x inv.fine is.1 new);
       rule = rw more (fine_at (entries l) c.args.channels.now c.loop-number.number-index inv.rule c.loop-number-test.true is.1 new);
     }
 
 pub returns : goal.returns
-returns c = ended _ _ _ c.loop-number.invariant.rule c.loop-number-test.false
+returns c = all_fine _ _ _ c.loop-number.invariant.rule c.loop-number-test.false

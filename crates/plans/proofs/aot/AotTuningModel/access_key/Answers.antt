@@ -1,12 +1,12 @@
--- `AotTuningModel::access_key` meets its contract: a key's record is read. Assumes nothing.
+-- `AotTuningModel::access_key` meets its contract: a key's record is read.
 use Rattle.std.proofs.Common.{◌≡◌, length, sym, ◌∙◌, arith}
-use Rattle.plans.specs.Plan.{plan_of}
-use Rattle.plans.proofs.Records.{key_looked_up}
-use Rattle.plans.proofs.PlanBlocks.{record_in}
+use Rattle.plans.specs.Plan.{view}
+use Rattle.plans.proofs.Model.Records.{key_looked_up}
+use Rattle.plans.proofs.Model.Views.{record_in}
 use Rattle.plans.proofs.aot.AotTuningModel.access_key.Goals as goal
 
 pub returns : goal.returns
-unfolding plan_of
+unfolding view
 returns c =
     let m = c.args.self.now in
     let r : length m.records ≡ 256 = omega arith in

@@ -1,16 +1,16 @@
--- `AotTuningModel::set_tuning` meets its contract, demand 3 included: what was planned of the keys in order is the rule's plan. Assumes nothing.
+-- `AotTuningModel::set_tuning` meets its contract, demand 3 included: what was planned of the keys in order is the rule's plan.
 use Rattle.std.proofs.Common.{◌≡◌, length, arith}
 use Rattle.channels.specs.ChannelList.{entries}
 use Rattle.channels.proofs.ChannelLists.{entries_few}
-use Rattle.plans.specs.Plan.{Tunes, plan_of, planned, tuned, untuned}
-use Rattle.plans.proofs.Planned.{filled_if}
-use Rattle.plans.proofs.Tunings.{refused_tunes, untuned_tunes, tuned_tunes, smallest_of, measurable_of}
+use Rattle.plans.specs.Plan.{TuningMeets, view, planned, tuned, untuned}
+use Rattle.plans.proofs.Planning.Planned.{filled_if}
+use Rattle.plans.proofs.Model.Tunings.{refused_tunes, untuned_tunes, tuned_tunes, optimal_of, measurable_of}
 use Rattle.plans.proofs.aot.AotTuningModel.set_tuning.Given.{Over}
 use Rattle.plans.proofs.aot.AotTuningModel.set_tuning.Goals as goal
 use Rattle.plans.proofs.aot.AotTuningModel.set_tuning.Goals.{After-new, Else-few}
 
-pub returns-in_err-keys-clause-tunes : goal.returns-in_err-keys-clause-tunes
-returns-in_err-keys-clause-tunes g c =
+pub returns-in_err-keys-clause-meets : goal.returns-in_err-keys-clause-meets
+returns-in_err-keys-clause-meets g c =
     refused_tunes c.args.self.now (g.L.TuningLists.lines c.args.lists.now) _ c.from_residual.result c.from_residual.ensures.1
     c.in_err-keys.ensures
 
@@ -19,26 +19,26 @@ place_keys-count-requires g c = filled_if (g.L.TuningLists.lines c.args.lists.no
 
 -- there are too few channels
 few_tunes : (g : Over) (c : After-new g)
-    → Tunes (planned (plan_of c.args.self.now) (g.L.TuningLists.lines c.args.lists.now)) c.args.self.now c.new.result (untuned c.place_keys-count.result)
+    → TuningMeets (planned (view c.args.self.now) (g.L.TuningLists.lines c.args.lists.now)) c.args.self.now c.new.result (untuned c.place_keys-count.result)
 few_tunes g c =
     untuned_tunes c.args.self.now (g.L.TuningLists.lines c.args.lists.now) c.in_ok-keys.keys c.in_ok-keys.ensures (entries c.channels-channels.result)
     c.channels-channels.ensures c.group_by-by.result c.group_by-by.ensures _ c.place_keys-count.result c.place_keys-count.ensures
     (omega (arith, c.len-present.ensures, c.if-few.true)) c.new.result c.new.ensures
 
-pub returns-then-few-clause-tunes : goal.returns-then-few-clause-tunes
-returns-then-few-clause-tunes g c = few_tunes g (goal.at.returns-then-few-clause-tunes g c).After-new
+pub returns-then-few-clause-meets : goal.returns-then-few-clause-meets
+returns-then-few-clause-meets g c = few_tunes g (goal.at.returns-then-few-clause-meets g c).After-new
 
-pub returns-then-few-clause-smallest : goal.returns-then-few-clause-smallest
-returns-then-few-clause-smallest g c =
-    smallest_of c.args.self.now (g.L.TuningLists.lines c.args.lists.now) _ c.in_ok-keys.ensures c.new.result _
-    (few_tunes g (goal.at.returns-then-few-clause-smallest g c).After-new)
+pub returns-then-few-clause-optimal : goal.returns-then-few-clause-optimal
+returns-then-few-clause-optimal g c =
+    optimal_of c.args.self.now (g.L.TuningLists.lines c.args.lists.now) _ c.in_ok-keys.ensures c.new.result _
+    (few_tunes g (goal.at.returns-then-few-clause-optimal g c).After-new)
 
 -- or enough
 module _ (g : Over) (c : Else-few g) where
   places : length c.channels-channels.result.channels ≡ 16
   places = omega arith
 
-  enough_tunes : Tunes (planned (plan_of c.args.self.now) (g.L.TuningLists.lines c.args.lists.now)) c.args.self.now
+  enough_tunes : TuningMeets (planned (view c.args.self.now) (g.L.TuningLists.lines c.args.lists.now)) c.args.self.now
       (record c.args.self.now {
         records = c.place_keys-count.new.keys.records;
         detunings = c.place_keys-count.new.keys.detunings;
@@ -51,13 +51,13 @@ module _ (g : Over) (c : Else-few g) where
       c.channels-channels.ensures c.group_by-by.result c.group_by-by.ensures _ _ c.place_keys-count.result c.place_keys-count.ensures
       (omega (arith, c.len-present.ensures, c.if-few.false)) (entries_few c.channels-channels.result)
 
-pub returns-clause-tunes : goal.returns-clause-tunes
-returns-clause-tunes g c = enough_tunes g (goal.at.returns-clause-tunes g c).Else-few
+pub returns-clause-meets : goal.returns-clause-meets
+returns-clause-meets g c = enough_tunes g (goal.at.returns-clause-meets g c).Else-few
 
-pub returns-clause-smallest : goal.returns-clause-smallest
-returns-clause-smallest g c =
-    smallest_of c.args.self.now (g.L.TuningLists.lines c.args.lists.now) _ c.in_ok-keys.ensures _ _
-    (enough_tunes g (goal.at.returns-clause-smallest g c).Else-few)
+pub returns-clause-optimal : goal.returns-clause-optimal
+returns-clause-optimal g c =
+    optimal_of c.args.self.now (g.L.TuningLists.lines c.args.lists.now) _ c.in_ok-keys.ensures _ _
+    (enough_tunes g (goal.at.returns-clause-optimal g c).Else-few)
 
 pub returns-clause-measurable : goal.returns-clause-measurable
 returns-clause-measurable g c =

@@ -1,29 +1,29 @@
--- `NoteLists::line` meets its contract: a list without an entry is refused, then the note, then the detuning. Assumes nothing.
+-- `NoteLists::line` meets its contract: a list without an entry is refused, then the note, then the detuning.
 use Rattle.std.proofs.Common.{◌≡◌, rules, ℤ, true, false, get_or, sym, ◌∙◌}
 use mir.Syntax.{w32}
 use mir.Val.{SFits}
 use Rattle.arithmetic.specs.Refusal.{detuning_out_of_range}
 use Rattle.arithmetic.specs.Outcome.{Outcome, value, refused, refuse◌unless◌then◌}
-use Rattle.arithmetic.proofs.Outcomes.{hands_on_by}
-use Rattle.arithmetic.proofs.Notes.{at_no_note, at_note}
-use Rattle.plans.specs.Line.{Line}
+use Rattle.arithmetic.proofs.Rules.Outcomes.{hands_on_by}
+use Rattle.arithmetic.proofs.Notes.Bounds.{at_no_note, at_note}
+use Rattle.plans.specs.PlanLine.{PlanLine}
 use Rattle.plans.specs.PlanLists.{is_planned, note_line, note_lines}
 use Rattle.plans.specs.KeyLine.{key_line}
-use Rattle.plans.proofs.Lines.{note_row, planned_positive}
+use Rattle.plans.proofs.Lines.Check.{note_row, planned_positive}
 use Rattle.plans.proofs.lists.NoteListsTuningLists.line.Goals as goal
 use Rattle.plans.proofs.lists.NoteListsTuningLists.line.Goals.{In_ok-detuning}
 
 -- the line of these entries
 module _ (c : In_ok-detuning) where
-  abbrev rest : ℤ → Outcome Line
+  abbrev rest : ℤ → Outcome PlanLine
   rest z =
       refuse detuning_out_of_range unless is_planned c.in_ok-detuning.detuning then
       value (record { key = c.in_ok-key.key; note = z; detuning = c.in_ok-detuning.detuning })
 
-  abbrev the_line : Outcome Line
+  abbrev the_line : Outcome PlanLine
   the_line = note_line c.in_ok-key.key c.in_ok-number.number c.in_ok-detuning.detuning
 
-  abbrev row : Outcome Line
+  abbrev row : Outcome PlanLine
   row = let s = c.args.self.now in get_or (note_lines s.keys.now s.notes.now s.detunings.now) c.args.i (refused 12)
 
   row_is : row ≡ the_line

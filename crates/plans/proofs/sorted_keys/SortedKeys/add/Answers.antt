@@ -1,12 +1,12 @@
--- `SortedKeys::add` meets its contract: a key that came before is refused, another one is put in. Assumes nothing.
+-- `SortedKeys::add` meets its contract: a key that came before is refused, another one is put in.
 use Rattle.std.proofs.Common.{◌≡◌, ◌<◌, ◌≤◌, false, length, get_or, insert, rules, arith, sym, ap, ◌∙◌}
 use Rattle.channels.specs.Places.{is_held, place_of}
-use Rattle.channels.proofs.RecordNumbers.{place_cell}
+use Rattle.channels.proofs.Records.{place_record_low}
 use Rattle.plans.specs.KeyLine.{key_line}
 use Rattle.plans.specs.PlanInternal.{before_in}
-use Rattle.plans.proofs.Insertion.{before_fits}
-use Rattle.plans.proofs.SortedKeys.{room_in, holds_more}
-use Rattle.plans.proofs.Lines.{Sound, came_before, new, more_ok, one_more}
+use Rattle.plans.proofs.Lines.Insertion.{before_fits}
+use Rattle.plans.proofs.Lines.SortedKeys.{room_in, holds_more}
+use Rattle.plans.proofs.Lines.Check.{Sound, turn_key_twice, new, more_ok, one_more}
 use Rattle.plans.proofs.sorted_keys.SortedKeys.add.Goals as goal
 use Rattle.plans.proofs.sorted_keys.SortedKeys.add.Goals.{Else-is_found}
 
@@ -14,7 +14,7 @@ pub returns-then-is_found : goal.returns-then-is_found
 returns-then-is_found c lines ok h =
     let t = c.args.line in
     let b : Sound (key_line t) = record { byte = omega arith; note = t.note.is_note; above = t.above_zero; fitting = search rules } in
-    came_before c.args.self.now (key_line t) b lines ok h (sym c.is_found.ensures ∙ c.if-is_found.true)
+    turn_key_twice c.args.self.now (key_line t) b lines ok h (sym c.is_found.ensures ∙ c.if-is_found.true)
 
 -- the key is another one, so there is room for it
 module _ (c : Else-is_found) where
@@ -48,7 +48,7 @@ returns c lines ok h =
     let x = key_line c.args.line in
     let e = other t in
     let b = sound t in
-    let found = ap place_of c.record.ensures ∙ place_cell x.note b.note 0 (omega arith) in
+    let found = ap place_of c.record.ensures ∙ place_record_low x.note b.note 0 (omega arith) in
     let put = c.insert.ensures.items ∙ ap (λ b. insert s.order.items b x.key) c.place-at.ensures in
     one_more s x b lines ok h e _
     (holds_more s _ c.record.result x lines h ok (new s x b lines ok h e) b.byte b.above found put)

@@ -1,5 +1,5 @@
--- `SortedKeys::none` meets its contract. Assumes nothing.
-use Rattle.plans.proofs.SortedKeys.{holds_none}
+-- `SortedKeys::none` meets its contract.
+use Rattle.plans.proofs.Lines.SortedKeys.{holds_none}
 use Rattle.plans.proofs.sorted_keys.SortedKeys.none.Goals as goal
 
 pub returns : goal.returns

@@ -1,9 +1,9 @@
--- `JitTuningModel::holder` meets its contract. Assumes nothing.
+-- `JitTuningModel::holder` meets its contract.
 use Rattle.std.proofs.Common.{sym}
 use Rattle.channels.specs.Places.{place}
 use Rattle.pools.specs.Pool.{held_at}
 use Rattle.pools.specs.PoolInternal.{held_by}
-use Rattle.pools.proofs.Blocks.{key_channel}
+use Rattle.pools.proofs.Models.Views.{key_channel}
 use Rattle.pools.proofs.jit.JitTuningModel.holder.Goals as goal
 
 pub returns : goal.returns

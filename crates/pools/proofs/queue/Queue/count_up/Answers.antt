@@ -1,8 +1,8 @@
--- `Queue::count_up` meets its contract. Assumes nothing.
+-- `Queue::count_up` meets its contract.
 use Rattle.std.proofs.Common.{◌≡◌, take, ap, ◌∙◌, min, rules, arith}
 use Rattle.std.proofs.lemmas.List.FromFn.{fill_by_all}
 use Rattle.channels.specs.Lists.{upward}
-use Rattle.pools.specs.Block.{queue_of}
+use Rattle.pools.specs.View.{queue_of}
 use Rattle.pools.proofs.Queues.{take_range}
 use Rattle.pools.proofs.queue.Queue.count_up.Goals as goal
 

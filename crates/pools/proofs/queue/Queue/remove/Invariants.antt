@@ -1,4 +1,4 @@
--- `Queue::remove` meets its contract. The loop's invariant: the first items are those read without the number, and none from i on has changed. Assumes nothing.
+-- `Queue::remove` meets its contract. The loop's invariant: the first items are those read without the number, and none from i on has changed.
 use Rattle.std.proofs.Common.{◌≡◌, ◌≤◌, length, take, drop}
 use Rattle.channels.specs.Lists.{without}
 use Rattle.pools.proofs.queue.Queue.remove.Given as goal

@@ -1,4 +1,4 @@
--- The rest is less than a whole, so that ten times it fits. Assumes nothing.
+-- The rest is less than a whole, so that ten times it fits.
 use Rattle.std.proofs.Common.{◌<◌, ◌^◌}
 use Rattle.printing.proofs.decimal.FractionDisplay.fmt.Given as goal
 

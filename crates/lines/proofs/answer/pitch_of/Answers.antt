@@ -1,8 +1,0 @@
--- `answer::pitch_of`: 1000.0 is the whole number 1000. Assumes nothing.
-use lib.Ieee.{of_bits, of_int}
-use Rattle.lines.specs.Console.{pitch_of}
-use Rattle.lines.proofs.answer.pitch_of.Goals as goal
-
-pub returns : goal.returns
-unfolding pitch_of of_bits of_int
-returns c = c.from_hz.ensures

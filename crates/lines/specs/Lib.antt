@@ -1,7 +1,0 @@
-pub mod Split
-pub mod Grammar
-pub mod Line
-pub mod Show
-pub mod Console
-pub mod Session
-pub mod Inner

@@ -1,4 +1,0 @@
-mod Parts
-mod Streams
-mod Turns
-mod Bytes
