@@ -178,7 +178,7 @@ fn bytes(answer: &Answer) -> String {
     match answer.kind {
         ours::NOTHING => "rejected".to_string(),
         _ if answer.bytes.is_empty() => "no bytes".to_string(),
-        _ => answer.bytes.iter().map(|b| format!("{b:02x}")).collect::<Vec<_>>().join(" "),
+        _ => answer.bytes.iter().map(|b| format!("{b:02X}")).collect::<Vec<_>>().join(" "),
     }
 }
 

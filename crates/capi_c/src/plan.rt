@@ -155,9 +155,9 @@ pub extern "C" fn tarvoued_plan_next_detuning(plan: &Plan, channel: u16, from: i
 #[tactic(auto, unfolding(plans::specs::Plan::open_rule))]
 #[unsafe(no_mangle)]
 pub extern "C" fn tarvoued_plan_model_open(plan: &mut Plan, channels: &[u8], group_by: u8) -> Answer
-    ensures answer { result ≡ of_list (open_rule channels.now (group_by_of group_by)).1 }
+    ensures answer { result ≡ of_list (open_rule channels.now (group_by_of group_by)).0 }
     ensures started { let rule = open_rule channels.now (group_by_of group_by) in
-        StartMeets rule.1 (record { plan = rule.0; tuning_kind = FineTuning }) plan.old plan.new }
+        StartMeets rule.0 (record { plan = rule.1; tuning_kind = FineTuning }) plan.old plan.new }
 {
     let listed = ChannelList::of(channels);
     let answer = Answer::from(listed);

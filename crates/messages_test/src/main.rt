@@ -1,5 +1,5 @@
 // Writes messages of every kind at their limits, and every refusal, below the rule of docs/SPEC.md that is tried: a line for each call, with the message, its
-// channel, how many bytes of a buffer of four are lent, how many were written or the refusal, and then the whole buffer, whose bytes were aa before.
+// channel, how many bytes of a buffer of four are lent, how many were written or the refusal, and then the whole buffer, whose bytes were AA before.
 #![tactic(auto)]
 
 ghost use Rattle.std.specs.Prelude.{◌≤◌};
@@ -55,7 +55,7 @@ fn bend(value: i16) -> ChannelMessageType {
 fn notes(out: &mut impl Write) -> io::Result<()> {
     writeln!(
         out,
-        "-- SPEC 1.9: a message is written to the start of the bytes that are lent, here the first ones (room) of a buffer of four bytes aa"
+        "-- SPEC 1.9: a message is written to the start of the bytes that are lent, here the first ones (room) of a buffer of four bytes AA"
     )?;
     writeln!(
         out,

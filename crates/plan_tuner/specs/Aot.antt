@@ -43,7 +43,7 @@ with_plan t m = record { plan = m; tuning_kind = t.tuning_kind }
 -- ---- SPEC 9.1a: a tuner is opened on a channel list, and plans in channel groups, since a sound module is sent tunings of whole channels alone
 
 abbrev pub start_rule : List ℕ → TuningKind → Outcome (List ℕ) × Tuner
-start_rule channels kind = let o = open_rule channels Channel in (o.1, record { plan = o.0; tuning_kind = kind })
+start_rule channels kind = let o = open_rule channels Channel in (o.0, record { plan = o.1; tuning_kind = kind })
 
 -- SPEC 9.1a: a tuner that is opened anew stays as it was if the list is refused.
 abbrev pub StartMeets : Outcome (List ℕ) → Tuner → AotTuner → AotTuner → Type 0

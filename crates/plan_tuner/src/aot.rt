@@ -94,8 +94,8 @@ impl AotTuner {
 
     // Plans the keys of lists, and tunes each channel used, in order. Refuses 12, then line by line 4, 3, 5 of notes and 1, 5 of pitches; then 10, unless there
     // are too few channels (SPEC 9.3).
-    // Example: AotTuner::start([0, 1], Bend); set_tuning([1, 2], [69, 69], [1, 33/32]) is tuned, channels used 2: e0 00 40 e1 06 51
-    // Example: AotTuner::start([0, 1], Bend); set_tuning(pitches [1, 2], [440, 445]) is tuned, channels used 2: e0 00 40 e1 21 46
+    // Example: AotTuner::start([0, 1], Bend); set_tuning([1, 2], [69, 69], [1, 33/32]) is tuned, channels used 2: E0 00 40 E1 06 51
+    // Example: AotTuner::start([0, 1], Bend); set_tuning(pitches [1, 2], [440, 445]) is tuned, channels used 2: E0 00 40 E1 21 46
     pub fn set_tuning<L: TuningLists>(
         &mut self,
         lists: &L,

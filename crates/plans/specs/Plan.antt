@@ -44,8 +44,8 @@ abbrev pub empty : List ℕ → GroupBy → Model
 empty cs by = record { channels = cs; group_by = by; tuned = false; num_channels = length cs; keys = λ k. none; detunings = λ c g. none }
 
 -- SPEC 6.2a: a model that is opened on a refused list has no channels.
-unfoldable pub open_rule : List ℕ → GroupBy → Model × Outcome (List ℕ)
-open_rule cs by = (empty (present (list_rule cs)) by, list_rule cs)
+unfoldable pub open_rule : List ℕ → GroupBy → Outcome (List ℕ) × Model
+open_rule cs by = (list_rule cs, empty (present (list_rule cs)) by)
 
 -- ---- SPEC 6.4: planning
 

@@ -82,7 +82,7 @@ impl AotTuningModel {
         channels: &[u8],
         group_by: GroupBy,
     ) -> (AotTuningModel, Result<ChannelList, Refusal>)
-        ensures { (view result.0, outcome_by entries result.1) ≡ open_rule channels.now group_by }
+        ensures { (outcome_by entries result.1, view result.0) ≡ open_rule channels.now group_by }
     {
         let answer = ChannelList::of(channels);
         let list = answer.unwrap_or(ChannelList::none());

@@ -279,7 +279,7 @@ impl fmt::Display for Hex<'_> {
             if i != 0 {
                 write!(f, " ")?;
             }
-            write!(f, "{byte:02x}")?;
+            write!(f, "{byte:02X}")?;
         }
         Ok(())
     }

@@ -1,4 +1,4 @@
--- Events of a pool tuner as data, SPEC 9.7: each is the press, release or repitch that it names.
+-- Events of a pool tuner as data, SPEC 9.8: each is the press, release or repitch that it names.
 use Rattle.std.specs.Prelude.{ℕ, ◌≤◌, ◌≡◌, Float, length}
 use Rattle.channels.specs.Outcome.{Outcome, value, refused}
 use Rattle.senders.specs.Buffer.{Effect, WriteOutcome}
@@ -17,7 +17,7 @@ abbrev pub with_same_tuner : Tuner → WriteOutcome → Outcome (Effect PressRes
 with_same_tuner t (value e) = value (record { result = press_sent e.result; bytes = e.bytes; next = t })
 with_same_tuner t (refused n) = refused n
 
--- SPEC 9.7: the call of an event of a kind.
+-- SPEC 9.8: the call of an event of a kind.
 abbrev pub call_rule : EventKind → Tuner → ℕ → Float → ℕ → Outcome (Effect PressResult Tuner)
 call_rule Press t key hz velocity = note_on_rule t key hz velocity
 call_rule Release t key hz velocity = as_press (note_off_rule t key velocity)

@@ -27,7 +27,7 @@ pub struct Event {
 impl JitTuner {
     // An event by its call, `note_on`, `note_off` or `note_pitch`: how many bytes were sent, or nothing for a press where no channel is free. Refuses what that
     // call refuses.
-    // Example: JitTuner::start([0, 1], Bend, Stop); play(Event { kind: Press, key: 1, pitch: 445 Hz, velocity: 100 }) is e0 21 46 90 45 64
+    // Example: JitTuner::start([0, 1], Bend, Stop); play(Event { kind: Press, key: 1, pitch: 445 Hz, velocity: 100 }) is E0 21 46 90 45 64
     pub fn play(&mut self, event: Event, out: &mut [u8]) -> Result<Option<usize>, Refusal>
         ensures { CallMeets view (play_rule (view self.old) event) self.old out.old (press_answer result) self.new out.new }
     {

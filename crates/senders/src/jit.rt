@@ -98,8 +98,8 @@ impl JitTuner {
 
     // A press: the note-off of the note that it stops, the tuning, the note-on. It answers how many bytes were sent, or nothing where no channel is free.
     // Refuses 8, 1, 11, 10 (SPEC 9.2).
-    // Example: JitTuner::start([0, 1], Bend, Stop); note_on(1, 445 Hz, 100) is e0 21 46 90 45 64
-    // Example: JitTuner::start([0, 1], Bend, Stop); note_on(1, 440 Hz, 100) is e0 00 40 90 45 64
+    // Example: JitTuner::start([0, 1], Bend, Stop); note_on(1, 445 Hz, 100) is E0 21 46 90 45 64
+    // Example: JitTuner::start([0, 1], Bend, Stop); note_on(1, 440 Hz, 100) is E0 00 40 90 45 64
     pub fn note_on(
         &mut self,
         key: u8,
@@ -130,7 +130,7 @@ impl JitTuner {
     }
 
     // The tuning of the channel of a key that is found, by the pitch. Refuses 1, and 10 where the key is found (SPEC 9.2b).
-    // Example: JitTuner::start([0, 1], Bend, Stop); note_on(1, 440 Hz, 100); note_pitch(1, 445 Hz) is e0 21 46
+    // Example: JitTuner::start([0, 1], Bend, Stop); note_on(1, 440 Hz, 100); note_pitch(1, 445 Hz) is E0 21 46
     #[tactic(auto, using(pools::proofs::Pools::Presses::repitch_measurable))]
     pub fn note_pitch(&self, key: u8, pitch: Pitch, out: &mut [u8]) -> Result<usize, Refusal>
         ensures { WriteMeets (note_pitch_rule (view self.now) key pitch.hz) out.old (outcome result) out.new }
@@ -153,7 +153,7 @@ impl JitTuner {
     }
 
     // A message to every channel, except bends of a tuner that tunes by bends. Refuses 8 from the left, 9, also where nothing is sent, and 10 (SPEC 9.4).
-    // Example: JitTuner::start([0, 1], Bend, Stop); global_attr(ControlChange(7, 90)) is b0 07 5a b1 07 5a
+    // Example: JitTuner::start([0, 1], Bend, Stop); global_attr(ControlChange(7, 90)) is B0 07 5A B1 07 5A
     pub fn global_attr(&self, message: ChannelMessageType, out: &mut [u8]) -> Result<usize, Refusal>
         ensures { WriteMeets (global_attr_rule (view self.now) message) out.old (outcome result) out.new }
     {

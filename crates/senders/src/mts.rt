@@ -38,7 +38,7 @@ pub const LONGEST_TUNING: usize = 4 * RECORD_LEN;
 // The next two functions differ in a constant alone: their names are the Rust's, which stay.
 
 // Writes the fine tuning of a channel by a detuning to the buffer's start. Refuses 6, 2, 10 (SPEC 8.5).
-// Example: channel_fine_tuning(0, 33/32, 12 bytes) is b0 65 00 b0 64 01 b0 06 62 b0 26 0c
+// Example: channel_fine_tuning(0, 33/32, 12 bytes) is B0 65 00 B0 64 01 B0 06 62 B0 26 0C
 pub fn channel_fine_tuning(channel: u8, detuning: Ratio, out: &mut [u8]) -> Result<usize, Refusal>
     ensures { WriteMeets (channel_tuning_rule TuningKind.FineTuning channel detuning.float_value) out.old (outcome result) out.new }
 {
@@ -46,7 +46,7 @@ pub fn channel_fine_tuning(channel: u8, detuning: Ratio, out: &mut [u8]) -> Resu
 }
 
 // Writes the bend of a channel by a detuning to the buffer's start. Refuses 6, 2, 10 (SPEC 8.5).
-// Example: channel_pitch_bend(0, 33/32, 3 bytes) is e0 06 51
+// Example: channel_pitch_bend(0, 33/32, 3 bytes) is E0 06 51
 pub fn channel_pitch_bend(channel: u8, detuning: Ratio, out: &mut [u8]) -> Result<usize, Refusal>
     ensures { WriteMeets (channel_tuning_rule TuningKind.Bend channel detuning.float_value) out.old (outcome result) out.new }
 {

@@ -64,7 +64,7 @@ answered (call c room) = called c room
 answered (pool_model_open cs by mode) = fields (of_list (Pools.open_rule cs by mode).0)
 answered (register_key s key hz) = let a = of_registered (Pools.outcome_and_state s (Pools.register_rule s key hz)).0 in (a.outcome, a.refusal)
 answered (repitch_key s key hz) = let a = of_repitched (Pools.repitch_rule s key hz) in (a.outcome, a.refusal)
-answered (plan_model_open cs by) = fields (of_list (open_rule cs by).1)
+answered (plan_model_open cs by) = fields (of_list (open_rule cs by).0)
 answered (plan_model_set_tuning m ks ns ds) = fields (of_plan (set_tuning m ks ns ds).1)
 answered (plan_model_set_tuning_of_pitches m ks hzs) = fields (of_plan (set_tuning_of_pitches m ks hzs).1)
 answered (nearest_note hz) = let a = of_nearest (nearest_rule hz) in (a.outcome, a.refusal)

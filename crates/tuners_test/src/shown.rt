@@ -1,4 +1,4 @@
-// How a call, its answer and its bytes are shown. A buffer is lent full of aa, and what a call did not send must stay so.
+// How a call, its answer and its bytes are shown. A buffer is lent full of AA, and what a call did not send must stay so.
 
 use arithmetic::refusal::Refusal;
 use channels::list::ChannelList;
