@@ -25,7 +25,7 @@ extern "C" {
 enum {
     TARVOUED_DONE = 0,
     TARVOUED_UNTUNED = 1,   /* there are too few channels for the plan, and the block has none now */
-    TARVOUED_REJECTED = 2,  /* no channel is free for the press */
+    TARVOUED_REJECTED = 2,  /* no channel is free for the press; with retrigger its key may have been released first: `bytes` of that are to be sent */
     TARVOUED_NOT_FOUND = 3, /* the key, or the entry, is not there */
     TARVOUED_REFUSED = 4    /* `refusal` says why, and nothing has changed */
 };
@@ -42,7 +42,7 @@ enum {
     TARVOUED_DATA_BYTE_OVER_127 = 8,
     TARVOUED_BEND_OUT_OF_RANGE = 9,     /* not from -8192 to 8191 */
     TARVOUED_BUFFER_TOO_SHORT = 10,     /* `room` is less than this answer's bytes */
-    TARVOUED_KEY_HELD = 11,             /* a press of a key that is found */
+    TARVOUED_KEY_HELD = 11,             /* a press of a key that is found, without retrigger */
     TARVOUED_LISTS_UNEQUAL = 12         /* lists of unequal length */
 };
 
@@ -51,6 +51,10 @@ enum { TARVOUED_FINE_TUNING = 0, TARVOUED_BEND = 1 };
 
 /* What a press does that finds no free channel: `pooling_mode`. It is rejected; it releases the key held longest; it takes that key's channel (SPEC 7.3). */
 enum { TARVOUED_BLOCK = 0, TARVOUED_STOP = 1, TARVOUED_IGNORE = 2 };
+
+/* What a press of a key that is found does: `retrigger`. OFF: it is refused (11). ON: it releases the key first, a tuner with a note-off of velocity 0, and
+   then goes on as any press, which may give the key another channel (SPEC 7.2d). */
+enum { TARVOUED_RETRIGGER_OFF = 0, TARVOUED_RETRIGGER_ON = 1 };
 
 /* ---- the answers */
 
@@ -69,13 +73,15 @@ typedef struct {
     double detuning;
 } tarvoued_note;
 
-/* A press from a pool model, with the note that it stopped if `stopped` is 1. */
+/* A press from a pool model. If `stopped` is 1, `stopped_note` is the note that it stopped. If `released` is 1, its key was held and was released first, from
+   `released_channel` and `released_note`; then a press that is REJECTED too has changed the block. */
 typedef struct {
     uint8_t outcome, refusal;
     uint16_t channel;
     int32_t note;
-    uint8_t stopped;
-    int32_t stopped_note;
+    uint8_t stopped, released;
+    uint16_t released_channel;
+    int32_t stopped_note, released_note;
     double detuning;
 } tarvoued_registered_key;
 
@@ -128,16 +134,18 @@ tarvoued_answer tarvoued_channel_tuning(uint8_t tuning_kind, uint8_t channel, do
 
 /* ---- the pool tuner: channels are handed out while somebody plays (SPEC 9.2) */
 
-#define TARVOUED_POOL_CELLS 676
+#define TARVOUED_POOL_CELLS 677
 
 typedef struct {
     uint16_t cells[TARVOUED_POOL_CELLS];
 } tarvoued_pool;
 
 /* A tuner of the MIDI channels listed, in which no key is found. Refuses 6, 7. */
-tarvoued_answer tarvoued_pool_open(tarvoued_pool *pool, const uint8_t *channels, size_t count, uint8_t tuning_kind, uint8_t pooling_mode);
+tarvoued_answer tarvoued_pool_open(tarvoued_pool *pool, const uint8_t *channels, size_t count, uint8_t tuning_kind, uint8_t pooling_mode,
+                                   uint8_t retrigger);
 
-/* A press: the note-off of the note that it stops, the tuning, the note-on; DONE or REJECTED. Refuses 8, 1, 11, 10. */
+/* A press. With retrigger, and if its key is found: the note-off of the key, with velocity 0. Then, if it is DONE: the note-off of the note that it stops,
+   the tuning, the note-on. If it is REJECTED, nothing follows the first note-off. Refuses 8, 1, 11 (11 only without retrigger), 10 (SPEC 9.2, 9.2e). */
 tarvoued_answer tarvoued_pool_note_on(tarvoued_pool *pool, uint8_t key, double hz, uint8_t velocity, uint8_t *out, size_t room);
 
 /* A release: the note-off of a key that is found. Refuses 8, 10. */
@@ -164,9 +172,11 @@ tarvoued_note tarvoued_pool_lookup(const tarvoued_pool *pool, uint8_t key);
 enum { TARVOUED_POOL_BY_LETTER = 0, TARVOUED_POOL_BY_CHANNEL = 1 };
 
 /* A model of the MIDI channels listed, in which no key is found. Refuses 6, 7. */
-tarvoued_answer tarvoued_pool_model_open(tarvoued_pool *pool, const uint8_t *channels, size_t count, uint8_t group_by, uint8_t pooling_mode);
+tarvoued_answer tarvoued_pool_model_open(tarvoued_pool *pool, const uint8_t *channels, size_t count, uint8_t group_by, uint8_t pooling_mode,
+                                         uint8_t retrigger);
 
-/* A press: the nearest note, on a channel of its pool, DONE or REJECTED. Refuses 1, 11. */
+/* A press: the nearest note, on a channel of its pool, DONE or REJECTED; with retrigger its key is released first if it is found. It stays
+   released if the press is REJECTED. Refuses 1, 11 (11 only without retrigger; SPEC 7.2d, 7.2e). */
 tarvoued_registered_key tarvoued_pool_model_register_key(tarvoued_pool *pool, uint8_t key, double hz);
 
 /* A release: where the key was, DONE or NOT_FOUND. */

@@ -127,10 +127,10 @@ static void pool(void)
         uint8_t *channels = lend(key_fence, 3);
         channels[0] = (uint8_t)below(18), channels[1] = (uint8_t)below(18), channels[2] = (uint8_t)below(18);
         before = *pool;
-        tarvoued_answer a = tarvoued_pool_open(pool, channels, 3, (uint8_t)below(3), (uint8_t)below(4));
+        tarvoued_answer a = tarvoued_pool_open(pool, channels, 3, (uint8_t)below(3), (uint8_t)below(4), (uint8_t)below(3));
         judge(a, pool, &before, sizeof before, out_fence, lend(out_fence, 0), 0, 1);
         before = *pool;
-        if (below(2)) a = tarvoued_pool_model_open(pool, channels, below(4), (uint8_t)below(3), (uint8_t)below(4));
+        if (below(2)) a = tarvoued_pool_model_open(pool, channels, below(4), (uint8_t)below(3), (uint8_t)below(4), (uint8_t)below(3));
         judge(a, pool, &before, sizeof before, out_fence, lend(out_fence, 0), 0, 1);
     }
     for (int i = 0; i < 12; i++) {
@@ -148,7 +148,8 @@ static void pool(void)
         case 6: judge(tarvoued_pool_stop(pool, out, room), pool, &before, sizeof before, out_fence, out, room, 1); break;
         case 7: {
             tarvoued_registered_key r = tarvoued_pool_model_register_key(pool, key, hz);
-            if (r.outcome != TARVOUED_DONE && memcmp(pool, &before, sizeof before)) fail("a block was changed");
+            if (r.outcome == TARVOUED_REFUSED && r.released) fail("a refused press released its key");
+            if (r.outcome != TARVOUED_DONE && !r.released && memcmp(pool, &before, sizeof before)) fail("a block was changed");
             break;
         }
         default: {
@@ -229,7 +230,9 @@ int main(void)
 {
     HOLDS(sizeof(tarvoued_answer) == 16 && offsetof(tarvoued_answer, channels) == 2 && offsetof(tarvoued_answer, bytes) == 8);
     HOLDS(sizeof(tarvoued_note) == 16 && offsetof(tarvoued_note, channel) == 2 && offsetof(tarvoued_note, note) == 4 && offsetof(tarvoued_note, detuning) == 8);
-    HOLDS(sizeof(tarvoued_registered_key) == 24 && offsetof(tarvoued_registered_key, stopped) == 8 && offsetof(tarvoued_registered_key, stopped_note) == 12);
+    HOLDS(sizeof(tarvoued_registered_key) == 32 && offsetof(tarvoued_registered_key, stopped) == 8 && offsetof(tarvoued_registered_key, released) == 9);
+    HOLDS(offsetof(tarvoued_registered_key, released_channel) == 10 && offsetof(tarvoued_registered_key, stopped_note) == 12);
+    HOLDS(offsetof(tarvoued_registered_key, released_note) == 16 && offsetof(tarvoued_registered_key, detuning) == 24);
     HOLDS(sizeof(tarvoued_pitch) == 16 && sizeof(tarvoued_number) == 16 && sizeof(tarvoued_message) == 6);
     HOLDS(sizeof(tarvoued_pool) == 2 * TARVOUED_POOL_CELLS && sizeof(tarvoued_plan) == 8 * TARVOUED_PLAN_CELLS);
     HOLDS(offsetof(struct { char c; tarvoued_pool p; }, p) == 2 && offsetof(struct { char c; tarvoued_plan p; }, p) == 8);

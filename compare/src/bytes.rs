@@ -195,7 +195,7 @@ fn channel_tunings(chance: &mut Chance, rows: &mut Vec<Row>) {
             let rule = rule::tuning(bends, channel, detuning);
             let told = || format!("{detuning:?} on channel {channel}: {answer:?} {}; the Rust: {}", hex(&out[..length]), hex(&rust));
             if answer != (0, length) || out[..length] != rule || out[length..].iter().any(|&b| b != FILL) {
-                row.differs(Kind::Unexpected, 0, || format!("{}; document 01: {}", told(), hex(&rule)));
+                row.differs(Kind::Unexpected, 0, || format!("{}; docs/SPEC.md: {}", told(), hex(&rule)));
             } else if rule != rust {
                 let values = if bends { (rule::bend(detuning), steps::bend(detuning)) } else { (rule::fine(detuning), steps::fine(detuning)) };
                 let kind = steps::excused(bends, detuning, values.0, values.1).unwrap_or(Kind::Unexpected);

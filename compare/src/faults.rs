@@ -63,10 +63,10 @@ fn written(bends: bool, channels: &[u8], plan: bool, presses: &[(u8, f64)]) -> S
 fn channels(row: &mut Row) {
     for bends in [false, true] {
         let mut calls = Calls::new(&[Event::Press(1, 440.0, 64)], 20);
-        one(row, "a press on channel 16", (written(bends, &[16], false, &[(1, 440.0)]), "panics"), Some((calls.play_pool(&[16], bends, 0), 6)));
+        one(row, "a press on channel 16", (written(bends, &[16], false, &[(1, 440.0)]), "panics"), Some((calls.play_pool(&[16], bends, 0, 0), 6)));
         let (mut unheard, bytes) = sender(bends, &[16]);
         unheard.global_attr(rust_message(Message { kind: 0x9, first: 60, second: 64, bend: 0 }));
-        one(row, "a note-on to all channels, which are 16", (hex(&bytes.take()), "-"), Some((calls.play_pool(&[16], bends, 0), 6)));
+        one(row, "a note-on to all channels, which are 16", (hex(&bytes.take()), "-"), Some((calls.play_pool(&[16], bends, 0, 0), 6)));
         let mut calls = Calls::new(&[Event::TuneByPitches], 20);
         let lists = Lists { pitch_keys: vec![1], pitches: vec![440.0], ..Lists::default() };
         one(row, "a plan on channel 16", (written(bends, &[16], true, &[(1, 440.0)]), "panics"), Some((calls.play_plan(&[16], bends, &lists), 6)));
@@ -75,7 +75,7 @@ fn channels(row: &mut Row) {
     let presses = [(1, 440.0), (2, 450.0)];
     let mut calls = Calls::new(&presses.map(|(key, hz)| Event::Press(key, hz, 64)), 20);
     let both = (written(true, &[0, 0], false, &presses), "E0 00 40 90 45 40 E0 39 4C 90 45 40");
-    one(row, "two presses on channels 0 and 0", both, Some((calls.play_pool(&[0, 0], true, 0), 7)));
+    one(row, "two presses on channels 0 and 0", both, Some((calls.play_pool(&[0, 0], true, 0, 0), 7)));
 }
 
 fn numbers(row: &mut Row) {
@@ -138,7 +138,7 @@ fn held(row: &mut Row) {
             answers.push(answer);
         }
         port.ready();
-        port.play(&(0..channels as u8).collect::<Vec<u8>>(), false, mode as u8);
+        port.play(&(0..channels as u8).collect::<Vec<u8>>(), false, mode as u8, 0);
         one(row, &format!("{channels} channels, {:?}, {events}", modes[mode]), (answers.join(", "), told), Some((port.answers.kinds[1], 11)));
     }
 }

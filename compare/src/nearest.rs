@@ -55,7 +55,7 @@ fn compare(row: &mut Row, pitches: &[f64]) {
         let (our_note, our_detuning) = (ours.notes[i], ours.detunings[i]);
         let told = || format!("{hz:?} Hz: note {our_note}, detuning {our_detuning:?}; the Rust: {rust_note}, {rust_detuning:?}");
         if (ours.refusals[i], our_note, our_detuning) != (0, note, detuning) {
-            row.differs(Kind::Unexpected, 0, || format!("{}; document 01: {note}, {detuning:?}", told()));
+            row.differs(Kind::Unexpected, 0, || format!("{}; docs/SPEC.md: {note}, {detuning:?}", told()));
         } else if note == rust_note && close(detuning, rust_detuning) {
             continue;
         } else if excused(hz) {

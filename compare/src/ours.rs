@@ -35,7 +35,10 @@ pub struct RegisteredKey {
     pub channel: u16,
     pub note: i32,
     pub stopped: u8,
+    pub released: u8,
+    pub released_channel: u16,
     pub stopped_note: i32,
+    pub released_note: i32,
     pub detuning: f64,
 }
 
@@ -79,7 +82,7 @@ unsafe extern "C" {
     safe fn tarvoued_message_pitch_bend_change(value: i16) -> RawMessage;
     fn tarvoued_message_write(channel: u8, message: RawMessage, out: *mut u8, room: usize) -> Answer;
     fn tarvoued_channel_tuning(tuning_kind: u8, channel: u8, detuning: f64, out: *mut u8, room: usize) -> Answer;
-    fn tarvoued_pool_open(pool: *mut Pool, channels: *const u8, count: usize, tuning_kind: u8, pooling_mode: u8) -> Answer;
+    fn tarvoued_pool_open(pool: *mut Pool, channels: *const u8, count: usize, tuning_kind: u8, pooling_mode: u8, retrigger: u8) -> Answer;
     fn tarvoued_pool_note_on(pool: *mut Pool, key: u8, hz: f64, velocity: u8, out: *mut u8, room: usize) -> Answer;
     fn tarvoued_pool_note_off(pool: *mut Pool, key: u8, velocity: u8, out: *mut u8, room: usize) -> Answer;
     fn tarvoued_pool_note_pitch(pool: *const Pool, key: u8, hz: f64, out: *mut u8, room: usize) -> Answer;
@@ -87,7 +90,7 @@ unsafe extern "C" {
     fn tarvoued_pool_global_attr(pool: *const Pool, message: RawMessage, out: *mut u8, room: usize) -> Answer;
     fn tarvoued_pool_stop(pool: *mut Pool, out: *mut u8, room: usize) -> Answer;
     fn tarvoued_pool_lookup(pool: *const Pool, key: u8) -> Note;
-    fn tarvoued_pool_model_open(pool: *mut Pool, channels: *const u8, count: usize, group_by: u8, pooling_mode: u8) -> Answer;
+    fn tarvoued_pool_model_open(pool: *mut Pool, channels: *const u8, count: usize, group_by: u8, pooling_mode: u8, retrigger: u8) -> Answer;
     fn tarvoued_pool_model_register_key(pool: *mut Pool, key: u8, hz: f64) -> RegisteredKey;
     fn tarvoued_pool_model_deregister_key(pool: *mut Pool, key: u8) -> Note;
     fn tarvoued_pool_model_repitch_key(pool: *const Pool, key: u8, hz: f64) -> Note;
@@ -268,7 +271,7 @@ pub enum Event {
 /// A pool tuner's or a pool model's block.
 #[repr(C)]
 #[derive(Clone, Copy, PartialEq)]
-pub struct Pool([u16; 676]);
+pub struct Pool([u16; 677]);
 
 impl Pool {
     /// Some content that no call made.
@@ -277,13 +280,13 @@ impl Pool {
     }
 
     /// The refusal of the channel list, 0 where there is none.
-    pub fn open(&mut self, channels: &[u8], bends: bool, mode: u8) -> u8 {
-        let answer = unsafe { tarvoued_pool_open(self, channels.as_ptr(), channels.len(), u8::from(bends), mode) };
+    pub fn open(&mut self, channels: &[u8], bends: bool, mode: u8, retrigger: u8) -> u8 {
+        let answer = unsafe { tarvoued_pool_open(self, channels.as_ptr(), channels.len(), u8::from(bends), mode, retrigger) };
         done(answer.outcome, answer.refusal)
     }
 
-    pub fn open_model(&mut self, channels: &[u8], letters: bool, mode: u8) -> u8 {
-        let answer = unsafe { tarvoued_pool_model_open(self, channels.as_ptr(), channels.len(), u8::from(!letters), mode) };
+    pub fn open_model(&mut self, channels: &[u8], letters: bool, mode: u8, retrigger: u8) -> u8 {
+        let answer = unsafe { tarvoued_pool_model_open(self, channels.as_ptr(), channels.len(), u8::from(!letters), mode, retrigger) };
         done(answer.outcome, answer.refusal)
     }
 
@@ -523,10 +526,10 @@ impl Events {
     }
 
     /// Plays them on a pool model; the refusal of the channel list, 0 where there is none.
-    pub fn play(&mut self, channels: &[u8], letters: bool, mode: u8) -> u8 {
+    pub fn play(&mut self, channels: &[u8], letters: bool, mode: u8, retrigger: u8) -> u8 {
         let mut pool = Pool::of(|i| (i * 40503) as u16);
         let closed = pool;
-        let refusal = pool.open_model(channels, letters, mode);
+        let refusal = pool.open_model(channels, letters, mode, retrigger);
         if refusal != 0 {
             assert!(pool == closed, "refused {refusal} and changed");
             return refusal;
@@ -538,11 +541,12 @@ impl Events {
                 other => {
                     let place = if other == RELEASE { pool.deregister_key(key) } else { pool.lookup(key) };
                     let Note { outcome, refusal, channel, note, detuning } = place;
-                    RegisteredKey { outcome, refusal, channel, note, stopped: 0, stopped_note: 0, detuning }
+                    RegisteredKey { outcome, refusal, channel, note, stopped: 0, released: 0, released_channel: 0, stopped_note: 0, released_note: 0, detuning }
                 }
             };
             let kind = kind(answer.outcome, answer.refusal, if self.kinds[i] == PRESS { REJECTED } else { NOT_FOUND });
             assert!(kind == FOUND || pool == before, "answered {kind} and changed");
+            assert_eq!((answer.released, answer.released_channel, answer.released_note), (0, 0, 0), "no press here is of a held key with retrigger");
             let answers = &mut self.answers;
             answers.kinds[i] = kind;
             answers.channels[i] = answer.channel;
@@ -603,10 +607,10 @@ impl Calls {
     }
 
     /// Plays them on a pool tuner; the refusal of the channel list, 0 where there is none.
-    pub fn play_pool(&mut self, channels: &[u8], bends: bool, mode: u8) -> u8 {
+    pub fn play_pool(&mut self, channels: &[u8], bends: bool, mode: u8, retrigger: u8) -> u8 {
         let mut pool = Pool::of(|i| (i * 40503) as u16);
         let closed = pool;
-        let refusal = pool.open(channels, bends, mode);
+        let refusal = pool.open(channels, bends, mode, retrigger);
         if refusal == 0 {
             self.play(&mut pool, Pool::play);
         } else {

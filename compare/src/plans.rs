@@ -203,7 +203,7 @@ fn compare(fed: &mut Row, by_pitch: &mut Row, keys: &[u8], pitches: &[f64], pres
         let planned = plan_of_pitches(group, keys, pitches);
         let answer = ours::plan_of_pitches(&list, group, keys, pitches, &ALL, &mut at, &mut sounds);
         if !is_plan(answer_of(&planned, present), &planned.places, answer, &at, &sounds) {
-            by_pitch.differs(Kind::Unexpected, keys.len(), || told(format!("{answer:?}; document 01: {} channels", planned.count)));
+            by_pitch.differs(Kind::Unexpected, keys.len(), || told(format!("{answer:?}; docs/SPEC.md: {} channels", planned.count)));
         } else if answer_of(&planned, present) != expected(&rust) || (rust.tuned && planned.places != rust.places) {
             let kind = excused(group, pitches).unwrap_or(Kind::Unexpected);
             by_pitch.differs(kind, keys.len(), || told(format!("{answer:?}")));
@@ -457,10 +457,10 @@ pub fn run(chance: &mut Chance, rows: &mut Vec<Row>) {
     rows.extend([fed, by_pitch]);
 
     progress("plans: detunings that no pitch has, and damaged lists");
-    let mut row = Row::new("plans: detunings of 0.5 to 2, by 01's walk");
+    let mut row = Row::new("plans: detunings of 0.5 to 2, by SPEC's walk");
     walked(&mut row, chance);
     rows.push(row);
-    let mut row = Row::new("plans: damaged lists, by 01's order");
+    let mut row = Row::new("plans: damaged lists, by SPEC's order");
     damaged(&mut row, chance);
     rows.push(row);
 }

@@ -166,7 +166,12 @@ impl Sequence {
         self.calls.push(Told { event: Event::Stop, rule, rust, excuse });
         let setting = format!("channels {:?}, bends {}, mode {}", self.channels, self.bends, self.mode);
         hold(row, &setting, 0, &self.calls, |calls| {
-            calls.play_pool(&self.channels, self.bends, self.mode);
+            calls.play_pool(&self.channels, self.bends, self.mode, 0);
+        });
+        // With retrigger too, without the presses of held keys, which the rules refuse and the Rust was not told of.
+        self.calls.retain(|call| call.rule.kind != 11);
+        hold(row, &format!("{setting}, retrigger"), 0, &self.calls, |calls| {
+            calls.play_pool(&self.channels, self.bends, self.mode, 1);
         });
     }
 }
@@ -337,7 +342,7 @@ pub fn run(chance: &mut Chance, rows: &mut Vec<Row>) {
                     sequence.calls()
                 };
                 short_buffers(&mut row, &setting, &before, any_call(chance, 6), 0..=5, rules, |calls| {
-                    calls.play_pool(&channels, bends, mode);
+                    calls.play_pool(&channels, bends, mode, 0);
                 });
             }
         }
@@ -351,7 +356,7 @@ pub fn run(chance: &mut Chance, rows: &mut Vec<Row>) {
     for (list, refusal) in lists {
         row.cases += 1;
         let mut calls = Calls::new(&[Event::Press(1, 440.0, 64)], 20);
-        let answer = calls.play_pool(list, false, 0);
+        let answer = calls.play_pool(list, false, 0, 0);
         if (answer, calls.answers[0]) != (refusal, first_answer(refusal, list)) {
             row.differs(Kind::Unexpected, list.len(), || format!("{list:?}: {answer}, not {refusal}"));
         } else if refusal != 0 {

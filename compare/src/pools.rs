@@ -37,7 +37,7 @@ fn pressed(result: RegisterKeyResult, hz: f64) -> Answer {
     match result {
         RegisterKeyResult::Accepted { channel, stopped_note, started_note, detuning } => {
             let (note, rule) = rule::nearest(hz);
-            assert!(note == started_note.midi_number() && nearest::close(rule, detuning.as_float()), "{hz:?} Hz: document 01 and the Rust differ");
+            assert!(note == started_note.midi_number() && nearest::close(rule, detuning.as_float()), "{hz:?} Hz: docs/SPEC.md and the Rust differ");
             let stopped = stopped_note.map_or(ours::NO_NOTE, Note::midi_number);
             Answer { kind: ours::FOUND, channel, note, stopped, detuning: rule }
         }
@@ -117,8 +117,27 @@ impl Sequence {
         for key in 0..=keys {
             self.lookup(key);
         }
+        self.play(row, channels, letters, mode, 0);
+        self.without_held().play(row, channels, letters, mode, 1);
+    }
+
+    /// The same without the presses of held keys, which the rules refuse and the Rust was not told of.
+    fn without_held(self) -> Sequence {
+        let mut events = Events::default();
+        let mut answers = Vec::new();
+        for (i, answer) in self.answers.into_iter().enumerate() {
+            if answer.kind != 11 {
+                events.push(self.events.kinds[i], self.events.keys[i], self.events.pitches[i]);
+                answers.push(answer);
+            }
+        }
+        Sequence { rust: self.rust, events, answers }
+    }
+
+    /// Plays the port's model, and compares every answer.
+    fn play(&mut self, row: &mut Row, channels: &[u8], letters: bool, mode: u8, retrigger: u8) {
         self.events.ready();
-        self.events.play(channels, letters, mode);
+        self.events.play(channels, letters, mode, retrigger);
         let e = &self.events;
         let a = &e.answers;
         for (i, rust) in self.answers.iter().enumerate() {
@@ -143,7 +162,7 @@ impl Sequence {
             }
             row.differs(Kind::Unexpected, i, || {
                 let upto: Vec<_> = (0..=i).map(|j| (e.kinds[j], e.keys[j], e.pitches[j])).collect();
-                format!("{} channels, letters {letters}, mode {mode}, {upto:?}: {ours:?}; the Rust: {rust:?}", channels.len())
+                format!("{} channels, letters {letters}, mode {mode}, retrigger {retrigger}, {upto:?}: {ours:?}; the Rust: {rust:?}", channels.len())
             });
             return;
         }
@@ -278,7 +297,7 @@ pub fn run(chance: &mut Chance, rows: &mut Vec<Row>) {
         let mut events = Events::default();
         events.push(ours::PRESS, 1, 440.0);
         events.ready();
-        let answer = events.play(list, false, 0);
+        let answer = events.play(list, false, 0, 0);
         if (answer, events.answers.kinds[0]) != (refusal, first_answer(refusal, list)) {
             row.differs(Kind::Unexpected, list.len(), || format!("{list:?}: {answer}, not {refusal}"));
         } else if refusal != 0 {

@@ -61,14 +61,35 @@ fn pool(row: &mut Row, chance: &mut Chance, block: &mut Pool) {
     }
     let before = *block;
     let (list, refusal) = chance.pick(&LISTS);
-    let number = block.open(list, chance.below(2) == 0, chance.below(256) as u8);
+    let number = block.open(list, chance.below(2) == 0, chance.below(256) as u8, chance.below(256) as u8);
     one(row, &format!("a pool tuner of {list:?}"), number, refusal, *block == before);
-    let number = block.open_model(list, chance.below(2) == 0, chance.below(256) as u8);
+    let number = block.open_model(list, chance.below(2) == 0, chance.below(256) as u8, chance.below(256) as u8);
     one(row, &format!("a pool model of {list:?}"), number, refusal, *block == before);
     let answer = block.register_key(key, hz);
     one(row, &format!("a press at {hz:?} Hz"), answer.refusal, 1, answer.outcome == 4 && *block == before);
     let answer = block.repitch_key(key, hz);
     one(row, &format!("a repitch to {hz:?} Hz"), answer.refusal, 1, answer.outcome == 4 && *block == before);
+}
+
+/// A press of a held key is refused by 11 without retrigger, and with it for want of room alone.
+fn held(row: &mut Row, chance: &mut Chance) {
+    let (key, mode, retrigger) = (chance.below(256) as u8, chance.below(3) as u8, chance.below(2) as u8);
+    let mut block = Pool::of(|_| 0);
+    block.open(&[4, 9], chance.below(2) == 0, mode, retrigger);
+    block.play(Event::Press(key, 440.0, 64), &mut [FILL; 21]);
+    let (number, left) = play(&mut block, chance, |block, out| block.play(Event::Press(key, 455.0, 64), out));
+    if retrigger == 0 {
+        one(row, "a press of a held key", number, 11, left);
+    } else if number == 10 {
+        one(row, "a press of a held key with retrigger", number, 10, left);
+    } else {
+        row.cases += 1;
+        if number != 0 {
+            row.differs(Kind::Unexpected, 0, || format!("a press of a held key with retrigger, mode {mode}: refusal {number}"));
+        } else if left {
+            row.differs(Kind::Unexpected, 0, || format!("a press of a held key with retrigger, mode {mode}: nothing changed"));
+        }
+    }
 }
 
 /// Lists that a plan refuses, and the refusal of those with pitches and of those with notes.
@@ -132,6 +153,7 @@ pub fn run(chance: &mut Chance, rows: &mut Vec<Row>) {
         }
         let mut block = Pool::of(|_| cell(chance, turn) as u16);
         pool(&mut row, chance, &mut block);
+        held(&mut row, chance);
         let mut block = Plan::of(|_| cell(chance, turn));
         plan(&mut row, chance, &mut block);
     }

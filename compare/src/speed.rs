@@ -150,7 +150,7 @@ fn presses(channels: usize, count: usize, chance: &mut Chance) -> Events {
 
 /// The events on a pool model of the port.
 fn play_port(events: &Events, block: &mut Pool, list: &[u8], letters: bool, mode: u8) {
-    block.open_model(list, letters, mode);
+    block.open_model(list, letters, mode, 0);
     for i in 0..events.kinds.len() {
         if events.kinds[i] == ours::PRESS {
             black_box(block.register_key(events.keys[i], events.pitches[i]));
@@ -195,7 +195,7 @@ fn tuner(channels: usize, chance: &mut Chance) -> (Figure, Figure) {
     measure(
         n,
         || {
-            block.open(&list, true, 1);
+            block.open(&list, true, 1, 0);
             for &call in &calls {
                 black_box(block.play(call, &mut out));
             }

@@ -66,7 +66,7 @@ fn compare(row: &mut Row, is_bend: bool, detunings: &[f64]) {
         let told = || format!("{detuning:?}: {value}; the Rust: {rust}");
         if (ours.refusals[i], value) != (0, rule) {
             let refusal = ours.refusals[i];
-            row.differs(Kind::Unexpected, 0, || format!("{}; document 01: {rule}, refusal {refusal}", told()));
+            row.differs(Kind::Unexpected, 0, || format!("{}; docs/SPEC.md: {rule}, refusal {refusal}", told()));
         } else if rule != rust {
             let kind = excused(is_bend, detuning, rule, rust);
             row.differs(kind.unwrap_or(Kind::Unexpected), format!("{detuning:?}").len(), told);
@@ -146,7 +146,7 @@ pub fn run(chance: &mut Chance, rows: &mut Vec<Row>) {
         let ours = ours::measure(detuning);
         let expected = if 0.0 < detuning && detuning.is_finite() { (0, 0, rule::measure(detuning)) } else { (4, 2, 0) };
         if (ours.outcome, ours.refusal, ours.number) != expected {
-            row.differs(Kind::Unexpected, 0, || format!("{detuning:?}: {ours:?}; document 01: {expected:?}"));
+            row.differs(Kind::Unexpected, 0, || format!("{detuning:?}: {ours:?}; docs/SPEC.md: {expected:?}"));
         }
     }
     rows.push(row);

@@ -79,7 +79,7 @@ pub fn hold(row: &mut Row, setting: &str, lines: usize, calls: &[Told], play: im
             format!("{setting}, {from}{upto:?}: {text}; the Rust: {}", hex(&call.rust.bytes))
         };
         if answer != call.rule {
-            row.differs(Kind::Unexpected, size, || format!("{}; document 01: {:?}", told(), call.rule));
+            row.differs(Kind::Unexpected, size, || format!("{}; docs/SPEC.md: {:?}", told(), call.rule));
             return;
         }
         match answer.kind {

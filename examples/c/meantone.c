@@ -24,7 +24,7 @@ int main(void)
     const uint8_t channels[] = {0, 1, 2};
     uint8_t out[64];
     tarvoued_pool pool;
-    show("open", tarvoued_pool_open(&pool, channels, sizeof channels, TARVOUED_BEND, TARVOUED_STOP), out);
+    show("open", tarvoued_pool_open(&pool, channels, sizeof channels, TARVOUED_BEND, TARVOUED_STOP, TARVOUED_RETRIGGER_OFF), out);
     show("C", tarvoued_pool_note_on(&pool, 60, pitch(-3, 1), 100, out, sizeof out), out);
     show("E", tarvoued_pool_note_on(&pool, 64, pitch(1, -1), 100, out, sizeof out), out);
     show("G", tarvoued_pool_note_on(&pool, 67, pitch(-2, 1), 100, out, sizeof out), out);

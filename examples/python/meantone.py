@@ -7,11 +7,11 @@ import sys
 from ctypes import POINTER, Structure, byref, c_double, c_int16, c_int32, c_size_t, c_uint8, c_uint16
 
 DONE, UNTUNED, REJECTED, NOT_FOUND, REFUSED = range(5)
-BEND, STOP = 1, 1
+BEND, STOP, RETRIGGER_OFF, RETRIGGER_ON = 1, 1, 0, 1
 
 
 class Pool(Structure):
-    _fields_ = [("cells", c_uint16 * 676)]
+    _fields_ = [("cells", c_uint16 * 677)]
 
 
 class Answer(Structure):
@@ -29,7 +29,7 @@ class Message(Structure):
 library = ctypes.CDLL(sys.argv[1])
 bytes_at = POINTER(c_uint8)
 for name, result, arguments in [
-    ("pool_open", Answer, [POINTER(Pool), bytes_at, c_size_t, c_uint8, c_uint8]),
+    ("pool_open", Answer, [POINTER(Pool), bytes_at, c_size_t, c_uint8, c_uint8, c_uint8]),
     ("pool_note_on", Answer, [POINTER(Pool), c_uint8, c_double, c_uint8, bytes_at, c_size_t]),
     ("pool_note_off", Answer, [POINTER(Pool), c_uint8, c_uint8, bytes_at, c_size_t]),
     ("pool_global_attr", Answer, [POINTER(Pool), Message, bytes_at, c_size_t]),
@@ -57,7 +57,7 @@ def show(what, answer):
 
 channels = (c_uint8 * 3)(0, 1, 2)
 pool, out = Pool(), (c_uint8 * 64)()
-show("open", library.tarvoued_pool_open(byref(pool), channels, len(channels), BEND, STOP))
+show("open", library.tarvoued_pool_open(byref(pool), channels, len(channels), BEND, STOP, RETRIGGER_OFF))
 for name, key, hz in [("C", 60, pitch(-3, 1)), ("E", 64, pitch(1, -1)), ("G", 67, pitch(-2, 1)), ("G again", 67, pitch(-2, 1))]:
     show(name, library.tarvoued_pool_note_on(byref(pool), key, hz, 100, out, len(out)))
 show("volume", library.tarvoued_pool_global_attr(byref(pool), library.tarvoued_message_control_change(7, 90), out, len(out)))

@@ -7,7 +7,7 @@ use Rattle.std.specs.Float.{binary64}
 use Rattle.channels.specs.Outcome.{Outcome, value, refused}
 use Rattle.plans.specs.Plan as M
 use Rattle.channels.specs.Places.{Place}
-use Rattle.pools.specs.Pool.{Press, accepted, rejected}
+use Rattle.pools.specs.Pool.{Press, accepted, rejected, Pressing}
 use Rattle.channels.specs.declared.tuning_value.Tuning.{Tuning}
 use Rattle.channels.specs.declared.tuning_value.Tuning.TheVariants.{Fine, Bend}
 use Rattle.plan_tuner.specs.Aot.{Planned, plan_tuned, plan_untuned}
@@ -32,7 +32,7 @@ of_sent (refused n) = answer_of 4 n 0 0
 
 abbrev pub of_press : Outcome PressResult → Answer
 of_press (value (press_sent bytes)) = answer_of 0 0 0 bytes
-of_press (value press_rejected) = answer_of 2 0 0 0
+of_press (value (press_rejected bytes)) = answer_of 2 0 0 bytes
 of_press (refused n) = answer_of 4 n 0 0
 
 abbrev pub of_list : Outcome (List ℕ) → Answer
@@ -87,22 +87,45 @@ of_entry c none = note_of 3 0 0 (pos 0) zero_float
 
 -- ---- SPEC 12.3: the presses of a pool model
 
-abbrev pub is_stopped : Option ℤ → ℕ
-is_stopped (some note) = 1
-is_stopped none = 0
+abbrev pub is_some : {A : Type 0} → Option A → ℕ
+is_some (some a) = 1
+is_some none = 0
 
 abbrev pub note_or0 : Option ℤ → ℤ
 note_or0 (some note) = note
 note_or0 none = pos 0
 
-abbrev pub registered_of : (outcome refusal channel : ℕ) → Option ℤ → ℤ → Float → RegisteredKey
-registered_of o n c s note d =
-    record { outcome = o; refusal = n; channel = c; note = note; stopped = is_stopped s; stopped_note = note_or0 s; detuning = d }
+abbrev pub released_channel : Option Place → ℕ
+released_channel (some p) = p.channel
+released_channel none = 0
 
-abbrev pub of_registered : Outcome Press → RegisteredKey
-of_registered (value (accepted c s note d)) = registered_of 0 0 c s note d
-of_registered (value rejected) = registered_of 2 0 0 none (pos 0) zero_float
-of_registered (refused n) = registered_of 4 n 0 none (pos 0) zero_float
+abbrev pub released_note : Option Place → ℤ
+released_note (some p) = p.note
+released_note none = pos 0
+
+abbrev pub registered_of : (outcome refusal channel : ℕ) → Option ℤ → ℤ → Float → Option Place → RegisteredKey
+registered_of o n c s note d r =
+    record {
+      outcome = o;
+      refusal = n;
+      channel = c;
+      note = note;
+      stopped = is_some s;
+      released = is_some r;
+      released_channel = released_channel r;
+      stopped_note = note_or0 s;
+      released_note = released_note r;
+      detuning = d;
+    }
+
+-- SPEC 7.2d: a rejected press too says where its key was released first.
+abbrev pub of_pressed : Option Place → Press → RegisteredKey
+of_pressed r (accepted c s note d) = registered_of 0 0 c s note d r
+of_pressed r rejected = registered_of 2 0 0 none (pos 0) zero_float r
+
+abbrev pub of_registered : Outcome Pressing → RegisteredKey
+of_registered (value p) = of_pressed p.released p.press
+of_registered (refused n) = registered_of 4 n 0 none (pos 0) zero_float none
 
 -- ---- SPEC 12.3: values
 

@@ -2,6 +2,7 @@
 // fields are 0 where there is nothing to say. A number for what happened and a flag beside a note stay, since the interface for C needs them.
 
 ghost use Rattle.std.specs.Prelude.{◌≡◌, pos};
+ghost use Rattle.std.proofs.Math.Option.{none};
 ghost use Rattle.arithmetic.specs.Answers.{optional, outcome, outcome_by};
 ghost use Rattle.arithmetic.specs.Nearest.{nearest};
 ghost use Rattle.arithmetic.specs.Refusal.{number};
@@ -11,7 +12,7 @@ ghost use Rattle.plans.specs.Plan.{plan_answer};
 ghost use Rattle.plan_tuner.specs.Aot.{plan_sent};
 ghost use Rattle.pools.specs.PoolAnswers.{press_outcome, repitch_outcome};
 ghost use Rattle.senders.specs.Answers.{press_answer};
-ghost use Rattle.capi.specs.Answers.{answer_of, of_sent, of_press, of_list, of_plan, of_plan_sent, of_registered};
+ghost use Rattle.capi.specs.Answers.{answer_of, of_sent, of_press, of_list, of_plan, of_plan_sent, registered_of, of_registered};
 ghost use Rattle.capi.specs.Answers.{note_of, zero_float, of_place, of_detuning, of_entry, of_repitched, of_nearest, of_pitch, of_measure, of_tuning};
 
 use arithmetic::refusal::Refusal;
@@ -21,7 +22,8 @@ use channels::list::ChannelList;
 use channels::tuning_value::Tuning;
 use plan_tuner::aot::PlanSent;
 use plans::aot::Planned;
-use pools::jit::{Registered, Repitched};
+use pools::jit::{Pressing, Repitched};
+use senders::jit::Pressed;
 
 // What happened (SPEC 12.3).
 enum Outcome {
@@ -53,7 +55,7 @@ pub struct Note {
     pub detuning: f64,
 }
 
-// A press from a pool, and the note that it stopped, if `stopped` is 1.
+// A press from a pool, the note that it stopped, if `stopped` is 1, and where its key was released first, if `released` is 1.
 #[repr(C)]
 #[derive(Clone, Copy, Default)]
 pub struct RegisteredKey {
@@ -62,7 +64,10 @@ pub struct RegisteredKey {
     pub channel: u16,
     pub note: i32,
     pub stopped: u8,
+    pub released: u8,
+    pub released_channel: u16,
     pub stopped_note: i32,
+    pub released_note: i32,
     pub detuning: f64,
 }
 
@@ -111,14 +116,15 @@ impl From<Result<usize, Refusal>> for Answer {
 }
 
 // A press from a pool tuner.
-impl From<Result<Option<usize>, Refusal>> for Answer {
+impl From<Result<Pressed, Refusal>> for Answer {
     ghost from_gives = { λ pressed answer. answer ≡ of_press (press_answer pressed) };
 
-    fn from(pressed: Result<Option<usize>, Refusal>) -> Answer {
+    fn from(pressed: Result<Pressed, Refusal>) -> Answer {
         match pressed {
-            Ok(Some(bytes)) => Answer::from(Ok(bytes)),
-            Ok(None) => Answer {
+            Ok(Pressed::Sent(bytes)) => Answer::from(Ok(bytes)),
+            Ok(Pressed::Rejected(bytes)) => Answer {
                 outcome: Outcome::Rejected as u8,
+                bytes,
                 ..Answer::default()
             },
             Err(refusal) => Answer::refused(refusal),
@@ -274,24 +280,52 @@ impl Note {
     }
 }
 
-// A press from a pool model.
-impl From<Result<Option<Registered>, Refusal>> for RegisteredKey {
-    ghost from_gives = { λ registered key. key ≡ of_registered (press_outcome registered) };
+impl RegisteredKey {
+    // Where the key of a press was released first, if it was, and nothing of the press.
+    #[tactic(auto, unfolding(channels::specs::Places::place))]
+    fn released(released: Option<Place>) -> RegisteredKey
+        ensures { result ≡ registered_of 0 0 0 none (pos 0) zero_float (place released) }
+    {
+        match released {
+            Some(place) => RegisteredKey {
+                released: 1,
+                released_channel: u16::from(place.channel),
+                released_note: place.note.number(),
+                ..RegisteredKey::default()
+            },
+            None => RegisteredKey::default(),
+        }
+    }
+}
 
-    fn from(registered: Result<Option<Registered>, Refusal>) -> RegisteredKey {
-        match registered {
-            Ok(Some(press)) => RegisteredKey {
+// A press from a pool model.
+impl From<Result<Pressing, Refusal>> for RegisteredKey {
+    ghost from_gives = { λ pressing key. key ≡ of_registered (press_outcome pressing) };
+
+    fn from(pressing: Result<Pressing, Refusal>) -> RegisteredKey {
+        match pressing {
+            Ok(
+                Pressing {
+                    released,
+                    registered: Some(press),
+                },
+            ) => RegisteredKey {
                 outcome: Outcome::Done as u8,
                 channel: u16::from(press.channel),
                 note: press.started_note.number(),
                 stopped: u8::from(press.stopped_note.is_some()),
                 stopped_note: press.stopped_note.map_or(0, |note| note.number()),
                 detuning: press.detuning,
-                ..RegisteredKey::default()
+                ..RegisteredKey::released(released)
             },
-            Ok(None) => RegisteredKey {
+            Ok(
+                Pressing {
+                    released,
+                    registered: None,
+                },
+            ) => RegisteredKey {
                 outcome: Outcome::Rejected as u8,
-                ..RegisteredKey::default()
+                ..RegisteredKey::released(released)
             },
             Err(refusal) => RegisteredKey {
                 outcome: Outcome::Refused as u8,

@@ -9,4 +9,4 @@ const _: () = prove!(size_of::<Plan>() == 324 * 8 && align_of::<Plan>() == 8);
 
 pub type Pool = JitTuner;
 
-const _: () = prove!(size_of::<Pool>() == 676 * 2 && align_of::<Pool>() == 2);
+const _: () = prove!(size_of::<Pool>() == 677 * 2 && align_of::<Pool>() == 2);

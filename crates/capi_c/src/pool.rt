@@ -3,7 +3,7 @@
 
 ghost use Rattle.std.specs.Prelude.{◌≡◌};
 ghost use Rattle.pools.specs.Pool.{open_rule, found, released, outcome_and_state, register_rule, repitch_rule};
-ghost use Rattle.pools.specs.View.{view as pool_view, group_by_of, pooling_mode_of, StateMeets};
+ghost use Rattle.pools.specs.View.{view as pool_view, group_by_of, pooling_mode_of, retrigger_of, StateMeets};
 ghost use Rattle.channels.specs.TuningValue.{tuning_kind_of};
 ghost use Rattle.channels.specs.declared.tuning_value.TuningKind.TheVariants.{FineTuning};
 ghost use Rattle.senders.specs.Jit.{view, start_rule, StartMeets, note_on_rule, note_off_rule, note_pitch_rule, note_attr_rule, global_attr_rule, stop_rule};
@@ -17,7 +17,7 @@ use capi::message::Message;
 use channels::Pitch;
 use channels::list::ChannelList;
 use channels::tuning_value::TuningKind;
-use pools::jit::{JitTuningModel, PoolGroupBy, PoolingMode};
+use pools::jit::{JitTuningModel, PoolGroupBy, PoolingMode, Retrigger};
 use senders::jit::JitTuner;
 use senders::midi::ChannelMessageType;
 
@@ -28,19 +28,21 @@ pub extern "C" fn tarvoued_pool_open(
     channels: &[u8],
     tuning_kind: u8,
     pooling_mode: u8,
+    retrigger: u8,
 ) -> Answer
-    ensures answer { result ≡ of_list (start_rule channels.now (tuning_kind_of tuning_kind) (pooling_mode_of pooling_mode)).0 }
-    ensures started { let rule = start_rule channels.now (tuning_kind_of tuning_kind) (pooling_mode_of pooling_mode) in
+    ensures answer { result ≡ of_list (start_rule channels.now (tuning_kind_of tuning_kind) (pooling_mode_of pooling_mode) (retrigger_of retrigger)).0 }
+    ensures started { let rule = start_rule channels.now (tuning_kind_of tuning_kind) (pooling_mode_of pooling_mode) (retrigger_of retrigger) in
         StartMeets rule.0 rule.1 pool.old pool.new }
 {
     Answer::from(pool.restart(
         channels,
         TuningKind::from(u16::from(tuning_kind)),
         PoolingMode::from(u16::from(pooling_mode)),
+        Retrigger::from(u16::from(retrigger)),
     ))
 }
 
-// A press. Refuses 8, 1, 11, 10; is rejected where no channel is free (SPEC 9.2).
+// A press. Refuses 8, 1, 11 without retrigger, 10; is rejected where no channel is free (SPEC 9.2, 9.2e).
 #[unsafe(no_mangle)]
 pub extern "C" fn tarvoued_pool_note_on(
     pool: &mut Pool,
@@ -123,9 +125,10 @@ pub extern "C" fn tarvoued_pool_model_open(
     channels: &[u8],
     group_by: u8,
     pooling_mode: u8,
+    retrigger: u8,
 ) -> Answer
-    ensures answer { result ≡ of_list (open_rule channels.now (group_by_of group_by) (pooling_mode_of pooling_mode)).0 }
-    ensures started { let rule = open_rule channels.now (group_by_of group_by) (pooling_mode_of pooling_mode) in
+    ensures answer { result ≡ of_list (open_rule channels.now (group_by_of group_by) (pooling_mode_of pooling_mode) (retrigger_of retrigger)).0 }
+    ensures started { let rule = open_rule channels.now (group_by_of group_by) (pooling_mode_of pooling_mode) (retrigger_of retrigger) in
         StartMeets rule.0 (record { pool = rule.1; tuning_kind = FineTuning }) pool.old pool.new }
 {
     let listed = ChannelList::of(channels);
@@ -135,13 +138,14 @@ pub extern "C" fn tarvoued_pool_model_open(
             list,
             PoolGroupBy::from(u16::from(group_by)),
             PoolingMode::from(u16::from(pooling_mode)),
+            Retrigger::from(u16::from(retrigger)),
         );
         *pool = JitTuner::of(model, TuningKind::FineTuning);
     }
     answer
 }
 
-// A press: the nearest note, on a channel of its pool. Refuses 1, 11; is rejected where no channel is free (SPEC 7.2, 7.3).
+// A press: the nearest note, on a channel of its pool. Refuses 1, 11 without retrigger; is rejected where no channel is free (SPEC 7.2, 7.2d, 7.3).
 #[unsafe(no_mangle)]
 pub extern "C" fn tarvoued_pool_model_register_key(
     pool: &mut Pool,

@@ -14,8 +14,8 @@ use stream::Stream;
 pub mod failure;
 pub mod stream;
 
-// The longest answer: eighteen bytes, each with the space or the feed behind it.
-const LONGEST_ANSWER: usize = 54;
+// The longest answer: twenty-one bytes, each with the space or the feed behind it.
+const LONGEST_ANSWER: usize = 63;
 
 // Answers the lines of `input` on `output` as they come, read into `piece` and answered from `out`, until the input ends, or a read or a write fails,
 // and hands back the stream as it is then, with what failed. What arrives together is read and written together. A buffer too short for an answer, or
@@ -36,7 +36,7 @@ pub fn run<R: Read, W: Write, C: Clock>(
         (W.contents output.old)
         (W.contents output.new)
         (view result.0 piece.new out.new) }
-    ensures all { OnOk result.1 (54 ≤ length out.old → Finished (view result.0 piece.new out.new)) }
+    ensures all { OnOk result.1 (63 ≤ length out.old → Finished (view result.0 piece.new out.new)) }
     ensures failed { IfErr result.1 (λ failure. FailedAt failure (view result.0 piece.new out.new)) }
 {
     let mut stream = Stream::new();

@@ -5,6 +5,7 @@ use Rattle.std.specs.Float.Ieee.{of_int, div}
 use Rattle.channels.specs.Outcome.{Outcome, value, refused}
 use Rattle.channels.specs.declared.tuning_value.TuningKind.TheVariants.{FineTuning}
 use Rattle.pools.specs.declared.settings.PoolingMode.TheVariants.{Stop}
+use Rattle.pools.specs.declared.settings.Retrigger.TheVariants.{Off}
 use Rattle.senders.specs.Buffer.{Effect, sends, state_after}
 use Rattle.senders.specs.Jit.{Tuner, PressResult, start_rule}
 use Rattle.senders.specs.Event.{play_rule}
@@ -12,9 +13,9 @@ use Rattle.console_lines.specs.Split.{feed, split}
 use Rattle.console_lines.specs.Line.{Event, event, meaning}
 use Rattle.console_lines.specs.Show.{bytes_line, refusal_line}
 
--- SPEC 10.1: its tuner has channels 0 and 1, fine tuning and Stop.
+-- SPEC 10.1: its tuner has channels 0 and 1, fine tuning and Stop, and no retrigger.
 unfoldable pub opened : Tuner
-opened = (start_rule (0 ∷ 1 ∷ []) FineTuning Stop).1
+opened = (start_rule (0 ∷ 1 ∷ []) FineTuning Stop Off).1
 
 -- SPEC 10.3a: the pitch in Hz is millihertz as f64, divided by 1000.
 unfoldable pub pitch_of : ℕ → Float
@@ -22,7 +23,7 @@ pitch_of millihertz = div binary64 (of_int binary64 (pos millihertz)) (of_int bi
 
 -- ---- a line answered
 
--- SPEC 10.4: of a press the console shows the bytes alone, and a rejected press has none.
+-- SPEC 10.4: of a press the console shows the bytes alone; one that is rejected has none without retrigger, which the console's tuner is.
 unfoldable pub bytes_alone : Outcome (Effect PressResult Tuner) → Outcome (Effect ℕ Tuner)
 bytes_alone (value e) = sends e.bytes e.next
 bytes_alone (refused n) = refused n

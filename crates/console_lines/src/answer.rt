@@ -11,22 +11,28 @@ use crate::line::parse;
 use crate::show::{show_bytes, show_refusal};
 use channels::tuning_value::TuningKind;
 use channels::{Pitch, Refusal};
-use pools::jit::PoolingMode;
+use pools::jit::{PoolingMode, Retrigger};
 use senders::event::Event;
 use senders::jit::JitTuner;
 
-// The most bytes that the tuner sends for one event: a stopped note's note-off, a fine tuning of four messages, a note-on.
-const MOST_BYTES: usize = 18;
+// The most bytes that a tuner sends for one event: the note-off of a key that is released first, that of a stopped note, a fine tuning of four messages, a
+// note-on.
+const MOST_BYTES: usize = 21;
 
 // The shortest answer: a line that says that nothing was sent.
 const LEAST_ANSWER: usize = 2;
 
-// The tuner of the console: channels 0 and 1, fine tuning, Stop (SPEC 10.1).
+// The tuner of the console: channels 0 and 1, fine tuning, Stop, no retrigger (SPEC 10.1).
 #[tactic(auto, unfolding(crate::specs::Console::opened))]
 pub fn opened() -> JitTuner
     ensures { view result ≡ opened }
 {
-    let (tuner, _) = JitTuner::start(&[0, 1], TuningKind::FineTuning, PoolingMode::Stop);
+    let (tuner, _) = JitTuner::start(
+        &[0, 1],
+        TuningKind::FineTuning,
+        PoolingMode::Stop,
+        Retrigger::Off,
+    );
     tuner
 }
 
@@ -58,7 +64,7 @@ fn play_line(tuner: &mut JitTuner, line: &[u8], out: &mut [u8]) -> Result<usize,
         pitch: pitch_of(parsed.millihertz),
         velocity: parsed.velocity,
     };
-    Ok(tuner.play(event, out)?.unwrap_or(0))
+    Ok(tuner.play(event, out)?.len())
 }
 
 // A pitch in Hz: millihertz as f64, divided by 1000 (SPEC 10.3a).

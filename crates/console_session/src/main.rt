@@ -5,7 +5,7 @@ use anyhow::Result;
 
 fn main(rt: HostRuntime) -> Result<()> {
     let mut piece = [0u8; 7];
-    let mut out = [0u8; 54];
+    let mut out = [0u8; 63];
     let (_, res) = console_io::run(&mut rt.stdin(), &mut rt.stdout(), &rt, &mut piece, &mut out);
     res?;
     Ok(())

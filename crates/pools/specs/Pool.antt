@@ -1,6 +1,6 @@
 -- Pools of channels, SPEC 7: presses, releases, lookups, repitches and stop, over lists. A channel is a number from 0, which stands for
 -- that entry of the channel list (SPEC 1.6a); a key is a number below `key_count`; a note is a whole number.
-use Rattle.std.specs.Prelude.{ℕ, suc, not, cond, List, [], ◌∷◌, ◌++◌, ℤ, Float, length, take, drop, get_or, set, replicate}
+use Rattle.std.specs.Prelude.{ℕ, suc, not, cond, List, [], ◌∷◌, ◌++◌, ℤ, Float, length, take, drop, get_or, set, replicate, Bool, true, false, ◌||◌}
 use Rattle.std.proofs.Math.Option.{Option, some, none}
 use Rattle.arithmetic.specs.Refusal.{pitch_out_of_range, key_held}
 use Rattle.arithmetic.specs.Outcome.{Outcome, value, refused, refuse◌unless◌then◌}
@@ -15,6 +15,8 @@ use Rattle.pools.specs.declared.settings.PoolGroupBy.{PoolGroupBy}
 use Rattle.pools.specs.declared.settings.PoolGroupBy.TheVariants.{NoteLetter, Channel}
 use Rattle.pools.specs.declared.settings.PoolingMode.{PoolingMode}
 use Rattle.pools.specs.declared.settings.PoolingMode.TheVariants.{Block, Stop, Ignore}
+use Rattle.pools.specs.declared.settings.Retrigger.{Retrigger}
+use Rattle.pools.specs.declared.settings.Retrigger.TheVariants.{Off, On}
 
 -- ---- the state
 
@@ -28,6 +30,7 @@ pub record State : Type 0 where
   pub channels : List ℕ
   pub group : PoolGroupBy
   pub mode : PoolingMode
+  pub retrigger : Retrigger
   pub pools : List Pool
   pub keys : List (Option Place)
 
@@ -55,19 +58,20 @@ abbrev pub fresh_pool : ℕ → Pool
 fresh_pool n = record { free = upward 0 n; order = [] }
 
 -- SPEC 7.1, 7.1b: each pool has as many channels as the channel list, and no key is held.
-unfoldable pub fresh : List ℕ → PoolGroupBy → PoolingMode → State
-fresh channels group mode =
+unfoldable pub fresh : List ℕ → PoolGroupBy → PoolingMode → Retrigger → State
+fresh channels group mode retrigger =
     record {
       channels = channels;
       group = group;
       mode = mode;
+      retrigger = retrigger;
       pools = replicate (pool_count group) (fresh_pool (length channels));
       keys = replicate key_count none;
     }
 
 -- SPEC 7.1, 6.2a: a model is opened on a channel list, or without channels where the list is refused.
-unfoldable pub open_rule : List ℕ → PoolGroupBy → PoolingMode → Outcome (List ℕ) × State
-open_rule channels group mode = (list_rule channels, fresh (present (list_rule channels)) group mode)
+unfoldable pub open_rule : List ℕ → PoolGroupBy → PoolingMode → Retrigger → Outcome (List ℕ) × State
+open_rule channels group mode retrigger = (list_rule channels, fresh (present (list_rule channels)) group mode retrigger)
 
 -- ---- the changes of a state
 
@@ -78,6 +82,7 @@ with_pool s note p =
       channels = s.channels;
       group = s.group;
       mode = s.mode;
+      retrigger = s.retrigger;
       pools = set s.pools (pool_of s.group note) p;
       keys = s.keys;
     }
@@ -89,6 +94,7 @@ with_key s key place =
       channels = s.channels;
       group = s.group;
       mode = s.mode;
+      retrigger = s.retrigger;
       pools = s.pools;
       keys = set s.keys key place;
     }
@@ -181,12 +187,31 @@ pressed s key note detuning = let r = reclaim s note in pressed_on (first (pool 
 
 -- ---- the rules of the calls
 
--- SPEC 7.2b: a press of a held key is refused (11), also where no channel is free.
-unfoldable pub unless_held : State → ℕ → ℤ → Float → Outcome (Press × State)
-unless_held s key note detuning = refuse key_held unless not (is_held (found s key)) then value (pressed s key note detuning)
+-- SPEC 7.2d: whether a held key may be pressed again.
+unfoldable pub is_on : Retrigger → Bool
+is_on On = true
+is_on Off = false
+
+-- SPEC 7.2d: what a press answers: where the key was held and released first, if it was, and then the press's own answer.
+pub record Pressing : Type 0 where
+  pub released : Option Place
+  pub press : Press
+
+-- SPEC 7.2d: the release of the key, which does nothing where it is not held, and then the press. A press that is rejected then leaves the release.
+unfoldable pub repeated : State → ℕ → ℤ → Float → Pressing × State
+repeated s key note detuning =
+    let r = pressed (released s key) key note detuning in
+    (record { released = found s key; press = r.0 }, r.1)
+
+-- SPEC 7.2b, 7.2d: a press of a held key is refused (11) without retrigger, also where no channel is free.
+unfoldable pub may_press : State → ℕ → Bool
+may_press s key = is_on s.retrigger || not (is_held (found s key))
+
+unfoldable pub unless_held : State → ℕ → ℤ → Float → Outcome (Pressing × State)
+unless_held s key note detuning = refuse key_held unless may_press s key then value (repeated s key note detuning)
 
 -- SPEC 7.2a: a press takes the nearest note of the pitch; it is refused by 1, then 11.
-unfoldable pub register_rule : State → ℕ → Float → Outcome (Press × State)
+unfoldable pub register_rule : State → ℕ → Float → Outcome (Pressing × State)
 register_rule s key hz = refuse pitch_out_of_range unless is_pitch hz then unless_held s key (nearest_note hz) (detuning_of hz (nearest_note hz))
 
 -- SPEC 1.9a: a refusal leaves the state as it was.

@@ -6,12 +6,13 @@ use Rattle.arithmetic.specs.declared.note.Note.{Note}
 use Rattle.arithmetic.specs.declared.refusal.Refusal.{Refusal}
 use Rattle.arithmetic.specs.Answers.{outcome_by}
 use Rattle.arithmetic.specs.Outcome.{Outcome}
-use Rattle.channels.specs.Places.{Place, place_in}
+use Rattle.channels.specs.Places.{Place, place_in, place}
 use Rattle.channels.specs.declared.keys.HeldKey.{HeldKey}
-use Rattle.pools.specs.Pool.{Held, Press, accepted, rejected, held_keys}
+use Rattle.pools.specs.Pool.{Held, Press, accepted, rejected, Pressing, held_keys}
 use Rattle.pools.specs.View.{view}
 use Rattle.pools.specs.declared.jit.HeldKeys.{HeldKeys}
 use Rattle.pools.specs.declared.jit.Registered.{Registered}
+use Rattle.pools.specs.declared.jit.Pressing as C
 use Rattle.pools.specs.declared.jit.Repitched.{Repitched}
 
 abbrev pub held_view : HeldKey → Held
@@ -33,8 +34,11 @@ abbrev pub registered_view : Optional Registered → Press
 registered_view (Some r) = accepted r.channel (stopped_note r.stopped_note) r.started_note.number r.detuning
 registered_view None = rejected
 
-abbrev pub press_outcome : Result (Optional Registered) Refusal → Outcome Press
-press_outcome r = outcome_by registered_view r
+abbrev pub pressing_view : C.Pressing → Pressing
+pressing_view p = record { released = place p.released; press = registered_view p.registered }
+
+abbrev pub press_outcome : Result C.Pressing Refusal → Outcome Pressing
+press_outcome r = outcome_by pressing_view r
 
 abbrev pub repitched_view : Optional Repitched → Option (Place × Float)
 repitched_view (Some r) = some (place_in r.place, r.detuning)

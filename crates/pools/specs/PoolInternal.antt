@@ -4,7 +4,9 @@ use Rattle.std.specs.Prelude.{Option as Optional}
 use Rattle.std.proofs.Math.Option.{Option, some, none}
 use Rattle.channels.specs.Places.{Place}
 use Rattle.channels.specs.declared.channel.Channel.{Channel}
-use Rattle.pools.specs.Pool.{State, Held, Press, accepted, rejected, taken, freed, without_key}
+use Rattle.arithmetic.specs.Refusal.{key_held}
+use Rattle.arithmetic.specs.Outcome.{Outcome, value, refuse◌unless◌then◌}
+use Rattle.pools.specs.Pool.{State, Held, Press, accepted, rejected, taken, freed, without_key, found, released, may_press}
 use Rattle.pools.specs.declared.jit.allocation.Allocation.{Allocation}
 use Rattle.pools.specs.declared.jit.allocation.Allocation.TheVariants.{Free, Stopped, Ignored}
 use Rattle.pools.specs.declared.jit.allocation.Holder.{Holder}
@@ -17,6 +19,10 @@ held_place h = record { channel = h.channel.number; note = h.note.number }
 unfoldable pub held_by : Optional Holder → Option Held
 held_by (Some h) = some (record { key = h.key; place = held_place h })
 held_by None = none
+
+-- SPEC 7.2d: the release that a press begins with.
+abbrev pub release_rule : State → ℕ → Outcome (Option Place × State)
+release_rule s key = refuse key_held unless may_press s key then value (found s key, released s key)
 
 -- ---- SPEC 7.3: the channel for a press of a key that is not held, a free one, or that of the longest-held key, which is released or stays held
 

@@ -5,11 +5,13 @@ use Rattle.arithmetic.specs.Note.{is_note}
 use Rattle.arithmetic.specs.Outcome.{Outcome, value, refused, refuse◌unless◌then◌}
 use Rattle.arithmetic.specs.Refusal.{note_out_of_range}
 use Rattle.channels.specs.Places.{channel_of, place_of}
-use Rattle.pools.specs.Pool.{Pool, State, pool_count, Press, unless_held}
+use Rattle.pools.specs.Pool.{Pool, State, pool_count, Pressing, unless_held}
 use Rattle.pools.specs.declared.settings.PoolGroupBy.{PoolGroupBy}
 use Rattle.pools.specs.declared.settings.PoolGroupBy.TheVariants.{NoteLetter, Channel}
 use Rattle.pools.specs.declared.settings.PoolingMode.{PoolingMode}
 use Rattle.pools.specs.declared.settings.PoolingMode.TheVariants.{Block, Stop, Ignore}
+use Rattle.pools.specs.declared.settings.Retrigger.{Retrigger}
+use Rattle.pools.specs.declared.settings.Retrigger.TheVariants.{Off, On}
 use Rattle.channels.specs.ChannelList.{entries}
 use Rattle.pools.specs.declared.jit.JitTuningModel.{JitTuningModel}
 use Rattle.pools.specs.declared.pool.Pool as C
@@ -34,21 +36,26 @@ group_by_of n = cond (eqb n 1) Channel NoteLetter
 unfoldable pub pooling_mode_of : ℕ → PoolingMode
 pooling_mode_of n = cond (eqb n 1) Stop (cond (eqb n 2) Ignore Block)
 
+-- SPEC 12.2: retrigger, 0 off and 1 on.
+unfoldable pub retrigger_of : ℕ → Retrigger
+retrigger_of n = cond (eqb n 1) On Off
+
 -- ---- the state
 
--- The state with a channel list, a group and a mode that may stand elsewhere.
-unfoldable pub state_with : List ℕ → PoolGroupBy → PoolingMode → List C.Pool → List ℕ → State
-state_with channels group mode pools records =
+-- The state with a channel list and settings that may stand elsewhere.
+unfoldable pub state_with : List ℕ → PoolGroupBy → PoolingMode → Retrigger → List C.Pool → List ℕ → State
+state_with channels group mode retrigger pools records =
     record {
       channels = channels;
       group = group;
       mode = mode;
+      retrigger = retrigger;
       pools = take (pool_count group) (map pool_in pools);
       keys = map place_of records;
     }
 
 unfoldable pub view : JitTuningModel → State
-view m = state_with (entries m.channels) (group_by_of m.group_by) (pooling_mode_of m.pooling_mode) m.pools m.records
+view m = state_with (entries m.channels) (group_by_of m.group_by) (pooling_mode_of m.pooling_mode) (retrigger_of m.retrigger) m.pools m.records
 
 -- ---- calls in place
 
@@ -58,5 +65,5 @@ StateMeets (value r) old new = view new ≡ r.1
 StateMeets (refused n) old new = new ≡ old
 
 -- SPEC 7.2a: a press for a note and a detuning, which is refused by 4, then 11.
-unfoldable pub register_note_rule : State → ℕ → ℤ → Float → Outcome (Press × State)
+unfoldable pub register_note_rule : State → ℕ → ℤ → Float → Outcome (Pressing × State)
 register_note_rule s key note detuning = refuse note_out_of_range unless is_note note then unless_held s key note detuning

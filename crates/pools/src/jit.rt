@@ -13,12 +13,12 @@ ghost use Rattle.pools.specs.View.{view, StateMeets, register_note_rule};
 mod allocation;
 
 use crate::pool::Pool;
-pub use crate::settings::{PoolGroupBy, PoolingMode};
+pub use crate::settings::{PoolGroupBy, PoolingMode, Retrigger};
 use arithmetic::note::Note;
 use arithmetic::pitch::Pitch;
 use arithmetic::refusal::Refusal;
 use arithmetic::tuning::{detuning_from, find_by_pitch};
-use channels::keys::{HeldKey, KEYS, Place, place_of};
+use channels::keys::{HeldKey, KEYS, Place, is_found, place_of};
 use channels::list::ChannelList;
 
 // An accepted press: its channel, the note that was stopped for it, if any, its own note, and that note's detuning.
@@ -28,6 +28,13 @@ pub struct Registered {
     pub stopped_note: Option<Note>,
     pub started_note: Note,
     pub detuning: f64,
+}
+
+// What a press answers: where the key was held and released first, if it was, and the press itself, or nothing where no channel is free (SPEC 7.2d).
+#[derive(Clone, Copy)]
+pub struct Pressing {
+    pub released: Option<Place>,
+    pub registered: Option<Registered>,
 }
 
 // Where a key is found, and a pitch's detuning for its note.
@@ -47,6 +54,7 @@ pub struct JitTuningModel {
     channels: ChannelList,
     group_by: u16,
     pooling_mode: u16,
+    retrigger: u16,
 }
 
 impl JitTuningModel {
@@ -56,8 +64,9 @@ impl JitTuningModel {
         channels: ChannelList,
         group_by: PoolGroupBy,
         pooling_mode: PoolingMode,
+        retrigger: Retrigger,
     ) -> JitTuningModel
-        ensures { view result ≡ fresh (entries channels) group_by pooling_mode }
+        ensures { view result ≡ fresh (entries channels) group_by pooling_mode retrigger }
     {
         let pool = Pool::new(channels.len());
         JitTuningModel {
@@ -66,44 +75,62 @@ impl JitTuningModel {
             channels,
             group_by: u16::from(group_by),
             pooling_mode: u16::from(pooling_mode),
+            retrigger: u16::from(retrigger),
         }
     }
 
     // A model in which no key is found, with the channels of a list. Refuses 6 or 7 as the channel list does; the model has no channels then (SPEC 7.1).
-    // Example: JitTuningModel::open([0, 16], Channel, Stop) is refused (6)
+    // Example: JitTuningModel::open([0, 16], Channel, Stop, Off) is refused (6)
     #[tactic(auto, using(crate::proofs::Models::FreshViews::entries_listed), unfolding(crate::specs::Pool::open_rule))]
     pub fn open(
         channels: &[u8],
         group_by: PoolGroupBy,
         pooling_mode: PoolingMode,
+        retrigger: Retrigger,
     ) -> (JitTuningModel, Result<ChannelList, Refusal>)
-        ensures { (outcome_by entries result.1, view result.0) ≡ open_rule channels.now group_by pooling_mode }
+        ensures { (outcome_by entries result.1, view result.0) ≡ open_rule channels.now group_by pooling_mode retrigger }
     {
         let answer = ChannelList::of(channels);
         let list = answer.unwrap_or(ChannelList::none());
-        (JitTuningModel::new(list, group_by, pooling_mode), answer)
+        (
+            JitTuningModel::new(list, group_by, pooling_mode, retrigger),
+            answer,
+        )
     }
 
-    // What a press would answer: its channel, and the note that would be stopped for it; nothing where no channel is free. Refuses 1, then 11 a key that is
-    // held (SPEC 7.2).
-    // Example: open([0, 1], Channel, Stop); allocate_key(1, 445 Hz) is channel 0, note 69, detuning 1.011363...
+    // What a press would answer: where the key would be released first, its channel, and the note that would be stopped for it; nothing where no channel is
+    // free. Refuses 1, then 11 a key that is held, unless the model has retrigger (SPEC 7.2, 7.2d).
+    // Example: open([0, 1], Channel, Stop, Off); allocate_key(1, 445 Hz) is channel 0, note 69, detuning 1.011363...
     #[tactic(auto, using(crate::proofs::Pools::Presses::register_found, crate::proofs::Pools::Presses::register_refused), unfolding(crate::specs::Pool::outcome_and_state))]
-    pub fn allocate_key(&self, key: u8, pitch: Pitch) -> Result<Option<Registered>, Refusal>
+    pub fn allocate_key(&self, key: u8, pitch: Pitch) -> Result<Pressing, Refusal>
         ensures { press_outcome result ≡ (outcome_and_state (view self.now) (register_rule (view self.now) key pitch.hz)).0 }
     {
         let nearest = find_by_pitch(pitch)?;
-        let allocation = self.allocation(key, nearest.note)?;
-        Ok(allocation.map(|allocation| allocation.registered(nearest.note, nearest.detuning)))
+        if is_found(self.records[key as usize]) {
+            // The key is released on a copy, which presses of other keys do without.
+            let mut model = *self;
+            return model.press(key, nearest.note, nearest.detuning);
+        }
+        let allocation = self.channel_for(nearest.note);
+        Ok(Pressing {
+            released: None,
+            registered: allocation.map(|allocation| allocation.registered(
+                nearest.note,
+                nearest.detuning,
+            )),
+        })
     }
 
-    // A press: the nearest note, on a channel of its pool; nothing where no channel is free. Refuses 1, then 11 a key that is held (SPEC 7.2, 7.3).
-    // Example: open([0], Channel, Stop); register_key(1, 445 Hz) is channel 0, note 69, detuning 1.011363...
-    // Example: open([0], Channel, Stop); register_key(1, 440 Hz); register_key(1, 440 Hz) is refused (11)
-    // Example: open([0], Channel, Stop); register_key(1, 440 Hz); register_key(2, 880 Hz) is channel 0, note 81, detuning 1, stopped note 69
-    // Example: open([0], Channel, Block); register_key(1, 440 Hz); register_key(2, 880 Hz) is rejected
-    // Example: open([0, 1], Channel, Stop); register_key(1, 445 Hz) is channel 0, note 69, detuning 1.011363...
+    // A press: the nearest note, on a channel of its pool; nothing where no channel is free. Refuses 1, then 11 a key that is held, unless the model has
+    // retrigger: then the key is released first (SPEC 7.2, 7.2d, 7.3).
+    // Example: open([0], Channel, Stop, Off); register_key(1, 445 Hz) is channel 0, note 69, detuning 1.011363...
+    // Example: open([0], Channel, Stop, Off); register_key(1, 440 Hz); register_key(1, 440 Hz) is refused (11)
+    // Example: open([0], Channel, Stop, On); register_key(1, 55 Hz); register_key(1, 55 Hz) is released from channel 0, note 33; channel 0, note 33, detuning 1
+    // Example: open([0], Channel, Stop, Off); register_key(1, 440 Hz); register_key(2, 880 Hz) is channel 0, note 81, detuning 1, stopped note 69
+    // Example: open([0], Channel, Block, Off); register_key(1, 440 Hz); register_key(2, 880 Hz) is rejected
+    // Example: open([0, 1], Channel, Stop, Off); register_key(1, 445 Hz) is channel 0, note 69, detuning 1.011363...
     #[tactic(auto, using(crate::proofs::Pools::Presses::register_found, crate::proofs::Pools::Presses::register_refused), unfolding(crate::specs::Pool::outcome_and_state))]
-    pub fn register_key(&mut self, key: u8, pitch: Pitch) -> Result<Option<Registered>, Refusal>
+    pub fn register_key(&mut self, key: u8, pitch: Pitch) -> Result<Pressing, Refusal>
         ensures answer { press_outcome result ≡ (outcome_and_state (view self.old) (register_rule (view self.old) key pitch.hz)).0 }
         ensures state { StateMeets (register_rule (view self.old) key pitch.hz) self.old self.new }
     {
@@ -111,15 +138,10 @@ impl JitTuningModel {
         self.press(key, nearest.note, nearest.detuning)
     }
 
-    // A press for a note and a detuning: with those that `allocate_key` answers it is the press that was asked about. Refuses 4, then 11 a key that is held
-    // (SPEC 7.2a).
+    // A press for a note and a detuning: with those that `allocate_key` answers it is the press that was asked about. Refuses 4, then 11 a key that is held,
+    // unless the model has retrigger (SPEC 7.2a, 7.2d).
     #[tactic(auto, using(crate::proofs::Pools::Presses::not_noted), unfolding(crate::specs::View::register_note_rule, crate::specs::Pool::outcome_and_state))]
-    pub fn register_note(
-        &mut self,
-        key: u8,
-        note: i32,
-        detuning: f64,
-    ) -> Result<Option<Registered>, Refusal>
+    pub fn register_note(&mut self, key: u8, note: i32, detuning: f64) -> Result<Pressing, Refusal>
         ensures answer { press_outcome result ≡ (outcome_and_state (view self.old) (register_note_rule (view self.old) key note detuning)).0 }
         ensures state { StateMeets (register_note_rule (view self.old) key note detuning) self.old self.new }
     {
@@ -128,7 +150,7 @@ impl JitTuningModel {
     }
 
     // A release: where the key was found (SPEC 7.4).
-    // Example: open([0], Channel, Stop); register_key(1, 440 Hz); deregister_key(1) is channel 0, note 69
+    // Example: open([0], Channel, Stop, Off); register_key(1, 440 Hz); deregister_key(1) is channel 0, note 69
     #[tactic(auto, using(crate::proofs::Pools::Releases::releases), unfolding(channels::specs::Places::place, crate::specs::PoolInternal::held_by))]
     pub fn deregister_key(&mut self, key: u8) -> Option<Place>
         ensures answer { place result ≡ found (view self.old) key }
@@ -140,7 +162,7 @@ impl JitTuningModel {
     }
 
     // A lookup: where the key is found (SPEC 7.2).
-    // Example: open([0], Channel, Stop); register_key(1, 440 Hz); access_key(1) is channel 0, note 69
+    // Example: open([0], Channel, Stop, Off); register_key(1, 440 Hz); access_key(1) is channel 0, note 69
     #[tactic(auto, using(crate::proofs::Models::Views::key_here))]
     pub fn access_key(&self, key: u8) -> Option<Place>
         ensures { place result ≡ found (view self.now) key }
@@ -149,7 +171,7 @@ impl JitTuningModel {
     }
 
     // The detuning of a pitch for the note of a found key. Refuses 1, for unknown keys too (SPEC 7.5).
-    // Example: open([0], Channel, Stop); register_key(1, 440 Hz); repitch_key(1, 445 Hz) is channel 0, note 69, detuning 1.011363...
+    // Example: open([0], Channel, Stop, Off); register_key(1, 440 Hz); repitch_key(1, 445 Hz) is channel 0, note 69, detuning 1.011363...
     #[tactic(auto, unfolding(crate::specs::Pool::repitch_rule, crate::specs::Pool::tuning, channels::specs::Places::place))]
     pub fn repitch_key(&self, key: u8, pitch: Pitch) -> Result<Option<Repitched>, Refusal>
         ensures { repitch_outcome result ≡ repitch_rule (view self.now) key pitch.hz }
@@ -165,7 +187,7 @@ impl JitTuningModel {
     }
 
     // The first found key from a number on. All found keys by rising key: from 0, and then each time from one above the last (SPEC 7.7).
-    // Example: open([0], Channel, Stop); register_key(1, 440 Hz); next_key(0) is key 1, channel 0, note 69
+    // Example: open([0], Channel, Stop, Off); register_key(1, 440 Hz); next_key(0) is key 1, channel 0, note 69
     #[tactic(auto, using(crate::proofs::Models::Views::next_keys), unfolding(crate::specs::PoolAnswers::next_held, channels::specs::Places::place, channels::specs::Lists::first))]
     pub fn next_key(&self, from: usize) -> Option<HeldKey>
         ensures { next_held result ≡ first (held_keys (view self.now) from) }
@@ -194,7 +216,7 @@ impl JitTuningModel {
     }
 
     // Every found key is released, by rising key (SPEC 7.6).
-    // Example: open([0], Channel, Stop); register_key(1, 440 Hz); stop(); access_key(1) is not found
+    // Example: open([0], Channel, Stop, Off); register_key(1, 440 Hz); stop(); access_key(1) is not found
     #[tactic(auto, using(crate::proofs::Models::Views::stops), unfolding(crate::specs::Pool::stopped, crate::specs::Pool::released_all))]
     pub fn stop(&mut self)
         ensures { view self.new ≡ stopped (view self.old) }
@@ -247,11 +269,7 @@ impl<'a> Iterator for HeldKeys<'a> {
 impl JitTuningModel {
     // A press.
     #[tactic(auto, using(crate::proofs::Models::Views::moves_state))]
-    pub fn pressed(
-        mut self,
-        key: u8,
-        pitch: Pitch,
-    ) -> (JitTuningModel, Result<Option<Registered>, Refusal>)
+    pub fn pressed(mut self, key: u8, pitch: Pitch) -> (JitTuningModel, Result<Pressing, Refusal>)
         ensures { (press_outcome result.1, view result.0) ≡ outcome_and_state (view self) (register_rule (view self) key pitch.hz) }
     {
         let answer = self.register_key(key, pitch);
@@ -305,9 +323,16 @@ mod tests {
             channels: ChannelList::none(),
             group_by: u16::MAX,
             pooling_mode: u16::MAX,
+            retrigger: u16::MAX,
         };
         assert!(rt; model.access_key(255).is_none());
-        let Ok(Some(press)) = model.register_key(255, Pitch::from_hz(440.0)) else {
+        let Ok(
+            Pressing {
+                released: None,
+                registered: Some(press),
+            },
+        ) = model.register_key(255, Pitch::from_hz(440.0))
+        else {
             panic!(rt; "the press is accepted");
         };
         assert_eq!(rt; press.channel, 15);

@@ -8,7 +8,7 @@ use arithmetic::note::Note;
 use arithmetic::pitch::Pitch;
 use arithmetic::refusal::Refusal;
 use channels::channel::Channel;
-use pools::jit::{JitTuningModel, PoolGroupBy, PoolingMode, Registered};
+use pools::jit::{JitTuningModel, PoolGroupBy, PoolingMode, Pressing, Registered, Retrigger};
 use printing::answers::{Answer, At, ByValue, Held, Listed, Or, Pressed, Refused, Retuned};
 use printing::decimal::Form::WithBits;
 use std::io;
@@ -17,27 +17,32 @@ use std::num::f64_to_bits_with_nan;
 
 // ---- what is written of an answer
 
-fn press_answer(answer: Result<Option<Registered>, Refusal>) -> Answer<Or<Pressed>, Refused> {
-    let press = answer.map(|press| Or(press.map(|press| Pressed(press, WithBits)), "rejected"));
+fn press_answer(answer: Result<Pressing, Refusal>) -> Answer<Pressed, Refused> {
+    let press = answer.map(|press| Pressed(press, WithBits));
     Answer(press.map_err(Refused))
 }
 
 // ---- calls by value
 
-fn same_press(a: Registered, b: Registered) -> bool {
+fn same_registered(a: Registered, b: Registered) -> bool {
     a.channel == b.channel
         && a.started_note.number() == b.started_note.number()
         && a.stopped_note.map(Note::number) == b.stopped_note.map(Note::number)
         && f64_to_bits_with_nan(a.detuning) == f64_to_bits_with_nan(b.detuning)
 }
 
-fn same_answer(
-    a: Result<Option<Registered>, Refusal>,
-    b: Result<Option<Registered>, Refusal>,
-) -> bool {
+fn same_press(a: Pressing, b: Pressing) -> bool {
+    let same = match (a.registered, b.registered) {
+        (Some(a), Some(b)) => same_registered(a, b),
+        (None, None) => true,
+        _ => false,
+    };
+    same && a.released.map(At::from) == b.released.map(At::from)
+}
+
+fn same_answer(a: Result<Pressing, Refusal>, b: Result<Pressing, Refusal>) -> bool {
     match (a, b) {
-        (Ok(Some(a)), Ok(Some(b))) => same_press(a, b),
-        (Ok(None), Ok(None)) => true,
+        (Ok(a), Ok(b)) => same_press(a, b),
         (Err(a), Err(b)) => a == b,
         _ => false,
     }
@@ -124,12 +129,26 @@ fn open(
     group_by: PoolGroupBy,
     pooling_mode: PoolingMode,
 ) -> io::Result<JitTuningModel> {
-    let (model, answer) = JitTuningModel::open(channels, group_by, pooling_mode);
+    open_with(out, channels, group_by, pooling_mode, Retrigger::Off)
+}
+
+fn open_with(
+    out: &mut impl Write,
+    channels: &[u8],
+    group_by: PoolGroupBy,
+    pooling_mode: PoolingMode,
+    retrigger: Retrigger,
+) -> io::Result<JitTuningModel> {
+    let (model, answer) = JitTuningModel::open(channels, group_by, pooling_mode, retrigger);
     let listed = Answer(answer.map(Listed).map_err(Refused));
     let second = model.channels().entry(1).map(Channel::number);
+    let with = match retrigger {
+        Retrigger::Off => "",
+        Retrigger::On => ", with retrigger",
+    };
     writeln!(
         out,
-        "open on MIDI channels {channels:?}, group by {group_by:?}, {pooling_mode:?}: {listed}; MIDI channel of its channel 1: {}",
+        "open on MIDI channels {channels:?}, group by {group_by:?}, {pooling_mode:?}{with}: {listed}; MIDI channel of its channel 1: {}",
         Or(second, "none")
     )?;
     Ok(model)
@@ -302,6 +321,69 @@ fn in_place(out: &mut impl Write) -> io::Result<()> {
     look(out, &model, 3)
 }
 
+fn retrigger(out: &mut impl Write) -> io::Result<()> {
+    writeln!(
+        out,
+        "-- SPEC 7.2d, 9.2e: retrigger: a held key is released and pressed again, here on the other channel; a refused press releases nothing"
+    )?;
+    for mode in [PoolingMode::Block, PoolingMode::Stop, PoolingMode::Ignore] {
+        let mut model = open_with(out, &[0, 1], PoolGroupBy::Channel, mode, Retrigger::On)?;
+        press(out, &mut model, 1, 440.0)?;
+        would_press(out, &model, 1, 440.0)?;
+        look(out, &model, 1)?;
+        press(out, &mut model, 1, 440.0)?;
+        press(out, &mut model, 1, 0.0)?;
+        press_note(out, &mut model, 1, 501)?;
+        look(out, &model, 1)?;
+        press_note(out, &mut model, 1, 70)?;
+        press(out, &mut model, 2, 500.0)?;
+        press(out, &mut model, 1, 440.0)?;
+        press(out, &mut model, 3, 600.0)?;
+        stop(out, &mut model)?;
+    }
+    Ok(())
+}
+
+fn retrigger_without_channel(out: &mut impl Write) -> io::Result<()> {
+    writeln!(
+        out,
+        "-- SPEC 7.3, 7.2d, Ignore: a key that has lost its channel is pressed again: its release frees nothing, and the other key loses the channel"
+    )?;
+    let mut model = open_with(
+        out,
+        &[4],
+        PoolGroupBy::Channel,
+        PoolingMode::Ignore,
+        Retrigger::On,
+    )?;
+    press(out, &mut model, 1, 440.0)?;
+    press(out, &mut model, 2, 500.0)?;
+    press(out, &mut model, 1, 455.0)?;
+    look(out, &model, 2)?;
+    release(out, &mut model, 1)?;
+    press(out, &mut model, 3, 600.0)
+}
+
+// A key is pressed again for a note of another letter, whose only channel a third key has.
+fn retrigger_letters(out: &mut impl Write) -> io::Result<()> {
+    writeln!(
+        out,
+        "-- SPEC 7.2d, 7.1, 7.3: a key is pressed again for another letter, whose pool is full: Block rejects the press and the release stands"
+    )?;
+    for mode in [PoolingMode::Block, PoolingMode::Stop, PoolingMode::Ignore] {
+        let mut model = open_with(out, &[3], PoolGroupBy::NoteLetter, mode, Retrigger::On)?;
+        press(out, &mut model, 1, 440.0)?;
+        press(out, &mut model, 2, 466.0)?;
+        would_press(out, &model, 1, 466.0)?;
+        look(out, &model, 1)?;
+        press(out, &mut model, 1, 466.0)?;
+        look(out, &model, 1)?;
+        look(out, &model, 2)?;
+        press(out, &mut model, 3, 440.0)?;
+    }
+    Ok(())
+}
+
 fn main(rt: HostRuntime) -> io::Result<()> {
     let mut out = BufWriter::new(rt.alloc(), rt.stdout())?;
     examples(&mut out)?;
@@ -311,5 +393,8 @@ fn main(rt: HostRuntime) -> io::Result<()> {
     no_channels(&mut out)?;
     refusals(&mut out)?;
     in_place(&mut out)?;
+    retrigger(&mut out)?;
+    retrigger_without_channel(&mut out)?;
+    retrigger_letters(&mut out)?;
     out.flush()
 }

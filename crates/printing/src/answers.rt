@@ -10,7 +10,7 @@ use channels::list::ChannelList;
 use channels::tuning_value::Tuning;
 use plans::aot::Planned;
 use plans::lists::{NoteLists, PitchLists};
-use pools::jit::{Registered, Repitched};
+use pools::jit::{Pressing, Repitched};
 use std::fmt;
 
 // What a call answers, or its refusal.
@@ -222,12 +222,18 @@ impl fmt::Display for Entry {
 
 // ---- pools
 
+// A press: where its key was released first, if it was, and what it got, or that it was rejected.
 #[derive(Clone, Copy)]
-pub struct Pressed(pub Registered, pub Form);
+pub struct Pressed(pub Pressing, pub Form);
 
 impl fmt::Display for Pressed {
     fn fmt<W: fmt::Write>(&self, f: &mut fmt::Formatter<W>) -> fmt::Result {
-        let press = &self.0;
+        if let Some(place) = self.0.released {
+            write!(f, "released from {}; ", At::from(place))?;
+        }
+        let Some(press) = self.0.registered else {
+            return write!(f, "rejected");
+        };
         let note = press.started_note.number();
         let detuning = Float(press.detuning, self.1);
         write!(

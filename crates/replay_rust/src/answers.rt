@@ -3,8 +3,9 @@
 use arithmetic::refusal::Refusal;
 use channels::keys::Place;
 use channels::tuning_value::Tuning;
-use pools::jit::Registered;
+use pools::jit::{Pressing, Registered};
 use printing::answers::{Answer, At, Code, Hex, Or};
+use senders::jit;
 use std::fmt;
 
 // The values in which a detuning is sent.
@@ -42,15 +43,18 @@ impl fmt::Display for Found {
 // What a pool answers to an event.
 #[derive(Clone, Copy)]
 pub enum PoolAnswer {
-    Press(Result<Option<Registered>, Refusal>),
+    Press(Result<Pressing, Refusal>),
     Other(Option<Place>),
 }
 
 impl fmt::Display for PoolAnswer {
     fn fmt<W: fmt::Write>(&self, f: &mut fmt::Formatter<W>) -> fmt::Result {
         match *self {
-            PoolAnswer::Press(Ok(Some(press))) => write!(f, "{}", Pressed(press)),
-            PoolAnswer::Press(Ok(None)) => write!(f, "rejected"),
+            PoolAnswer::Press(Ok(press)) => write!(
+                f,
+                "{}",
+                Or(press.registered.map(Pressed), "rejected")
+            ),
             PoolAnswer::Press(Err(refusal)) => write!(f, "{}", Code(refusal)),
             PoolAnswer::Other(place) => write!(f, "{}", Found(place)),
         }
@@ -78,8 +82,11 @@ pub struct Sent<'a>(Result<Option<&'a [u8]>, Refusal>);
 
 impl<'a> Sent<'a> {
     // Of how many bytes stand at the start of the buffer that was lent to it.
-    pub fn of(answer: Result<Option<usize>, Refusal>, buffer: &'a [u8]) -> Sent<'a> {
-        Sent(answer.map(|sent| sent.map(|count| buffer.get(..count).unwrap_or(&[]))))
+    pub fn of(answer: Result<jit::Pressed, Refusal>, buffer: &'a [u8]) -> Sent<'a> {
+        Sent(answer.map(|sent| match sent {
+            jit::Pressed::Sent(count) => Some(buffer.get(..count).unwrap_or(&[])),
+            jit::Pressed::Rejected(_) => None,
+        }))
     }
 }
 

@@ -2,10 +2,13 @@
 
 use crate::answers::{Found, PoolAnswer};
 use crate::line::Line;
-use crate::words::{byte, first_channels, group, key_of, keys_of, mode, pitch_of, pool_group};
+use crate::words::{
+    byte, first_channels, group, key_of, keys_of, pitch_of, pool_group, pool_settings,
+};
 use plans::aot::AotTuningModel;
 use plans::lists::PitchLists;
 use pools::jit::JitTuningModel;
+use pools::jit::Retrigger::Off;
 use printing::answers::{Answer, Code, Plan};
 use std::alloc::Global;
 use std::io;
@@ -49,9 +52,10 @@ pub fn replay_plan(
 
 pub fn open_pool(heading: &[&str]) -> Option<JitTuningModel> {
     match *heading {
-        ["pool", "by", by, "mode", pooling_mode, "channels", count] => {
-            let channels = first_channels(count)?;
-            let (model, _) = JitTuningModel::open(channels, pool_group(by)?, mode(pooling_mode)?);
+        ["pool", ..] => {
+            let settings = pool_settings(heading.get(1..)?)?;
+            let by = pool_group(settings.by)?;
+            let (model, _) = JitTuningModel::open(settings.channels, by, settings.mode, Off);
             Some(model)
         }
         _ => None,

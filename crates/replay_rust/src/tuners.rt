@@ -2,15 +2,16 @@
 
 use crate::answers::Sent;
 use crate::line::Line;
-use crate::words::{byte, first_channels, keys_of, mode, pitch_of, tuning_kind};
+use crate::words::{byte, first_channels, keys_of, pitch_of, pool_settings, tuning_kind};
 use arithmetic::pitch::Pitch;
 use arithmetic::refusal::Refusal;
 use plan_tuner::aot::{AotTuner, PlanSent};
 use plans::aot::Planned;
 use plans::lists::PitchLists;
+use pools::jit::Retrigger::Off;
 use printing::answers::{Code, Plan};
 use senders::event::{Event, EventKind};
-use senders::jit::JitTuner;
+use senders::jit::{JitTuner, Pressed};
 use std::alloc::Global;
 use std::io::Write;
 use std::{fmt, io};
@@ -50,7 +51,7 @@ pub fn replay_plan_tuner(
     for line in lines {
         let mut buffer = [0u8; 16];
         let answer = press(&tuner, &line.words, &mut buffer);
-        let sent = answer.map(|answer| Sent::of(answer.map(Some), &buffer));
+        let sent = answer.map(|answer| Sent::of(answer.map(Pressed::Sent), &buffer));
         line.answer(out, sent)?;
     }
     Ok(())
@@ -78,7 +79,11 @@ impl fmt::Display for PlanTuned<'_> {
         match self.answer {
             Ok(PlanSent::Tuned { channels, written }) => {
                 let plan = Plan(Planned::Tuned(channels));
-                write!(f, "{plan}: {}", Sent::of(Ok(Some(written)), self.buffer))
+                write!(
+                    f,
+                    "{plan}: {}",
+                    Sent::of(Ok(Pressed::Sent(written)), self.buffer)
+                )
             }
             Ok(PlanSent::Untuned(channels)) => write!(f, "{}", Plan(Planned::Untuned(channels))),
             Err(refusal) => write!(f, "{}", Code(refusal)),
@@ -90,18 +95,10 @@ impl fmt::Display for PlanTuned<'_> {
 
 pub fn open_pool_tuner(heading: &[&str]) -> Option<JitTuner> {
     match *heading {
-        [
-            "pool",
-            "tuner",
-            "by",
-            kind,
-            "mode",
-            pooling_mode,
-            "channels",
-            count,
-        ] => {
-            let channels = first_channels(count)?;
-            let (tuner, _) = JitTuner::start(channels, tuning_kind(kind)?, mode(pooling_mode)?);
+        ["pool", "tuner", ..] => {
+            let settings = pool_settings(heading.get(2..)?)?;
+            let kind = tuning_kind(settings.by)?;
+            let (tuner, _) = JitTuner::start(settings.channels, kind, settings.mode, Off);
             Some(tuner)
         }
         _ => None,
@@ -129,16 +126,16 @@ fn perform(
     tuner: &mut JitTuner,
     words: &[&str],
     buffer: &mut [u8],
-) -> Option<Result<Option<usize>, Refusal>> {
+) -> Option<Result<Pressed, Refusal>> {
     if let Some(event) = event_of(words) {
         return Some(tuner.play(event, buffer));
     }
     match *words {
         ["pressure", "key", key, "value", pressure] => {
             let answer = tuner.note_attr(byte(key)?, byte(pressure)?, buffer);
-            Some(answer.map(Some))
+            Some(answer.map(Pressed::Sent))
         }
-        ["stop"] => Some(tuner.stop(buffer).map(Some)),
+        ["stop"] => Some(tuner.stop(buffer).map(Pressed::Sent)),
         _ => None,
     }
 }

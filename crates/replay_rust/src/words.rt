@@ -66,6 +66,25 @@ pub fn tuning_kind(name: &str) -> Option<TuningKind> {
     }
 }
 
+// What the heading of a pool says behind "pool", or of a pool tuner behind "pool tuner".
+#[derive(Drop)]
+pub struct PoolSettings<'a> {
+    pub by: &'a str,
+    pub mode: PoolingMode,
+    pub channels: &'static [u8],
+}
+
+pub fn pool_settings<'a>(words: &[&'a str]) -> Option<PoolSettings<'a>> {
+    match *words {
+        ["by", by, "mode", pooling_mode, "channels", count] => {
+            let mode = mode(pooling_mode)?;
+            let channels = first_channels(count)?;
+            Some(PoolSettings { by, mode, channels })
+        }
+        _ => None,
+    }
+}
+
 // The key of a plan's line, and its pitch in Hz.
 pub fn key_of(words: &[&str]) -> Option<(u8, f64)> {
     match *words {

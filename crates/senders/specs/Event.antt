@@ -31,9 +31,10 @@ play_rule t e = call_rule e.kind t e.key e.pitch.hz e.velocity
 -- How many bytes a press sent.
 abbrev pub count : PressResult → ℕ
 count (press_sent n) = n
-count press_rejected = 0
+count (press_rejected n) = n
 
--- An accepted call answers how many bytes it sends, and these are no more than 18, a stopped note's note-off, four messages of a fine tuning and a note-on.
+-- An accepted call answers how many bytes it sends, and these are no more than 21: a note-off of the key released first, one of a stopped note, four messages
+-- of a fine tuning and a note-on.
 abbrev pub Counts : {R S : Type 0} → (R → ℕ) → Outcome (Effect R S) → Type 0
-Counts of_result (value e) = (of_result e.result ≡ length e.bytes) × (length e.bytes ≤ 18)
+Counts of_result (value e) = (of_result e.result ≡ length e.bytes) × (length e.bytes ≤ 21)
 Counts of_result (refused n) = Unit {0}

@@ -1,14 +1,15 @@
 -- The pool tuner, SPEC 9: the rule of each call, over what the tuner holds. The test for room (10) is added to each where a contract cites it.
-use Rattle.std.specs.Prelude.{◌≡◌, List, [], ℕ, Float, length, flat_map}
+use Rattle.std.specs.Prelude.{◌≡◌, List, [], ℕ, Float, length, flat_map, ◌++◌}
 use Rattle.std.proofs.Math.Option.{Option, some, none}
 use Rattle.channels.specs.Outcome.{Outcome, value, refused, refuse◌unless◌then◌}
 use Rattle.channels.specs.Refusal.{data_byte_over127}
 use Rattle.channels.specs.Places.{Place}
-use Rattle.pools.specs.Pool.{State, Held, Press, accepted, rejected, found, released, register_rule, repitch_rule, open_rule, held_keys, stopped}
+use Rattle.pools.specs.Pool.{State, Held, Press, accepted, rejected, found, released, register_rule, repitch_rule, open_rule, held_keys, stopped, Pressing}
 use Rattle.pools.specs.View.{view as pool_view}
 use Rattle.channels.specs.TuningValue.{sent_as, tuning_kind_of}
 use Rattle.channels.specs.declared.tuning_value.TuningKind.{TuningKind}
 use Rattle.pools.specs.declared.settings.PoolingMode.{PoolingMode}
+use Rattle.pools.specs.declared.settings.Retrigger.{Retrigger}
 use Rattle.pools.specs.declared.settings.PoolGroupBy.TheVariants.{Channel}
 use Rattle.senders.specs.Message.{Message, is_data}
 use Rattle.senders.specs.Midi.{bytes_of}
@@ -33,20 +34,20 @@ with_pool t s = record { pool = s; tuning_kind = t.tuning_kind }
 
 -- ---- SPEC 9.1a: a tuner is opened on a channel list, with channel groups
 
-abbrev pub start_rule : List ℕ → TuningKind → PoolingMode → Outcome (List ℕ) × Tuner
-start_rule channels kind mode = let o = open_rule channels Channel mode in (o.0, record { pool = o.1; tuning_kind = kind })
+abbrev pub start_rule : List ℕ → TuningKind → PoolingMode → Retrigger → Outcome (List ℕ) × Tuner
+start_rule channels kind mode retrigger = let o = open_rule channels Channel mode retrigger in (o.0, record { pool = o.1; tuning_kind = kind })
 
 -- SPEC 9.1a: a tuner that is opened anew stays as it was if the list is refused.
 abbrev pub StartMeets : Outcome (List ℕ) → Tuner → JitTuner → JitTuner → Type 0
 StartMeets (value cs) t old new = view new ≡ t
 StartMeets (refused n) t old new = new ≡ old
 
--- ---- SPEC 9.2: a press, refused by 8, 1, 11, 10; a rejected one needs no bytes, so it never meets 10
+-- ---- SPEC 9.2: a press, refused by 8, 1, 11, 10; a rejected one that released nothing needs no bytes, so it never meets 10
 
--- What a press answers: so many bytes were sent, or no channel was free.
+-- What a press answers: it was sent, or no channel was free; and so many bytes were sent, of a rejected press those of the release that it began with.
 pub data PressResult : Type 0 where
   press_sent : ℕ → PressResult
-  press_rejected : PressResult
+  press_rejected : ℕ → PressResult
 
 -- SPEC 9.2: an accepted press is sent on its channel, and a rejected one sends nothing.
 abbrev pub accepted_messages : Tuner → ℕ → Press → List Message
@@ -54,17 +55,22 @@ accepted_messages t velocity (accepted i stopped note detuning) =
     on_channel t.pool.channels i (λ ch. press_messages ch stopped (sent_as t.tuning_kind detuning) note velocity)
 accepted_messages t velocity rejected = []
 
-abbrev pub press_bytes : Tuner → ℕ → Press → List ℕ
-press_bytes t velocity p = bytes_of (accepted_messages t velocity p)
+-- What a press answers, by the release and the press that it is.
+abbrev pub pressing : Option Place → Press → Pressing
+pressing released press = record { released = released; press = press }
+
+-- SPEC 9.2e: before them the note-off of the key that is released first, with velocity 0.
+abbrev pub press_bytes : Tuner → ℕ → Pressing → List ℕ
+press_bytes t velocity p = bytes_of (key_messages Off t.pool.channels 0 p.released) ++ bytes_of (accepted_messages t velocity p.press)
 
 abbrev pub press_result : Press → List ℕ → PressResult
 press_result (accepted i stopped note detuning) bs = press_sent (length bs)
-press_result rejected bs = press_rejected
+press_result rejected bs = press_rejected (length bs)
 
-abbrev pub press_effect : Tuner → ℕ → Outcome (Press × State) → Outcome (Effect PressResult Tuner)
+abbrev pub press_effect : Tuner → ℕ → Outcome (Pressing × State) → Outcome (Effect PressResult Tuner)
 press_effect t velocity (value r) =
     let bs = press_bytes t velocity r.0 in
-    value (record { result = press_result r.0 bs; bytes = bs; next = with_pool t r.1 })
+    value (record { result = press_result r.0.press bs; bytes = bs; next = with_pool t r.1 })
 press_effect t velocity (refused n) = refused n
 
 abbrev pub note_on_rule : Tuner → ℕ → Float → ℕ → Outcome (Effect PressResult Tuner)

@@ -1,21 +1,23 @@
 // The pool tuner: a pool model whose presses, releases and repitches are sent as they happen. Each call decides, tests its room, writes its bytes, and only
 // then changes the tuner (SPEC 9.1b).
 
-ghost use Rattle.std.specs.Prelude.{◌≡◌, true, Some};
+ghost use Rattle.std.specs.Prelude.{◌≡◌, true, Some, IfSome};
 ghost use Rattle.std.specs.Float.Ieee.Positive.{positive};
 ghost use Rattle.arithmetic.specs.Answers.{outcome, outcome_by};
 ghost use Rattle.channels.specs.ChannelList.{entries};
 ghost use Rattle.channels.specs.Places.{place};
 ghost use Rattle.channels.specs.TuningValue.{tuning_kind_of, sent_as};
-ghost use Rattle.pools.specs.PoolAnswers.{registered_view, stopped_note};
+ghost use Rattle.pools.specs.PoolAnswers.{registered_view, pressing_view, stopped_note};
 ghost use Rattle.pools.specs.Pool.{found};
 ghost use Rattle.senders.specs.Buffer.{WriteMeets, CallMeets, sent};
 ghost use Rattle.senders.specs.Midi.{bytes_of};
 ghost use Rattle.senders.specs.Mts.{tuning_messages};
 ghost use Rattle.senders.specs.Records.{bytes_in};
-ghost use Rattle.senders.specs.Tuner.{stop_messages, key_rule};
-ghost use Rattle.senders.specs.Answers.{press_answer};
-ghost use Rattle.senders.specs.Jit.{view, start_rule, StartMeets, note_on_rule, note_off_rule, note_pitch_rule, note_attr_rule, global_attr_rule, stop_rule, press_bytes, release_messages};
+ghost use Rattle.senders.specs.Tuner.{stop_messages, key_rule, key_messages};
+ghost use Rattle.senders.specs.declared.tuner.NoteMessage.TheVariants.{Off};
+ghost use Rattle.senders.specs.Answers.{press_answer, pressed};
+ghost use Rattle.senders.specs.Event.{count};
+ghost use Rattle.senders.specs.Jit.{view, start_rule, StartMeets, note_on_rule, note_off_rule, note_pitch_rule, note_attr_rule, global_attr_rule, stop_rule, press_bytes, accepted_messages, release_messages};
 
 use crate::data_byte::DataByte;
 use crate::midi::ChannelMessageType;
@@ -29,13 +31,35 @@ use channels::keys::{KEYS, Place};
 use channels::list::ChannelList;
 use channels::tuning_value::TuningKind;
 use channels::{Note, Pitch, Ratio, Refusal};
-use pools::jit::{JitTuningModel, PoolGroupBy, PoolingMode, Registered};
+use pools::jit::{JitTuningModel, PoolGroupBy, PoolingMode, Pressing, Registered, Retrigger};
 
 // A note-off, a tuning, a note-on.
-const LONGEST_PRESS: usize = RECORD_LEN + LONGEST_TUNING + RECORD_LEN;
+const LONGEST_REGISTERED: usize = RECORD_LEN + LONGEST_TUNING + RECORD_LEN;
+
+// The note-off of the key that is released first, and these.
+const LONGEST_PRESS: usize = RECORD_LEN + LONGEST_REGISTERED;
 
 // A note-off of every key.
 const LONGEST_STOP: usize = KEYS * RECORD_LEN;
+
+// What a press came to, and how many bytes it sent: of a rejected press those of the release that it began with (SPEC 9.2, 9.2e).
+#[derive(Clone, Copy, Debug, PartialEq, Eq)]
+pub enum Pressed {
+    Sent(usize),
+    Rejected(usize),
+}
+
+impl Pressed {
+    // How many bytes were sent.
+    pub fn len(self) -> usize
+        ensures { result ≡ count (pressed self) }
+    {
+        match self {
+            Pressed::Sent(n) => n,
+            Pressed::Rejected(n) => n,
+        }
+    }
+}
 
 // A tuner of a pool model (SPEC 9.1). Every content is some tuner, since it lies in the memory of programs in C (SPEC 12.1).
 #[repr(C)]
@@ -58,15 +82,21 @@ impl JitTuner {
     }
 
     // A tuner of the channels of a list, in which no key is found. Refuses 6 or 7 as the channel list does; the tuner has no channels then (SPEC 9.1a).
-    // Example: JitTuner::start([0, 1], Bend, Stop) is channels listed 2
+    // Example: JitTuner::start([0, 1], Bend, Stop, Off) is channels listed 2
     pub fn start(
         channels: &[u8],
         tuning_kind: TuningKind,
         pooling_mode: PoolingMode,
+        retrigger: Retrigger,
     ) -> (JitTuner, Result<ChannelList, Refusal>)
-        ensures { (outcome_by entries result.1, view result.0) ≡ start_rule channels.now tuning_kind pooling_mode }
+        ensures { (outcome_by entries result.1, view result.0) ≡ start_rule channels.now tuning_kind pooling_mode retrigger }
     {
-        let (model, answer) = JitTuningModel::open(channels, PoolGroupBy::Channel, pooling_mode);
+        let (model, answer) = JitTuningModel::open(
+            channels,
+            PoolGroupBy::Channel,
+            pooling_mode,
+            retrigger,
+        );
         (JitTuner::of(model, tuning_kind), answer)
     }
 
@@ -77,13 +107,14 @@ impl JitTuner {
         channels: &[u8],
         tuning_kind: TuningKind,
         pooling_mode: PoolingMode,
+        retrigger: Retrigger,
     ) -> Result<ChannelList, Refusal>
-        ensures answer { outcome_by entries result ≡ (start_rule channels.now tuning_kind pooling_mode).0 }
-        ensures started { let rule = start_rule channels.now tuning_kind pooling_mode in StartMeets rule.0 rule.1 self.old self.new }
+        ensures answer { outcome_by entries result ≡ (start_rule channels.now tuning_kind pooling_mode retrigger).0 }
+        ensures started { let rule = start_rule channels.now tuning_kind pooling_mode retrigger in StartMeets rule.0 rule.1 self.old self.new }
     {
         let list = ChannelList::of(channels)?;
         *self = JitTuner::of(
-            JitTuningModel::new(list, PoolGroupBy::Channel, pooling_mode),
+            JitTuningModel::new(list, PoolGroupBy::Channel, pooling_mode, retrigger),
             tuning_kind,
         );
         Ok(list)
@@ -96,31 +127,34 @@ impl JitTuner {
         TuningKind::from(self.tuning_kind)
     }
 
-    // A press: the note-off of the note that it stops, the tuning, the note-on. It answers how many bytes were sent, or nothing where no channel is free.
-    // Refuses 8, 1, 11, 10 (SPEC 9.2).
-    // Example: JitTuner::start([0, 1], Bend, Stop); note_on(1, 445 Hz, 100) is E0 21 46 90 45 64
-    // Example: JitTuner::start([0, 1], Bend, Stop); note_on(1, 440 Hz, 100) is E0 00 40 90 45 64
+    // A press: the note-off of a held key of a tuner with retrigger, then that of the note that the press stops, the tuning, the note-on. It answers how many
+    // bytes were sent, those of the release alone where no channel is free. Refuses 8, 1, 11 a held key without retrigger, 10 (SPEC 9.2, 9.2e).
+    // Example: JitTuner::start([0, 1], Bend, Stop, Off); note_on(1, 445 Hz, 100) is E0 21 46 90 45 64
+    // Example: JitTuner::start([0, 1], Bend, Stop, Off); note_on(1, 440 Hz, 100) is E0 00 40 90 45 64
+    // Example: JitTuner::start([0, 1], Bend, Stop, On); note_on(1, 440 Hz, 100); note_on(1, 440 Hz, 100) is 80 45 00 E1 00 40 91 45 64
     pub fn note_on(
         &mut self,
         key: u8,
         pitch: Pitch,
         velocity: u8,
         out: &mut [u8],
-    ) -> Result<Option<usize>, Refusal>
+    ) -> Result<Pressed, Refusal>
         ensures { CallMeets view (note_on_rule (view self.old) key pitch.hz velocity) self.old out.old (press_answer result) self.new out.new }
     {
         let velocity = DataByte::try_from(velocity)?;
-        let Some(press) = self.model.allocate_key(key, pitch)? else {
-            return Ok(None);
-        };
+        let press = self.model.allocate_key(key, pitch)?;
         let sent = self.send_press(press, velocity, out)?;
-        let note = press.started_note.number();
-        let _ = self.model.register_note(key, note, press.detuning);
-        Ok(Some(sent))
+        let Some(registered) = press.registered else {
+            let _ = self.model.deregister_key(key);
+            return Ok(Pressed::Rejected(sent));
+        };
+        let note = registered.started_note.number();
+        let _ = self.model.register_note(key, note, registered.detuning);
+        Ok(Pressed::Sent(sent))
     }
 
     // A release: the note-off of a key that is found. Refuses 8, 10 (SPEC 9.2a).
-    // Example: JitTuner::start([0, 1], Bend, Stop); note_on(1, 440 Hz, 100); note_off(1, 64) is 80 45 40
+    // Example: JitTuner::start([0, 1], Bend, Stop, Off); note_on(1, 440 Hz, 100); note_off(1, 64) is 80 45 40
     pub fn note_off(&mut self, key: u8, velocity: u8, out: &mut [u8]) -> Result<usize, Refusal>
         ensures { CallMeets view (note_off_rule (view self.old) key velocity) self.old out.old (outcome result) self.new out.new }
     {
@@ -130,7 +164,7 @@ impl JitTuner {
     }
 
     // The tuning of the channel of a key that is found, by the pitch. Refuses 1, and 10 where the key is found (SPEC 9.2b).
-    // Example: JitTuner::start([0, 1], Bend, Stop); note_on(1, 440 Hz, 100); note_pitch(1, 445 Hz) is E0 21 46
+    // Example: JitTuner::start([0, 1], Bend, Stop, Off); note_on(1, 440 Hz, 100); note_pitch(1, 445 Hz) is E0 21 46
     #[tactic(auto, using(pools::proofs::Pools::Presses::repitch_measurable))]
     pub fn note_pitch(&self, key: u8, pitch: Pitch, out: &mut [u8]) -> Result<usize, Refusal>
         ensures { WriteMeets (note_pitch_rule (view self.now) key pitch.hz) out.old (outcome result) out.new }
@@ -153,7 +187,7 @@ impl JitTuner {
     }
 
     // A message to every channel, except bends of a tuner that tunes by bends. Refuses 8 from the left, 9, also where nothing is sent, and 10 (SPEC 9.4).
-    // Example: JitTuner::start([0, 1], Bend, Stop); global_attr(ControlChange(7, 90)) is B0 07 5A B1 07 5A
+    // Example: JitTuner::start([0, 1], Bend, Stop, Off); global_attr(ControlChange(7, 90)) is B0 07 5A B1 07 5A
     pub fn global_attr(&self, message: ChannelMessageType, out: &mut [u8]) -> Result<usize, Refusal>
         ensures { WriteMeets (global_attr_rule (view self.now) message) out.old (outcome result) out.new }
     {
@@ -161,7 +195,7 @@ impl JitTuner {
     }
 
     // Every key that is found is released with velocity 0, by rising key. Refuses 10 (SPEC 9.2d).
-    // Example: JitTuner::start([0, 1], Bend, Stop); note_on(1, 440 Hz, 100); stop() is 80 45 00
+    // Example: JitTuner::start([0, 1], Bend, Stop, Off); note_on(1, 440 Hz, 100); stop() is 80 45 00
     pub fn stop(&mut self, out: &mut [u8]) -> Result<usize, Refusal>
         ensures { CallMeets view (stop_rule (view self.old)) self.old out.old (outcome result) self.new out.new }
     {
@@ -198,21 +232,55 @@ impl JitTuner {
         send_checked_key(self.model.channels(), found, message, value, out)
     }
 
-    // A press on the channel that the model has found for it: the note-off of the stopped note with the new velocity, the tuning, the note-on.
+    // The note-off of the key that is released first, with velocity 0, and the messages of the press, if it is accepted.
     fn send_press(
         &self,
-        press: Registered,
+        press: Pressing,
         velocity: DataByte,
         out: &mut [u8],
     ) -> Result<usize, Refusal>
-        requires { positive press.detuning ≡ true }
-        ensures { WriteMeets (sent (press_bytes (view self.now) velocity.number (registered_view (Some press)))) out.old (outcome result) out.new }
+        requires { IfSome press.registered (λ r. positive r.detuning ≡ true) }
+        ensures { WriteMeets (sent (press_bytes (view self.now) velocity.number (pressing_view press))) out.old (outcome result) out.new }
     {
+        let mut bytes = ArrayVec::<u8, LONGEST_PRESS>::new();
+        if let Some(message) = self.released_message(press.released) {
+            bytes.try_extend_from_slice(&message).unwrap();
+        }
+        if let Some(registered) = press.registered {
+            let messages = self.registered_bytes(registered, velocity);
+            bytes.try_extend_from_slice(messages.as_slice()).unwrap();
+        }
+        send(bytes.as_slice(), out)
+    }
+
+    // The note-off of a key that is released, with velocity 0.
+    #[tactic(auto, unfolding(channels::specs::Places::place))]
+    fn released_message(&self, released: Option<Place>) -> Option<[u8; RECORD_LEN]>
+        ensures { bytes_in result ≡ bytes_of (key_messages Off (view self.now).pool.channels 0 (place released)) }
+    {
+        let place = released?;
+        NoteMessage::Off.at_place(
+            self.model.channels(),
+            place.channel,
+            place.note.number(),
+            DataByte::ZERO,
+        )
+    }
+
+    // A press on the channel that the model has found for it: the note-off of the stopped note with the new velocity, the tuning, the note-on.
+    fn registered_bytes(
+        &self,
+        press: Registered,
+        velocity: DataByte,
+    ) -> ArrayVec<u8, LONGEST_REGISTERED>
+        requires { positive press.detuning ≡ true }
+        ensures { result.items ≡ bytes_of (accepted_messages (view self.now) velocity.number (registered_view (Some press))) }
+    {
+        let mut bytes = ArrayVec::<u8, LONGEST_REGISTERED>::new();
         let Some(channel) = self.model.channels().entry(press.channel) else {
-            return Ok(0);
+            return bytes;
         };
         let tuning = self.tuning(channel, press.detuning);
-        let mut bytes = ArrayVec::<u8, LONGEST_PRESS>::new();
         if let Some(message) = stop_message(channel, press.stopped_note, velocity) {
             bytes.try_extend_from_slice(&message).unwrap();
         }
@@ -224,7 +292,7 @@ impl JitTuner {
         ) {
             bytes.try_extend_from_slice(&message).unwrap();
         }
-        send(bytes.as_slice(), out)
+        bytes
     }
 
     // The releases of all found keys.
@@ -278,7 +346,7 @@ impl JitTuner {
         pitch: Pitch,
         velocity: u8,
         out: &mut [u8],
-    ) -> (JitTuner, Result<Option<usize>, Refusal>)
+    ) -> (JitTuner, Result<Pressed, Refusal>)
         ensures { CallMeets view (note_on_rule (view self) key pitch.hz velocity) self out.old (press_answer result.1) result.0 out.new }
     {
         let answer = self.note_on(key, pitch, velocity, out);

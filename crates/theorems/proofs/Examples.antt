@@ -12,7 +12,7 @@ use Rattle.arithmetic.specs.Measure.{square, digit, next as next_digit, digits, 
 use Rattle.arithmetic.specs.Pitch.{negligible, negligible_from, negligible_below, is_pitch, octave_pitch, significands, factor, pitch_of, detuning_of}
 use Rattle.arithmetic.specs.Note.{midi_number}
 use Rattle.arithmetic.specs.Nearest.{semitones, over_a4, nearest_note, nearest_rule}
-use Rattle.channels.specs.Outcome.{Outcome, value}
+use Rattle.channels.specs.Outcome.{Outcome}
 use Rattle.channels.specs.FirstRefusal.{one_by_one}
 use Rattle.channels.specs.ChannelList.{entry_rule, list_rule}
 use Rattle.channels.specs.Lists.{without, upward, first}
@@ -24,12 +24,12 @@ use Rattle.plans.specs.PlanLists.{is_planned, note_line, note_lines, line_rule, 
 use Rattle.plans.specs.Plan.{planned}
 use Rattle.pools.specs.declared.settings.PoolingMode.{PoolingMode}
 use Rattle.pools.specs.declared.settings.PoolingMode.TheVariants.{Stop}
-use Rattle.pools.specs.Pool.{State, pool_count, pool_of, pool, found, fresh, open_rule, with_pool, with_key, enqueue, taken_in, taken, freed_in, freed, without_key, released, released_from, held_at, oldest_of, oldest, reclaim_by_mode, reclaim_unless_free, reclaim, Press, accepted, pressed_on, pressed, register_rule, outcome_and_state}
+use Rattle.pools.specs.Pool.{State, pool_count, pool_of, pool, found, fresh, open_rule, with_pool, with_key, enqueue, taken_in, taken, freed_in, freed, without_key, released, released_from, held_at, oldest_of, oldest, reclaim_by_mode, reclaim_unless_free, reclaim, Pressing, accepted, pressed_on, pressed, register_rule, outcome_and_state}
 use Rattle.senders.specs.Midi.{bytes_of}
 use Rattle.senders.specs.Tuner.{note_messages, press_messages}
 use Rattle.senders.specs.declared.tuner.NoteMessage.TheVariants.{Off}
-use Rattle.theorems.specs.Examples.{Nine, Ten, two_channels, answer, next, accepted_on, Eleven, Twelve, All, examples}
-use Rattle.theorems.proofs.Pools.Answers.{register_pressed}
+use Rattle.theorems.specs.Examples.{Nine, Ten, two_channels, answer, next, without_release, accepted_on, Eleven, Twelve, All, examples}
+use Rattle.pools.proofs.Pools.Presses.{unless_held_new}
 
 -- ---- plans
 
@@ -39,21 +39,21 @@ example_9_10 = ((refl, refl, refl), (refl, refl, refl))
 
 -- ---- pools
 
--- What a press that meets no refusal answers and leaves.
+-- What a press of a key that is not held answers and leaves, of a pitch.
 answer_of_pressed : (s : State) (key : ℕ) (hz : Float) → is_pitch hz ≡ true → found s key ≡ none
     → let r = pressed s key (nearest_note hz) (detuning_of hz (nearest_note hz)) in
-    ◌≡◌ {A = Outcome Press × State} (outcome_and_state s (register_rule s key hz)) (value r.0, r.1)
-unfolding outcome_and_state
-answer_of_pressed s key hz p new = rw (register_pressed s key hz p new)
+    ◌≡◌ {A = Outcome Pressing × State} (outcome_and_state s (register_rule s key hz)) (without_release r.0, r.1)
+unfolding outcome_and_state register_rule
+answer_of_pressed s key hz p new = rw (p, unless_held_new s key (nearest_note hz) (detuning_of hz (nearest_note hz)) new) refl
 
 module _ (s : State) (key : ℕ) (hz : Float) (p : is_pitch hz ≡ true) (new : found s key ≡ none) where
-  answer_is : answer s key hz ≡ value (pressed s key (nearest_note hz) (detuning_of hz (nearest_note hz))).0
+  answer_is : answer s key hz ≡ without_release (pressed s key (nearest_note hz) (detuning_of hz (nearest_note hz))).0
   unfolding answer
-  answer_is = ap (λ (x : Outcome Press × State). x.0) (answer_of_pressed s key hz p new)
+  answer_is = ap (λ (x : Outcome Pressing × State). x.0) (answer_of_pressed s key hz p new)
 
   next_is : next s key hz ≡ (pressed s key (nearest_note hz) (detuning_of hz (nearest_note hz))).1
   unfolding next
-  next_is = ap (λ (x : Outcome Press × State). x.1) (answer_of_pressed s key hz p new)
+  next_is = ap (λ (x : Outcome Pressing × State). x.1) (answer_of_pressed s key hz p new)
 
 -- The same with notes and detunings in the place of pitches: the rules compute.
 
@@ -80,8 +80,8 @@ unfolding accepted_on
 example_11 mode x y p q =
     let one = first_press mode (nearest_note x) (nearest_note y) (detuning_of x (nearest_note x)) (detuning_of y (nearest_note y)) in
     let other = second_press mode (nearest_note x) (nearest_note y) (detuning_of x (nearest_note x)) (detuning_of y (nearest_note y)) in (
-      answer_is (two_channels mode) 1 x p one.0 ∙ ap value one.1,
-      rw (next_is (two_channels mode) 1 x p one.0) (answer_is _ 2 y q other.0 ∙ ap value other.1),
+      answer_is (two_channels mode) 1 x p one.0 ∙ ap without_release one.1,
+      rw (next_is (two_channels mode) 1 x p one.0) (answer_is _ 2 y q other.0 ∙ ap without_release other.1),
     )
 
 pub example_12 : Twelve
@@ -93,7 +93,7 @@ example_12 x y z p q r =
     let held = two_held a b c (detuning_of x a) (detuning_of y b) (detuning_of z c) in
     let third = third_press a b c (detuning_of x a) (detuning_of y b) (detuning_of z c) in
     rw (next_is (two_channels Stop) 1 x p one.0, next_is _ 2 y q held.0)
-    (answer_is _ 3 z r held.1 ∙ ap value third.0, ap (λ (s : State). found s 1) (next_is _ 3 z r held.1) ∙ third.1)
+    (answer_is _ 3 z r held.1 ∙ ap without_release third.0, ap (λ (s : State). found s 1) (next_is _ 3 z r held.1) ∙ third.1)
 
 -- ---- all twelve
 

@@ -2,7 +2,8 @@
 -- they were.
 use Prim.Native.Nat.{ℕ, ◌<◌}
 use mathlib.Core.Path.{◌≡◌, refl, sym, ap, ◌∙◌}
-use mathlib.Core.Bool.{true, not, ◌&&◌}
+use mathlib.Core.Bool.{true, ◌&&◌}
+use mathlib.Core.Logic.{inl, inr}
 use mathlib.Core.List.{List, [], ◌∷◌, ◌++◌}
 use mathlib.Core.Option.{Option, some, none}
 use lib.Dec.{T, leb}
@@ -22,9 +23,11 @@ use Rattle.plans.specs.PlanLine.{PlanLine}
 use Rattle.plans.specs.PlanLists.{note_lists, pitch_lists}
 use Rattle.channels.specs.TuningValue.{tuning_rule}
 use Rattle.pools.specs.View.{StateMeets}
-use Rattle.channels.specs.Places.{Place, is_held}
-use Rattle.pools.specs.Pool.{State, Press, accepted, rejected, outcome_and_state, found, unless_held, register_rule, repitch_rule}
+use Rattle.channels.specs.Places.{Place}
+use Rattle.pools.specs.Pool.{State, Press, Pressing, accepted, rejected, outcome_and_state, register_rule, repitch_rule}
 use Rattle.pools.specs.Pool as Pools
+use Rattle.pools.specs.declared.settings.Retrigger.{Retrigger}
+use Rattle.pools.specs.declared.settings.Retrigger.TheVariants.{Off, On}
 use Rattle.plans.specs.Plan as M
 use Rattle.channels.specs.declared.tuning_value.Tuning.{Tuning}
 use Rattle.channels.specs.declared.tuning_value.Tuning.TheVariants.{Fine, Bend}
@@ -35,14 +38,16 @@ use Rattle.senders.specs.Jit as Jit
 use Rattle.senders.specs.declared.jit.JitTuner.{JitTuner}
 use Rattle.plan_tuner.specs.Aot as Aot
 use Rattle.plan_tuner.specs.declared.aot.AotTuner.{AotTuner}
-use Rattle.capi.specs.Answers.{plan_in, plan_sent_in, of_sent, of_press, of_list, of_plan, of_plan_sent, of_registered, of_repitched, of_nearest, of_pitch, of_measure, of_tuning}
+use Rattle.capi.specs.Answers.{plan_in, plan_sent_in, of_sent, of_press, of_list, of_plan, of_plan_sent, of_pressed, of_registered, of_repitched, of_nearest, of_pitch, of_measure, of_tuning}
 use Rattle.capi.specs.Entry.{EntryMeets}
 use Rattle.capi.specs.declared.answer.Answer.{Answer}
 use Rattle.theorems.specs.Entries as E
 use Rattle.theorems.specs.FunctionsForC.{Function, call, pool_model_open, register_key, repitch_key, nearest_note, note_pitch, measure, tuning_value}
-use Rattle.theorems.specs.FunctionsForC.{plan_model_open, plan_model_set_tuning, plan_model_set_tuning_of_pitches, called, answered, allowed, AllowedAnswer, done, refuses}
+use Rattle.theorems.specs.FunctionsForC.{plan_model_open, plan_model_set_tuning, plan_model_set_tuning_of_pitches, called, answered, register_allowed, allowed, AllowedAnswer, done, refuses}
 use Rattle.theorems.proofs.Plans.Refusals.{note_lists_numbers, pitch_lists_numbers, refused_unchanged as plan_refused_unchanged}
 use Rattle.theorems.specs.Entries.{Among}
+use Rattle.theorems.proofs.Pools.Refusals.{register_refuses}
+use Rattle.theorems.proofs.Pools.Retrigger.{not_may_off}
 use Rattle.theorems.proofs.Tuners.Refusals.{among_test}
 use Rattle.theorems.proofs.Tuners.Demand1 as D
 
@@ -66,7 +71,7 @@ module _ (ns : List ℕ) where
 
   pressed_ends : (o : Outcome Jit.PressResult) → Among ns o → AllowedAnswer ns (of_press o).outcome (of_press o).refusal
   pressed_ends (value (Jit.press_sent n)) h = done 0 (omega arith)
-  pressed_ends (value Jit.press_rejected) h = done 2 (omega arith)
+  pressed_ends (value (Jit.press_rejected n)) h = done 2 (omega arith)
   pressed_ends (refused n) h = refuses n h
 
   press_ends :
@@ -88,9 +93,12 @@ module _ (ns : List ℕ) where
   list_ends (value cs) h = done 0 (omega arith)
   list_ends (refused n) h = refuses n h
 
-  registered_ends : (o : Outcome Press) → Among ns o → AllowedAnswer ns (of_registered o).outcome (of_registered o).refusal
-  registered_ends (value (accepted c s note d)) h = done 0 (omega arith)
-  registered_ends (value rejected) h = done 2 (omega arith)
+  pressing_ends : (p : Option Place) (r : Press) → AllowedAnswer ns (of_pressed p r).outcome (of_pressed p r).refusal
+  pressing_ends p (accepted c s note d) = done 0 (omega arith)
+  pressing_ends p rejected = done 2 (omega arith)
+
+  registered_ends : (o : Outcome Pressing) → Among ns o → AllowedAnswer ns (of_registered o).outcome (of_registered o).refusal
+  registered_ends (value p) h = pressing_ends p.released p.press
   registered_ends (refused n) h = refuses n h
 
   repitched_ends : (o : Outcome (Option (Place × Float))) → Among ns o → AllowedAnswer ns (of_repitched o).outcome (of_repitched o).refusal
@@ -115,7 +123,7 @@ module _ (ns : List ℕ) where
   tuning_ends (value (Bend v)) h = done 0 (omega arith)
   tuning_ends (refused n) h = refuses n h
 
-  replied_among : (s : State) (o : Outcome (Press × State)) → Among ns o → Among ns (outcome_and_state s o).0
+  replied_among : (s : State) (o : Outcome (Pressing × State)) → Among ns o → Among ns (outcome_and_state s o).0
   unfolding outcome_and_state
   replied_among s (value r) h = tt
   replied_among s (refused n) h = h
@@ -135,7 +143,8 @@ module _ (ns : List ℕ) where
 called_ends : (c : E.Entry) (room : ℕ) → AllowedAnswer (E.allowed c) (called c room).0 (called c room).1
 called_ends (E.raw_message ch m) room = sent_ends _ (check_room room (message_rule ch m)) (D.demand_1 (E.raw_message ch m) room)
 called_ends (E.channel_tuning kind ch d) room = sent_ends _ (check_room room (channel_tuning_rule kind ch d)) (D.demand_1 (E.channel_tuning kind ch d) room)
-called_ends (E.pool_start cs kind mode) room = list_ends _ (Jit.start_rule cs kind mode).0 (D.demand_1 (E.pool_start cs kind mode) room)
+called_ends (E.pool_start cs kind mode retrigger) room =
+    list_ends _ (Jit.start_rule cs kind mode retrigger).0 (D.demand_1 (E.pool_start cs kind mode retrigger) room)
 called_ends (E.pool_note_on t key hz v) room = press_ends _ (check_room room (Jit.note_on_rule t key hz v)) (D.demand_1 (E.pool_note_on t key hz v) room)
 called_ends (E.pool_note_off t key v) room = sent_ends _ (check_room room (Jit.note_off_rule t key v)) (D.demand_1 (E.pool_note_off t key v) room)
 called_ends (E.pool_note_pitch t key hz) room = sent_ends _ (check_room room (Jit.note_pitch_rule t key hz)) (D.demand_1 (E.pool_note_pitch t key hz) room)
@@ -153,14 +162,31 @@ called_ends (E.plan_note_attr t key p) room = sent_ends _ (check_room room (Aot.
 called_ends (E.plan_global_attr t m) room = sent_ends _ (check_room room (Aot.global_attr_rule t m)) (D.demand_1 (E.plan_global_attr t m) room)
 called_ends (E.plan_stop t) room = sent_ends _ (check_room room (Aot.stop_rule t)) (D.demand_1 (E.plan_stop t) room)
 
+register_among : (s : State) (key : ℕ) (hz : Float) → Among (register_allowed s.retrigger) (register_rule s key hz)
+register_among s key hz = by (register_rule s key hz) refl
+  where
+    ns : List ℕ
+    ns = register_allowed s.retrigger
+
+    one : (r : Retrigger) → member 1 (register_allowed r) ≡ true
+    one Off = refl
+    one On = refl
+
+    by : (o : Outcome (Pressing × State)) → register_rule s key hz ≡ o → Among ns o
+    by (value r) e = tt
+    by (refused n) e =
+        elim ((register_refuses s key hz n).0 e) [
+          | inl h ↦ ap (λ (k : ℕ). member k ns) h.1 ∙ one s.retrigger
+          | inr h ↦ ap (λ (k : ℕ). member k ns) h.1.1 ∙ ap (λ (r : Retrigger). member 11 (register_allowed r)) (not_may_off s key h.1.0)
+        ]
+
 pub demand_1 : (f : Function) → AllowedAnswer (allowed f) (answered f).0 (answered f).1
-unfolding Pools.open_rule M.open_rule register_rule unless_held repitch_rule nearest_rule pitch_rule measure_rule tuning_rule
+unfolding Pools.open_rule M.open_rule repitch_rule nearest_rule pitch_rule measure_rule tuning_rule
 demand_1 (call c room) = called_ends c room
-demand_1 (pool_model_open cs by mode) = list_ends (6 ∷ 7 ∷ []) (list_rule cs) (D.channel_list_among cs)
+demand_1 (pool_model_open cs by mode retrigger) = list_ends (6 ∷ 7 ∷ []) (list_rule cs) (D.channel_list_among cs)
 demand_1 (register_key s key hz) =
-    let ns = allowed (register_key s key hz) in
-    registered_ends ns _
-    (replied_among ns s _ (among_test ns 1 (is_pitch hz) _ refl (among_test ns 11 (not (is_held (found s key))) _ refl tt)))
+    let ns = register_allowed s.retrigger in
+    registered_ends ns _ (replied_among ns s _ (register_among s key hz))
 demand_1 (repitch_key s key hz) = repitched_ends _ _ (among_test (allowed (repitch_key s key hz)) 1 (is_pitch hz) _ refl tt)
 demand_1 (plan_model_open cs by) = list_ends (6 ∷ 7 ∷ []) (list_rule cs) (D.channel_list_among cs)
 demand_1 (plan_model_set_tuning m ks ns ds) = plan_ends (12 ∷ 4 ∷ 3 ∷ 5 ∷ []) m (note_lists ks ns ds) (note_lists_numbers ks ns ds)
@@ -170,11 +196,15 @@ demand_1 (note_pitch note) = pitch_ends _ _ (among_test (allowed (note_pitch not
 demand_1 (measure d) = measure_ends _ _ (among_test (allowed (measure d)) 2 (positive d) _ refl tt)
 demand_1 (tuning_value kind d) = tuning_ends _ _ (among_test (allowed (tuning_value kind d)) 2 (positive d) _ refl tt)
 
+register_known : (r : Retrigger) → Each (λ (n : ℕ). leb 1 n && leb n 13 ≡ true) (register_allowed r)
+register_known Off = (refl, (refl, tt))
+register_known On = (refl, tt)
+
 -- The numbers are those of refusals, from 1 to 13.
 pub numbers_known : (f : Function) → Each (λ (n : ℕ). leb 1 n && leb n 13 ≡ true) (allowed f)
 numbers_known (call c room) = D.numbers_known c
-numbers_known (pool_model_open cs by mode) = (refl, (refl, tt))
-numbers_known (register_key s key hz) = (refl, (refl, tt))
+numbers_known (pool_model_open cs by mode retrigger) = (refl, (refl, tt))
+numbers_known (register_key s key hz) = register_known s.retrigger
 numbers_known (repitch_key s key hz) = (refl, tt)
 numbers_known (plan_model_open cs by) = (refl, (refl, tt))
 numbers_known (plan_model_set_tuning m ks ns ds) = (refl, (refl, (refl, (refl, tt))))
@@ -208,7 +238,7 @@ sent_below n = omega arith
 
 pub press_below : (r : Jit.PressResult) → (of_press (value r)).outcome < 4
 press_below (Jit.press_sent n) = omega arith
-press_below Jit.press_rejected = omega arith
+press_below (Jit.press_rejected n) = omega arith
 
 pub plan_below : (r : Aot.Planned) → (of_plan_sent (value r)).outcome < 4
 plan_below (Aot.plan_tuned n bytes) = omega arith
@@ -225,11 +255,14 @@ plan_open_refused_unchanged (refused n) t old new p h = p
 
 -- This is for a press of a pool model and a tuning of a plan model: the model and the kind beside it are the whole block.
 pub register_refused_unchanged :
-    (s : State) (rule : Outcome (Press × State)) (old new : JitTuner) → StateMeets rule old.model new.model → new.tuning_kind ≡ old.tuning_kind
+    (s : State) (rule : Outcome (Pressing × State)) (old new : JitTuner) → StateMeets rule old.model new.model → new.tuning_kind ≡ old.tuning_kind
     → (of_registered (outcome_and_state s rule).0).outcome ≡ 4 → new ≡ old
 unfolding outcome_and_state
-register_refused_unchanged s (value (accepted c stopped note d, next)) old new p k h = absurd (omega (arith, h))
-register_refused_unchanged s (value (rejected, next)) old new p k h = absurd (omega (arith, h))
+register_refused_unchanged s (value r) old new p k h = by r.0.press h
+  where
+    by : (press : Press) → (of_pressed r.0.released press).outcome ≡ 4 → new ≡ old
+    by (accepted c stopped note d) h = absurd (omega (arith, h))
+    by rejected h = absurd (omega (arith, h))
 register_refused_unchanged s (refused n) old new p k h = rw (p, k)
 
 pub tuning_refused_unchanged :

@@ -1,4 +1,4 @@
--- Pools: no channel is lost, which presses are rejected, refusals.
+-- Pools: no channel is lost, which presses are rejected, refusals, presses of held keys.
 pub mod Occurrences
 pub mod Kept
 pub mod Settings
@@ -9,4 +9,5 @@ pub mod Answers
 pub mod Stop
 pub mod Refusals
 pub mod Presses
+pub mod Retrigger
 pub mod Pitches

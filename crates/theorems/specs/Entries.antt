@@ -6,6 +6,8 @@ use Rattle.channels.specs.Lists.{member}
 use Rattle.channels.specs.Refusal.{channel_over15, buffer_too_short}
 use Rattle.channels.specs.declared.tuning_value.TuningKind.{TuningKind}
 use Rattle.pools.specs.declared.settings.PoolingMode.{PoolingMode}
+use Rattle.pools.specs.declared.settings.Retrigger.{Retrigger}
+use Rattle.pools.specs.declared.settings.Retrigger.TheVariants.{Off, On}
 use Rattle.senders.specs.Buffer.{check_room}
 use Rattle.senders.specs.Message.{Valid, is_channel}
 use Rattle.senders.specs.Midi.{bytes, to_message, check_data, message_rule}
@@ -19,7 +21,7 @@ use Rattle.senders.specs.declared.midi.ChannelMessageType.{ChannelMessageType}
 pub data Entry : Type 0 where
   raw_message : (channel : ℕ) → ChannelMessageType → Entry
   channel_tuning : TuningKind → (channel : ℕ) (detuning : Float) → Entry
-  pool_start : (channels : List ℕ) → TuningKind → PoolingMode → Entry
+  pool_start : (channels : List ℕ) → TuningKind → PoolingMode → Retrigger → Entry
   pool_note_on : Pool.Tuner → (key : ℕ) (hz : Float) (velocity : ℕ) → Entry
   pool_note_off : Pool.Tuner → (key velocity : ℕ) → Entry
   pool_note_pitch : Pool.Tuner → (key : ℕ) (hz : Float) → Entry
@@ -35,12 +37,17 @@ pub data Entry : Type 0 where
   plan_global_attr : Plan.Tuner → ChannelMessageType → Entry
   plan_stop : Plan.Tuner → Entry
 
+-- SPEC 2.2, 7.2d: a press of a held key is refused by 11, but with retrigger it is not.
+abbrev pub press_allowed : Retrigger → List ℕ
+press_allowed Off = 8 ∷ 1 ∷ 11 ∷ 10 ∷ []
+press_allowed On = 8 ∷ 1 ∷ 10 ∷ []
+
 -- SPEC 2.2: the numbers that a call may be refused by.
 abbrev pub allowed : Entry → List ℕ
 allowed (raw_message ch m) = 6 ∷ 8 ∷ 9 ∷ 10 ∷ []
 allowed (channel_tuning kind ch d) = 6 ∷ 2 ∷ 10 ∷ []
-allowed (pool_start cs kind mode) = 6 ∷ 7 ∷ []
-allowed (pool_note_on t key hz v) = 8 ∷ 1 ∷ 11 ∷ 10 ∷ []
+allowed (pool_start cs kind mode retrigger) = 6 ∷ 7 ∷ []
+allowed (pool_note_on t key hz v) = press_allowed t.pool.retrigger
 allowed (pool_note_off t key v) = 8 ∷ 10 ∷ []
 allowed (pool_note_pitch t key hz) = 1 ∷ 10 ∷ []
 allowed (pool_note_attr t key p) = 8 ∷ 10 ∷ []
@@ -55,16 +62,16 @@ allowed (plan_note_attr t key p) = 8 ∷ 10 ∷ []
 allowed (plan_global_attr t m) = 8 ∷ 9 ∷ 10 ∷ []
 allowed (plan_stop t) = []
 
-abbrev pub event_allowed : EventKind → List ℕ
-event_allowed Press = 8 ∷ 1 ∷ 11 ∷ 10 ∷ []
-event_allowed Release = 8 ∷ 10 ∷ []
-event_allowed Repitch = 1 ∷ 10 ∷ []
+abbrev pub event_allowed : Retrigger → EventKind → List ℕ
+event_allowed retrigger Press = press_allowed retrigger
+event_allowed retrigger Release = 8 ∷ 10 ∷ []
+event_allowed retrigger Repitch = 1 ∷ 10 ∷ []
 
 -- What is said of the way in which the call ends, with a buffer of so many bytes.
 abbrev pub Ends : ((A : Type 0) → Outcome A → Type 0) → Entry → ℕ → Type 0
 Ends Holds (raw_message ch m) room = Holds _ (check_room room (message_rule ch m))
 Ends Holds (channel_tuning kind ch d) room = Holds _ (check_room room (channel_tuning_rule kind ch d))
-Ends Holds (pool_start cs kind mode) room = Holds _ (Pool.start_rule cs kind mode).0
+Ends Holds (pool_start cs kind mode retrigger) room = Holds _ (Pool.start_rule cs kind mode retrigger).0
 Ends Holds (pool_note_on t key hz v) room = Holds _ (check_room room (Pool.note_on_rule t key hz v))
 Ends Holds (pool_note_off t key v) room = Holds _ (check_room room (Pool.note_off_rule t key v))
 Ends Holds (pool_note_pitch t key hz) room = Holds _ (check_room room (Pool.note_pitch_rule t key hz))

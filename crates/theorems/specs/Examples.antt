@@ -15,7 +15,8 @@ use Rattle.plans.specs.Plan.{Model, PlanAnswer, tuned, empty, set_tuning}
 use Rattle.pools.specs.declared.settings.PoolGroupBy.TheVariants.{Channel as PoolGroup}
 use Rattle.pools.specs.declared.settings.PoolingMode.{PoolingMode}
 use Rattle.pools.specs.declared.settings.PoolingMode.TheVariants.{Stop}
-use Rattle.pools.specs.Pool.{State, found, released, open_rule, Press, accepted, register_rule, outcome_and_state}
+use Rattle.pools.specs.declared.settings.Retrigger.TheVariants.{Off}
+use Rattle.pools.specs.Pool.{State, found, released, open_rule, Press, Pressing, accepted, register_rule, outcome_and_state}
 use Rattle.senders.specs.Buffer.{sent}
 use Rattle.senders.specs.Mts.{channel_tuning_rule}
 
@@ -63,19 +64,22 @@ Ten = (ten.1 ≡ tuned 1) × (ten.0.keys 3 ≡ some (0, pos 69)) × (ten.0.detun
 
 -- ---- pools
 
--- A model with two channels, and what a press answers there and leaves.
+-- A model with two channels and without retrigger, and what a press answers there and leaves: in the examples it releases nothing first.
 unfoldable pub two_channels : PoolingMode → State
-two_channels mode = (open_rule (0 ∷ 1 ∷ []) PoolGroup mode).1
+two_channels mode = (open_rule (0 ∷ 1 ∷ []) PoolGroup mode Off).1
 
-unfoldable pub answer : State → (key : ℕ) (hz : Float) → Outcome Press
+unfoldable pub answer : State → (key : ℕ) (hz : Float) → Outcome Pressing
 answer s key hz = (outcome_and_state s (register_rule s key hz)).0
 
 unfoldable pub next : State → (key : ℕ) (hz : Float) → State
 next s key hz = (outcome_and_state s (register_rule s key hz)).1
 
+abbrev pub without_release : Press → Outcome Pressing
+without_release p = value (record { released = none; press = p })
+
 -- An accepted press takes the nearest note, and stops none.
-unfoldable pub accepted_on : (channel : ℕ) (hz : Float) → Outcome Press
-accepted_on channel hz = value (accepted channel none (nearest_note hz) (detuning_of hz (nearest_note hz)))
+unfoldable pub accepted_on : (channel : ℕ) (hz : Float) → Outcome Pressing
+accepted_on channel hz = without_release (accepted channel none (nearest_note hz) (detuning_of hz (nearest_note hz)))
 
 -- Example 11: with two channels, press 1, release 1, press 2 take channels 0 and then 1.
 abbrev pub Eleven : Type 0
@@ -86,7 +90,7 @@ Eleven = (mode : PoolingMode) (x y : Float) → is_pitch x ≡ true → is_pitch
 abbrev pub Twelve : Type 0
 Twelve = (x y z : Float) → is_pitch x ≡ true → is_pitch y ≡ true → is_pitch z ≡ true
     → let s = next (next (two_channels Stop) 1 x) 2 y in
-    (answer s 3 z ≡ value (accepted 0 (some (nearest_note x)) (nearest_note z) (detuning_of z (nearest_note z)))) × (found (next s 3 z) 1 ≡ none)
+    (answer s 3 z ≡ without_release (accepted 0 (some (nearest_note x)) (nearest_note z) (detuning_of z (nearest_note z)))) × (found (next s 3 z) 1 ≡ none)
 
 -- ---- all twelve
 

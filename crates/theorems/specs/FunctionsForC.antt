@@ -12,6 +12,8 @@ use Rattle.plans.specs.Plan.{Model, open_rule, set_tuning, set_tuning_of_pitches
 use Rattle.plans.specs.declared.aot.GroupBy.{GroupBy}
 use Rattle.pools.specs.declared.settings.PoolGroupBy.{PoolGroupBy}
 use Rattle.pools.specs.declared.settings.PoolingMode.{PoolingMode}
+use Rattle.pools.specs.declared.settings.Retrigger.{Retrigger}
+use Rattle.pools.specs.declared.settings.Retrigger.TheVariants.{Off, On}
 use Rattle.channels.specs.declared.tuning_value.TuningKind.{TuningKind}
 use Rattle.senders.specs.Buffer.{check_room, result_of}
 use Rattle.senders.specs.Midi.{message_rule}
@@ -25,7 +27,7 @@ use Rattle.theorems.specs.Entries as E
 pub data Function : Type 0 where
   -- A call of the tuners or of messages, with the room of the buffer.
   call : E.Entry → (room : ℕ) → Function
-  pool_model_open : (channels : List ℕ) → PoolGroupBy → PoolingMode → Function
+  pool_model_open : (channels : List ℕ) → PoolGroupBy → PoolingMode → Retrigger → Function
   register_key : Pools.State → (key : ℕ) (hz : Float) → Function
   repitch_key : Pools.State → (key : ℕ) (hz : Float) → Function
   plan_model_open : (channels : List ℕ) → GroupBy → Function
@@ -43,7 +45,7 @@ fields a = (a.outcome, a.refusal)
 abbrev pub called : E.Entry → ℕ → ℕ × ℕ
 called (E.raw_message ch m) room = fields (of_sent (result_of (check_room room (message_rule ch m))))
 called (E.channel_tuning kind ch d) room = fields (of_sent (result_of (check_room room (channel_tuning_rule kind ch d))))
-called (E.pool_start cs kind mode) room = fields (of_list (Jit.start_rule cs kind mode).0)
+called (E.pool_start cs kind mode retrigger) room = fields (of_list (Jit.start_rule cs kind mode retrigger).0)
 called (E.pool_note_on t key hz v) room = fields (of_press (result_of (check_room room (Jit.note_on_rule t key hz v))))
 called (E.pool_note_off t key v) room = fields (of_sent (result_of (check_room room (Jit.note_off_rule t key v))))
 called (E.pool_note_pitch t key hz) room = fields (of_sent (result_of (check_room room (Jit.note_pitch_rule t key hz))))
@@ -61,7 +63,7 @@ called (E.plan_stop t) room = fields (of_sent (result_of (check_room room (Aot.s
 
 abbrev pub answered : Function → ℕ × ℕ
 answered (call c room) = called c room
-answered (pool_model_open cs by mode) = fields (of_list (Pools.open_rule cs by mode).0)
+answered (pool_model_open cs by mode retrigger) = fields (of_list (Pools.open_rule cs by mode retrigger).0)
 answered (register_key s key hz) = let a = of_registered (Pools.outcome_and_state s (Pools.register_rule s key hz)).0 in (a.outcome, a.refusal)
 answered (repitch_key s key hz) = let a = of_repitched (Pools.repitch_rule s key hz) in (a.outcome, a.refusal)
 answered (plan_model_open cs by) = fields (of_list (open_rule cs by).0)
@@ -72,11 +74,16 @@ answered (note_pitch note) = let a = of_pitch (pitch_rule note) in (a.outcome, a
 answered (measure d) = let a = of_measure (measure_rule d) in (a.outcome, a.refusal)
 answered (tuning_value kind d) = let a = of_tuning (tuning_rule kind d) in (a.outcome, a.refusal)
 
+-- SPEC 2.2, 7.2d: a press of a held key is refused by 11, but with retrigger it is not.
+abbrev pub register_allowed : Retrigger → List ℕ
+register_allowed Off = 1 ∷ 11 ∷ []
+register_allowed On = 1 ∷ []
+
 -- SPEC 2.2: the numbers that a function may be refused by.
 abbrev pub allowed : Function → List ℕ
 allowed (call c room) = E.allowed c
-allowed (pool_model_open cs by mode) = 6 ∷ 7 ∷ []
-allowed (register_key s key hz) = 1 ∷ 11 ∷ []
+allowed (pool_model_open cs by mode retrigger) = 6 ∷ 7 ∷ []
+allowed (register_key s key hz) = register_allowed s.retrigger
 allowed (repitch_key s key hz) = 1 ∷ []
 allowed (plan_model_open cs by) = 6 ∷ 7 ∷ []
 allowed (plan_model_set_tuning m ks ns ds) = 12 ∷ 4 ∷ 3 ∷ 5 ∷ []

@@ -7,6 +7,7 @@ use Rattle.pools.specs.Pool.{key_count, Pool, State, open_rule, found, released,
 use Rattle.pools.specs.View.{register_note_rule}
 use Rattle.pools.specs.declared.settings.PoolGroupBy.{PoolGroupBy}
 use Rattle.pools.specs.declared.settings.PoolingMode.{PoolingMode}
+use Rattle.pools.specs.declared.settings.Retrigger.{Retrigger}
 
 -- A call, with any key that there is and any f64; presses and repitches may be refused, presses rejected. A press may also be for any note and detuning
 -- (SPEC 7.2a).
@@ -31,12 +32,12 @@ run s [] = s
 run s (c ∷ cs) = run (step s c) cs
 
 -- The model that any calls have led to, from one that was opened.
-abbrev pub reached : List ℕ → PoolGroupBy → PoolingMode → List Call → State
-reached channels group mode calls = run (open_rule channels group mode).1 calls
+abbrev pub reached : List ℕ → PoolGroupBy → PoolingMode → Retrigger → List Call → State
+reached channels group mode retrigger calls = run (open_rule channels group mode retrigger).1 calls
 
--- SPEC 7.3d: the press is rejected, and the state stays.
+-- SPEC 7.2d, 7.3d: the press is rejected, and the state is that of the release that it began with.
 abbrev pub Rejects : State → (key : ℕ) (hz : Float) → Type 0
-Rejects s key hz = register_rule s key hz ≡ value (rejected, s)
+Rejects s key hz = register_rule s key hz ≡ value (record { released = found s key; press = rejected }, released s key)
 
 -- ---- SPEC 7.8: where the channels of a pool stand
 

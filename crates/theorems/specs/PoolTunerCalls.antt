@@ -6,9 +6,10 @@ use Rattle.theorems.specs.PoolCalls.{Call as Pool-as-Call, step as Pool·step}
 use Rattle.senders.specs.Buffer.{check_room, state_after}
 use Rattle.channels.specs.declared.tuning_value.TuningKind.{TuningKind}
 use Rattle.pools.specs.declared.settings.PoolingMode.{PoolingMode}
+use Rattle.pools.specs.declared.settings.Retrigger.{Retrigger}
 use Rattle.senders.specs.Event.{play_rule}
 use Rattle.senders.specs.declared.event.Event.{Event}
-use Rattle.senders.specs.Jit.{Tuner, with_pool, start_rule, note_on_rule, note_off_rule, stop_rule}
+use Rattle.senders.specs.Jit.{Tuner, PressResult, press_sent, press_rejected, with_pool, start_rule, note_on_rule, note_off_rule, stop_rule}
 
 -- Any key that there is, any f64, any velocity and any room may be passed: calls may be refused, and presses rejected. Any call of the pool model may be
 -- made too, on the tuner's own model.
@@ -31,5 +32,10 @@ run t [] = t
 run t (c ∷ cs) = run (step t c) cs
 
 -- The tuner that any calls have led to, from one that was started.
-abbrev pub reached : List ℕ → TuningKind → PoolingMode → List Call → Tuner
-reached channels kind mode calls = run (start_rule channels kind mode).1 calls
+abbrev pub reached : List ℕ → TuningKind → PoolingMode → Retrigger → List Call → Tuner
+reached channels kind mode retrigger calls = run (start_rule channels kind mode retrigger).1 calls
+
+-- The same answer of a press, with another count of bytes.
+abbrev pub with_count : PressResult → ℕ → PressResult
+with_count (press_sent n) count = press_sent count
+with_count (press_rejected n) count = press_rejected count

@@ -1,15 +1,15 @@
 // Whole passages on the pool tuner: the console's sample session, every mode and both tuning kinds, notes without a number, unknown keys, messages to all,
 // `stop`, and every refusal.
 
-use crate::shown::{Answer, LISTS, Played, look_up, play, started};
+use crate::shown::{Answer, LISTS, Played, in_rooms, look_up, play, started};
 use arithmetic::refusal::Refusal;
 use channels::list::ChannelList;
 use channels::tuning_value::TuningKind;
 use channels::{Pitch, Ratio};
-use pools::jit::PoolingMode;
+use pools::jit::{JitTuningModel, PoolGroupBy, PoolingMode, Retrigger};
 use printing::answers::At;
 use senders::event::{Event, EventKind};
-use senders::jit::JitTuner;
+use senders::jit::{JitTuner, Pressed};
 use senders::midi::ChannelMessageType;
 use senders::mts::{channel_fine_tuning, channel_pitch_bend};
 use std::io::Write;
@@ -86,7 +86,12 @@ impl Played for JitTuner {
     type Call = Call;
 
     fn opened(channels: &[u8]) -> (JitTuner, Result<ChannelList, Refusal>) {
-        JitTuner::start(channels, TuningKind::Bend, PoolingMode::Stop)
+        JitTuner::start(
+            channels,
+            TuningKind::Bend,
+            PoolingMode::Stop,
+            Retrigger::Off,
+        )
     }
 
     fn perform(&mut self, call: Call, out: &mut [u8]) -> Result<Answer, Refusal> {
@@ -147,8 +152,11 @@ fn event_by_value(
     }
 }
 
-fn pressed(answer: Result<Option<usize>, Refusal>) -> Result<Answer, Refusal> {
-    answer.map(|sent| sent.map_or(Answer::Rejected, Answer::Sent))
+fn pressed(answer: Result<Pressed, Refusal>) -> Result<Answer, Refusal> {
+    answer.map(|press| match press {
+        Pressed::Sent(count) => Answer::Sent(count),
+        Pressed::Rejected(count) => Answer::Rejected(count),
+    })
 }
 
 // ---- the passages
@@ -165,7 +173,8 @@ pub fn all(out: &mut impl Write) -> io::Result<()> {
         }
     }
     lists(out)?;
-    detunings(out)
+    detunings(out)?;
+    retrigger(out)
 }
 
 fn sample(out: &mut impl Write) -> io::Result<()> {
@@ -173,7 +182,12 @@ fn sample(out: &mut impl Write) -> io::Result<()> {
         out,
         "-- SPEC 10.5, 9.2: the console's sample, a pool tuner of MIDI channels 0 and 1, FineTuning, Stop"
     )?;
-    let (mut tuner, _) = JitTuner::start(&[0, 1], TuningKind::FineTuning, PoolingMode::Stop);
+    let (mut tuner, _) = JitTuner::start(
+        &[0, 1],
+        TuningKind::FineTuning,
+        PoolingMode::Stop,
+        Retrigger::Off,
+    );
     play(
         out,
         &mut tuner,
@@ -188,7 +202,7 @@ fn passage(out: &mut impl Write, kind: TuningKind, mode: PoolingMode) -> io::Res
         out,
         "-- SPEC 9.2, 7.3: presses, on a pool tuner of MIDI channels 3, 15 and 0, {kind:?}, {mode:?}; 9.5: notes without a MIDI number"
     )?;
-    let (mut tuner, _) = JitTuner::start(&[3, 15, 0], kind, mode);
+    let (mut tuner, _) = JitTuner::start(&[3, 15, 0], kind, mode, Retrigger::Off);
     let tuner = &mut tuner;
     play(
         out,
@@ -359,7 +373,12 @@ fn detunings(out: &mut impl Write) -> io::Result<()> {
         (0, 0.0 / 0.0),
         (0, 1.0 / 0.0),
     ] {
-        let (mut tuner, _) = JitTuner::start(&[], TuningKind::Bend, PoolingMode::Block);
+        let (mut tuner, _) = JitTuner::start(
+            &[],
+            TuningKind::Bend,
+            PoolingMode::Block,
+            Retrigger::Off,
+        );
         play(
             out,
             &mut tuner,
@@ -368,6 +387,103 @@ fn detunings(out: &mut impl Write) -> io::Result<()> {
                 Call::Bend { channel, detuning },
             ],
         )?;
+    }
+    Ok(())
+}
+
+// ---- keys that are held pressed again
+
+// A tuner with retrigger.
+fn with_retrigger(
+    out: &mut impl Write,
+    channels: &[u8],
+    kind: TuningKind,
+    mode: PoolingMode,
+) -> io::Result<JitTuner> {
+    writeln!(
+        out,
+        "  start on MIDI channels {channels:?}, {kind:?}, {mode:?}, with retrigger"
+    )?;
+    Ok(JitTuner::start(channels, kind, mode, Retrigger::On).0)
+}
+
+fn retrigger(out: &mut impl Write) -> io::Result<()> {
+    writeln!(
+        out,
+        "-- SPEC 7.2d, 9.2e: retrigger: a held key is released with velocity 0 and pressed again, here on the other channel; 2.2: refused (8), (1), (10)"
+    )?;
+    for mode in [PoolingMode::Block, PoolingMode::Stop, PoolingMode::Ignore] {
+        let mut tuner = with_retrigger(out, &[0, 1], TuningKind::FineTuning, mode)?;
+        play(out, &mut tuner, &[press(1, 440.0, 100)])?;
+        // The release is three bytes of the eighteen.
+        in_rooms(out, &tuner, press(1, 455.0, 90), &[17, 3, 2])?;
+        play(
+            out,
+            &mut tuner,
+            &[
+                press(1, 440.0, 128),
+                press(1, 0.0, 90),
+                press(1, 455.0, 90),
+                press(2, 500.0, 80),
+                press(1, 440.0, 70),
+                press(3, 600.0, 60),
+                Call::Stop,
+            ],
+        )?;
+    }
+    writeln!(
+        out,
+        "-- SPEC 7.3, 7.2d, Ignore: a key that has lost its channel is pressed again: its note-off frees nothing, and the other key loses the channel"
+    )?;
+    let mut tuner = with_retrigger(out, &[4], TuningKind::Bend, PoolingMode::Ignore)?;
+    play(
+        out,
+        &mut tuner,
+        &[
+            press(1, 440.0, 100),
+            press(2, 500.0, 90),
+            press(1, 455.0, 80),
+            release(2, 64),
+            release(1, 64),
+        ],
+    )?;
+    writeln!(
+        out,
+        "-- SPEC 7.2d, 9.5: a key whose note has no MIDI number is released without a note-off"
+    )?;
+    let mut tuner = with_retrigger(out, &[4], TuningKind::Bend, PoolingMode::Stop)?;
+    play(
+        out,
+        &mut tuner,
+        &[press(1, 20000.0, 100), press(1, 440.0, 90)],
+    )?;
+    look_up(out, &tuner, 1)?;
+    letters(out)
+}
+
+fn letters(out: &mut impl Write) -> io::Result<()> {
+    writeln!(
+        out,
+        "-- SPEC 9.1, 9.2e, 7.3: a key is pressed again for another letter, whose pool is full: rejected after the release, or the other key is stopped too"
+    )?;
+    for mode in [PoolingMode::Block, PoolingMode::Stop] {
+        writeln!(
+            out,
+            "  a tuner of a pool model of MIDI channels [3], group by NoteLetter, Bend, {mode:?}, with retrigger"
+        )?;
+        let (model, _) = JitTuningModel::open(&[3], PoolGroupBy::NoteLetter, mode, Retrigger::On);
+        let mut tuner = JitTuner::of(model, TuningKind::Bend);
+        play(
+            out,
+            &mut tuner,
+            &[
+                press(1, 440.0, 100),
+                press(2, 466.0, 90),
+                press(1, 466.0, 80),
+            ],
+        )?;
+        look_up(out, &tuner, 1)?;
+        look_up(out, &tuner, 2)?;
     }
     Ok(())
 }

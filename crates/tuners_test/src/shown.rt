@@ -14,8 +14,8 @@ const FILLER: u8 = 0xaa;
 pub enum Answer {
     // How many bytes it sent.
     Sent(usize),
-    // Nothing, for a press that is rejected.
-    Rejected,
+    // The bytes of the release that a press begins with which is then rejected.
+    Rejected(usize),
     // How many channels a plan uses, and how many bytes its tuning sent.
     Tuned { channels: u16, written: usize },
     // How many channels a plan would need.
@@ -26,12 +26,12 @@ impl Answer {
     // How many bytes the call sent.
     fn count(self) -> usize {
         match self {
-            Answer::Sent(count) => count,
+            Answer::Sent(count) | Answer::Rejected(count) => count,
             Answer::Tuned {
                 channels: _,
                 written,
             } => written,
-            Answer::Rejected | Answer::Untuned(_) => 0,
+            Answer::Untuned(_) => 0,
         }
     }
 }
@@ -60,7 +60,8 @@ impl fmt::Display for Shown<'_> {
     fn fmt<W: fmt::Write>(&self, f: &mut fmt::Formatter<W>) -> fmt::Result {
         match self.answer {
             Ok(Answer::Sent(_)) => write!(f, "{}", Sent(self.sent))?,
-            Ok(Answer::Rejected) => write!(f, "rejected")?,
+            Ok(Answer::Rejected(0)) => write!(f, "rejected")?,
+            Ok(Answer::Rejected(_)) => write!(f, "{}; rejected", Sent(self.sent))?,
             Ok(
                 Answer::Tuned {
                     channels,
@@ -121,6 +122,20 @@ fn play_one<T: Played>(out: &mut impl Write, tuner: &mut T, call: T::Call) -> io
         write!(out, "{}", ByValue(same))?;
     }
     try_short(out, before, call, sent_by(answer).saturating_sub(1))?;
+    writeln!(out)
+}
+
+// Makes a call on copies of a tuner, each with so much room.
+pub fn in_rooms<T: Played>(
+    out: &mut impl Write,
+    tuner: &T,
+    call: T::Call,
+    rooms: &[usize],
+) -> io::Result<()> {
+    write!(out, "  {call}")?;
+    for &room in rooms {
+        try_short(out, *tuner, call, room)?;
+    }
     writeln!(out)
 }
 

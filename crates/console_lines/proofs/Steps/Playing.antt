@@ -10,8 +10,6 @@ use lib.Ieee.{Float}
 use lib.ListN.{length, take, drop, length-append}
 use lib.Seq.{take_at, take-append-le}
 use borrow.Author.Tests.{le-leb}
-use Rattle.std.specs.Prelude.{Some, None, unwrap_or}
-use Rattle.std.specs.Prelude.{Option as Optional}
 use Rattle.arithmetic.proofs.Rules.Outcomes.{no_value}
 use Rattle.arithmetic.specs.Refusal.{number}
 use Rattle.arithmetic.specs.declared.refusal.Refusal.{Refusal}
@@ -22,10 +20,9 @@ use Rattle.channels.specs.Refusal.{buffer_too_short}
 use Rattle.arithmetic.specs.declared.pitch.Pitch.{Pitch}
 use Rattle.arithmetic.specs.Pitch.{is_pitch, detuning_of}
 use Rattle.arithmetic.specs.Nearest.{nearest_note}
-use Rattle.channels.specs.Places.{Place, is_held}
-use Rattle.pools.specs.Pool.{State, Press as Pressing, found, released, pressed, unless_held, register_rule, tuning, repitch_rule}
+use Rattle.channels.specs.Places.{Place}
+use Rattle.pools.specs.Pool.{State, Pressing, found, released, may_press, repeated, unless_held, register_rule, tuning, repitch_rule}
 use Rattle.senders.specs.Buffer.{Effect, sends, sent, CallMeets, WriteMeets}
-use Rattle.senders.specs.Answers.{pressed as press_result_of}
 use Rattle.senders.specs.Jit.{Tuner, with_pool, PressResult, press_effect, repitch_effect, note_off_rule}
 use Rattle.senders.specs.Event.{as_press, with_same_tuner, call_rule, play_rule, count, Counts}
 use Rattle.senders.specs.Message.{is_data}
@@ -52,10 +49,6 @@ use Rattle.senders.specs.declared.event.EventKind.TheVariants.{Press, Release, R
 abbrev pub bytes_counted : Outcome PressResult → Outcome ℕ
 bytes_counted (value p) = value (count p)
 bytes_counted (refused n) = refused n
-
-pub bytes_counted_sent : (o : Optional ℕ) → value (unwrap_or o 0) ≡ bytes_counted (value (press_result_of o))
-bytes_counted_sent (Some n) = refl
-bytes_counted_sent None = refl
 
 -- what was played, by the bytes it sends
 played_meets : {T : Type 0} {view : T → Tuner} {t back : T} {old new : List ℕ} {a : Outcome PressResult} (rule : Outcome (Effect PressResult Tuner))
@@ -96,10 +89,10 @@ pub malformed_meets : {T : Type 0} {view : T → Tuner} (u : Tuner) {t : T} {old
 unfolding event_rule
 malformed_meets u e h = rw (← e, h) (record { result_is = refl; state_is = refl; buffer_is = refl })
 
--- ---- an event's effect: bytes that are counted, and no more than 18; or a refusal
+-- ---- an event's effect: bytes that are counted, and no more than 21; or a refusal
 
 pub data Effected (o : Outcome (Effect ℕ Tuner)) : Type 0 where
-  sending : (bs : List ℕ) (t : Tuner) → o ≡ sends bs t → length bs ≤ 18 → Effected o
+  sending : (bs : List ℕ) (t : Tuner) → o ≡ sends bs t → length bs ≤ 21 → Effected o
   refusing : (n : ℕ) → o ≡ refused n → Effected o
 
 played_effect : (o : Outcome (Effect PressResult Tuner)) → Counts count o → Effected (bytes_alone o)
@@ -133,7 +126,7 @@ sent_longer {o} {n} {back} {new} w rest =
 -- it was refused: by its rule, or for want of room
 pub data Unsent (o : Outcome (Effect ℕ Tuner)) (room n : ℕ) : Type 0 where
   by_rule : o ≡ refused n → Unsent o room n
-  by_room : (bs : List ℕ) (t : Tuner) → o ≡ sends bs t → length bs ≤ 18 → room < length bs → n ≡ 10 → Unsent o room n
+  by_room : (bs : List ℕ) (t : Tuner) → o ≡ sends bs t → length bs ≤ 21 → room < length bs → n ≡ 10 → Unsent o room n
 
 module _ {T : Type 0} {view : T → Tuner} {o : Outcome (Effect ℕ Tuner)} {t back : T} {old new : List ℕ} {n : ℕ} where
   pub value_sent : Effected o → CallMeets view o t old (value n) back new → SentHere o n (view back) new
@@ -165,7 +158,7 @@ unfolding register_rule unless_held
 register_roomy s key hz =
     let note = nearest_note hz in
     roomy_unless 1 (is_pitch hz) (unless_held s key note (detuning_of hz note)) refl
-    (roomy_unless 11 (not (is_held (found s key))) (value (pressed s key note (detuning_of hz note))) refl refl)
+    (roomy_unless 11 (may_press s key) (value (repeated s key note (detuning_of hz note))) refl refl)
 
 repitch_roomy : (s : State) (key : ℕ) (hz : Float) → roomy (repitch_rule s key hz) ≡ true
 unfolding repitch_rule
@@ -290,7 +283,7 @@ module _ {T : Type 0} {view : T → Tuner} (u : Tuner) (line : List ℕ) where
 
   -- the tuner was refused for want of room: there is none for the answer's line
   pub unsent_short : {t back : T} {out : List ℕ} {room n : ℕ} → Unsent (event_rule u (meaning line)) room n × (back ≡ t)
-      → n ≡ 10 → room ≡ min (length out / 3) 18
+      → n ≡ 10 → room ≡ min (length out / 3) 21
       → CallMeets view (line_rule u line) t out (refused n) back out
   unsent_short {t} {back} {out} {room} {n} h ten fits = rw (h.1, ten) (go h.0)
     where

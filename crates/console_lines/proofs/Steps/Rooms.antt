@@ -1,4 +1,4 @@
--- How much room an answer needs: with 54 bytes a step uses some of its piece.
+-- How much room an answer needs: with 63 bytes a step uses some of its piece.
 use Prim.Native.Nat.{ℕ, ◌+◌, ◌*◌, ◌-◌, ◌/◌, ◌%◌, ◌≤◌, ◌<◌}
 use native.Mathlib.Omega.{arith}
 use mathlib.Core.Bool.{Bool, true, false, cond}
@@ -18,7 +18,7 @@ use Rattle.console_lines.specs.declared.step.Step.{Step}
 use Rattle.console_lines.proofs.Text.Shows.{length_bytes_line}
 use Rattle.console_lines.proofs.Steps.Playing.{Effected, sending, refusing, event_effected}
 
-refusal_size : (n : ℕ) → (2 ≤ length (refusal_line n)) × (length (refusal_line n) ≤ 54)
+refusal_size : (n : ℕ) → (2 ≤ length (refusal_line n)) × (length (refusal_line n) ≤ 63)
 unfolding refusal_line decimal_of
 refusal_size n = go (ltb n 10) (ltb n 100)
   where
@@ -28,7 +28,7 @@ refusal_size n = go (ltb n 10) (ltb n 100)
         (cond y ((48 + n / 10) ∷ (48 + n % 10) ∷ [])
         ((48 + n / 100) ∷ (48 + n / 10 % 10) ∷ (48 + n % 10) ∷ [])) ++ (10 ∷ [])
 
-    go : (x y : Bool) → (2 ≤ length (line x y)) × (length (line x y) ≤ 54)
+    go : (x y : Bool) → (2 ≤ length (line x y)) × (length (line x y) ≤ 63)
     go true y = (omega arith, omega arith)
     go false true = (omega arith, omega arith)
     go false false = (omega arith, omega arith)
@@ -42,32 +42,32 @@ bytes_size (b ∷ bs) room h k = let l = length_bytes_line (b ∷ bs) (omega ari
 pub bytes_fit : (bs : List ℕ) (room : ℕ) → 2 ≤ room → 3 * length bs ≤ room → length (bytes_line bs) ≤ room
 bytes_fit bs room h k = (bytes_size bs room h k).1
 
-shown_size : (o : Outcome (Effect ℕ Tuner)) → Effected o → (2 ≤ length (shown o)) × (length (shown o) ≤ 54)
+shown_size : (o : Outcome (Effect ℕ Tuner)) → Effected o → (2 ≤ length (shown o)) × (length (shown o) ≤ 63)
 unfolding shown
-shown_size o (sending bs t e h) = rw e (bytes_size bs 54 (omega arith) (omega arith))
+shown_size o (sending bs t e h) = rw e (bytes_size bs 63 (omega arith) (omega arith))
 shown_size o (refusing n e) = rw e (refusal_size n)
 
 module _ (t : Tuner) (line : List ℕ) where
-  answer_size : (2 ≤ length (answer t line)) × (length (answer t line) ≤ 54)
+  answer_size : (2 ≤ length (answer t line)) × (length (answer t line) ≤ 63)
   unfolding answer
   answer_size = shown_size (event_rule t (meaning line)) (event_effected t (meaning line))
 
   pub answer_least : 2 ≤ length (answer t line)
   answer_least = answer_size.0
 
-  pub answer_room : length (answer t line) ≤ 54
+  pub answer_room : length (answer t line) ≤ 63
   answer_room = answer_size.1
 
-text_room : (s : ConsoleState) (b : ℕ) → length (byte_answer s b) ≤ 54
+text_room : (s : ConsoleState) (b : ℕ) → length (byte_answer s b) ≤ 63
 unfolding byte_answer
 text_room s b = go (eqb b feed)
   where
-    go : (t : Bool) → length (cond t (answer s.tuner s.begun) []) ≤ 54
+    go : (t : Bool) → length (cond t (answer s.tuner s.begun) []) ≤ 63
     go true = answer_room s.tuner s.begun
     go false = omega arith
 
 -- a step over a piece that is not empty, with that much room, uses some of it
-pub rule_uses : (room : ℕ) (s : ConsoleState) (piece : List ℕ) → 54 ≤ room → 0 < length piece → 0 < (step_rule room s piece).used
+pub rule_uses : (room : ℕ) (s : ConsoleState) (piece : List ℕ) → 63 ≤ room → 0 < length piece → 0 < (step_rule room s piece).used
 unfolding step_rule
 rule_uses room s [] h l = absurd (omega arith)
 rule_uses room s (b ∷ bs) h l = rw (le-leb (length (byte_answer s b)) room (omega (arith, text_room s b))) (omega arith)

@@ -5,16 +5,16 @@ ghost use Rattle.arithmetic.specs.Answers.{outcome_by};
 ghost use Rattle.channels.specs.Places.{place, place_in};
 ghost use Rattle.pools.specs.Pool.{pool, found, held_at, oldest, freed, without_key, taken, outcome_and_state, pressed, unless_held};
 ghost use Rattle.pools.specs.PoolAnswers.{press_outcome, registered_view};
-ghost use Rattle.pools.specs.PoolInternal.{held_place, held_by, press_of, press_and_state, allocated_channel, with_channel_free};
+ghost use Rattle.pools.specs.PoolInternal.{held_place, held_by, press_of, press_and_state, allocated_channel, with_channel_free, release_rule};
 ghost use Rattle.pools.specs.View.{pool_in, view, StateMeets};
 
-use super::{JitTuningModel, Registered};
+use super::{JitTuningModel, Pressing, Registered};
 use crate::pool::Pool;
-use crate::settings::{PoolGroupBy, PoolingMode};
+use crate::settings::{PoolGroupBy, PoolingMode, Retrigger};
 use arithmetic::note::Note;
 use arithmetic::refusal::Refusal;
 use channels::channel::Channel;
-use channels::keys::{Place, is_found};
+use channels::keys::Place;
 
 // A key on a channel of its note's pool. That is channel i of the model, a place in the channel list, which has at most sixteen, so that i is a `Channel` too.
 // It is lent: the steps of a press and of a release that take it by value take a ninth more instructions.
@@ -90,20 +90,26 @@ impl JitTuningModel {
         })
     }
 
-    // The channel for a press of a key; none where none is free. Refuses 11 a key that is held.
-    #[tactic(auto, using(crate::proofs::Models::Views::key_here), unfolding(crate::specs::Pool::unless_held))]
-    pub(super) fn allocation(&self, key: u8, note: Note) -> Result<Option<Allocation>, Refusal>
-        ensures { (d : Float) → unless_held (view self.now) key note.number d ≡ outcome_by (press_and_state (view self.now) key note.number d) result }
+    // A key that is held is released for its next press; where it was. Refuses 11 a held key of a model without retrigger (SPEC 7.2b, 7.2d).
+    fn release_for_press(&mut self, key: u8) -> Result<Option<Place>, Refusal>
+        ensures answer { outcome_by place result ≡ (outcome_and_state (view self.old) (release_rule (view self.old) key)).0 }
+        ensures state { StateMeets (release_rule (view self.old) key) self.old self.new }
     {
-        if is_found(self.records[key as usize]) {
-            return Err(Refusal::KeyHeld);
+        let Some(held) = self.holder(key) else {
+            return Ok(None);
+        };
+        match Retrigger::from(self.retrigger) {
+            Retrigger::Off => Err(Refusal::KeyHeld),
+            Retrigger::On => {
+                self.release(&held);
+                Ok(Some(held.place()))
+            }
         }
-        Ok(self.channel_for(note))
     }
 
     // The channel for a press of a key that is not held (SPEC 7.2c, 7.3).
     #[tactic(auto, using(crate::proofs::Models::Allocations::allocations), unfolding(crate::specs::PoolInternal::held_by))]
-    fn channel_for(&self, note: Note) -> Option<Allocation>
+    pub(super) fn channel_for(&self, note: Note) -> Option<Allocation>
         ensures { (key : ℕ) (d : Float) → pressed (view self.now) key note.number d ≡ press_and_state (view self.now) key note.number d result }
     {
         if let Some(channel) = self.pool_for(note).next_free() {
@@ -139,27 +145,32 @@ impl JitTuningModel {
         self.holder(u8::try_from(key).ok()?)
     }
 
-    // A press for a note; nothing where no channel is free. Refuses 11 a key that is held.
+    // A press for a note; nothing where no channel is free. Refuses 11 a held key of a model without retrigger.
     #[tactic(auto, unfolding(crate::specs::Pool::outcome_and_state))]
-    pub(super) fn press(
-        &mut self,
-        key: u8,
-        note: Note,
-        detuning: f64,
-    ) -> Result<Option<Registered>, Refusal>
+    pub(super) fn press(&mut self, key: u8, note: Note, detuning: f64) -> Result<Pressing, Refusal>
         ensures answer { press_outcome result ≡ (outcome_and_state (view self.old) (unless_held (view self.old) key note.number detuning)).0 }
         ensures state { StateMeets (unless_held (view self.old) key note.number detuning) self.old self.new }
     {
-        let Some(allocation) = self.allocation(key, note)? else {
-            return Ok(None);
-        };
+        let released = self.release_for_press(key)?;
+        let registered = self.press_released(key, note, detuning);
+        Ok(Pressing {
+            released,
+            registered,
+        })
+    }
+
+    // A press of a key that is not held; nothing where no channel is free (SPEC 7.2c, 7.3).
+    fn press_released(&mut self, key: u8, note: Note, detuning: f64) -> Option<Registered>
+        ensures { (registered_view result, view self.new) ≡ pressed (view self.old) key note.number detuning }
+    {
+        let allocation = self.channel_for(note)?;
         self.make_room(allocation);
         self.take(&Holder {
             key,
             channel: allocation.channel(),
             note,
         });
-        Ok(Some(allocation.registered(note, detuning)))
+        Some(allocation.registered(note, detuning))
     }
 
     // The channel is free, if it was the longest-held key's.

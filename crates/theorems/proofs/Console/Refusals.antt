@@ -90,7 +90,7 @@ unfolding event_rule
 event_among t (value (event k key m v)) h =
     let e : TunerEvent = record { kind = k; key = key; pitch = record { hz = pitch_of m }; velocity = v } in
     let ns : List ℕ = 1 ∷ 8 ∷ 11 ∷ 13 ∷ [] in
-    bytes_alone_among ns (play_rule t e) (among_play ns t e refl refl refl)
+    bytes_alone_among ns (play_rule t e) (among_play ns t e refl refl (λ off. refl))
 event_among t (refused n) h = rw (only_13 n h)
 
 pub line_numbers : (t : Tuner) (line : List ℕ) → Among (1 ∷ 8 ∷ 11 ∷ 13 ∷ []) (event_rule t (meaning line))

@@ -138,18 +138,18 @@ whole_bytes {input = input} {rest = rest} {held = held} some r f =
 -- ---- with room for an answer the program goes on
 
 -- Some of what was read is answered.
-pub answers_some : (room : ℕ) (s : State) → 54 ≤ room → 0 < length s.unanswered → length (answer_rule room s).unanswered < length s.unanswered
+pub answers_some : (room : ℕ) (s : State) → 63 ≤ room → 0 < length s.unanswered → length (answer_rule room s).unanswered < length s.unanswered
 answers_some room s h some =
     omega (arith, length-drop (step_rule room s.console s.unanswered).used s.unanswered, rule_uses room s.console s.unanswered h some)
 
-finish_room : (c : ConsoleState) → length (finish c) ≤ 54
+finish_room : (c : ConsoleState) → length (finish c) ≤ 63
 unfolding finish answers nonempty
 finish_room c = go c.begun
   where
-    go : (l : List ℕ) → length (answers c.tuner (nonempty l)) ≤ 54
+    go : (l : List ℕ) → length (answers c.tuner (nonempty l)) ≤ 63
     go [] = omega arith
     go (b ∷ l) = rw (append-nil (answer c.tuner (b ∷ l))) (answer_room c.tuner (b ∷ l))
 
 -- And the end of the input is taken.
-pub ends : (room : ℕ) (s : State) → 54 ≤ room → (end_rule room s).ended ≡ true
+pub ends : (room : ℕ) (s : State) → 63 ≤ room → (end_rule room s).ended ≡ true
 ends room s h = rw (le-leb (length (finish s.console)) room (omega (arith, finish_room s.console))) refl

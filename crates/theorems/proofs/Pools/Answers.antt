@@ -1,5 +1,5 @@
--- Which presses are rejected, of those that meet no refusal: Block rejects exactly those that find no free channel in their pool, Stop and Ignore exactly
--- where there are no channels. And what the others get.
+-- Which presses are rejected, of those that meet no refusal: Block rejects exactly those that find no free channel in their pool, after a retriggered key's
+-- release, Stop and Ignore exactly where there are no channels. And what the others get.
 use Prim.Native.Nat.{ℕ, zero, suc, ◌<◌}
 use mathlib.Core.Path.{◌≡◌, refl, sym, ap, subst, ◌∙◌}
 use mathlib.Core.Bool.{Bool, true, cond}
@@ -17,20 +17,22 @@ use Rattle.arithmetic.specs.Pitch.{is_pitch, detuning_of}
 use Rattle.arithmetic.specs.Nearest.{nearest_note}
 use Rattle.pools.specs.declared.settings.PoolGroupBy.{PoolGroupBy}
 use Rattle.pools.specs.declared.settings.PoolingMode.{PoolingMode}
+use Rattle.pools.specs.declared.settings.Retrigger.{Retrigger}
 use Rattle.pools.specs.declared.settings.PoolingMode.TheVariants.{Block, Stop, Ignore}
 use Rattle.channels.specs.Lists.{member, without, first}
 use Rattle.channels.specs.ChannelList.{list_rule, present}
-use Rattle.channels.specs.Places.{Place, is_held}
-use Rattle.pools.specs.Pool.{State, Held, empty_pool, pool_of, pool, found, with_pool, with_key, enqueue, freed_in, freed, without_key, held_at, oldest_of, oldest, reclaimed, reclaim_by_mode, reclaim_unless_free, reclaim, Press, accepted, rejected, pressed_on, pressed, unless_held, register_rule}
+use Rattle.channels.specs.Places.{Place}
+use Rattle.pools.specs.Pool.{State, Held, empty_pool, pool_of, pool, found, with_pool, with_key, enqueue, freed_in, freed, without_key, held_at, oldest_of, oldest, reclaimed, reclaim_by_mode, reclaim_unless_free, reclaim, released, Press, Pressing, accepted, rejected, pressed_on, pressed, repeated, may_press, unless_held, register_rule}
 use Rattle.theorems.specs.PoolCalls.{Call, reached, Rejects, times}
 use Rattle.pools.proofs.Models.Views.{pool_small}
+use Rattle.pools.proofs.Pools.Presses.{press_made}
 use Rattle.pools.proofs.Pools.Releases.{released_found}
 use Rattle.pools.proofs.Pools.PressCases.{reclaim_by_mode_none, pressed_free, pressed_none}
 use Rattle.theorems.proofs.Pools.Occurrences.{times_cons, times_same}
-use Rattle.theorems.proofs.Pools.Settings.{mode_kept}
+use Rattle.theorems.proofs.Pools.Settings.{released_same, mode_kept}
 use Rattle.theorems.specs.PoolInvariant.{Ok}
 use Rattle.theorems.proofs.Pools.OnePool.{pool_ok, free_low}
-use Rattle.theorems.proofs.Pools.Changes.{reclaim_ok}
+use Rattle.theorems.proofs.Pools.Changes.{reclaim_ok, released_ok, released_gone}
 use Rattle.theorems.proofs.Pools.Invariant.{reached_ok}
 use Rattle.channels.proofs.Lists.Laws.{first_rest, first_none}
 
@@ -189,11 +191,11 @@ module _ (n : ℕ) (s : State) (ok : Ok n s) (key : ℕ) (note : ℤ) (d : Float
 
 -- ---- the theorem, over the rule of the call
 
--- A press that meets no refusal is made.
-pub register_pressed : (s : State) (key : ℕ) (hz : Float) → is_pitch hz ≡ true → found s key ≡ none
-    → register_rule s key hz ≡ value (pressed s key (nearest_note hz) (detuning_of hz (nearest_note hz)))
-unfolding register_rule unless_held is_held
-register_pressed s key hz p new = rw (p, new)
+-- A press that meets no refusal is made, in the state that its release left.
+pub register_pressed : (s : State) (key : ℕ) (hz : Float) → is_pitch hz ≡ true → may_press s key ≡ true
+    → register_rule s key hz ≡ value (repeated s key (nearest_note hz) (detuning_of hz (nearest_note hz)))
+unfolding register_rule unless_held
+register_pressed s key hz p may = rw (p, may) refl
 
 rejected_keeps_state : (s : State) (key : ℕ) (note : ℤ) (d : Float) → (pressed s key note d).0 ≡ rejected → pressed s key note d ≡ (rejected, s)
 unfolding pressed pressed_on
@@ -203,51 +205,60 @@ rejected_keeps_state s key note d = go (first (pool (reclaim s note).state note)
     go (some c) e = accepted_not_rejected e
     go none e = refl
 
-rejects_iff_pressed : (s : State) (key : ℕ) (hz : Float) → is_pitch hz ≡ true → found s key ≡ none
-    → ((pressed s key (nearest_note hz) (detuning_of hz (nearest_note hz))).0 ≡ rejected) ↔ Rejects s key hz
-rejects_iff_pressed s key hz p new = (there, back)
+rejects_iff_pressed : (s : State) (key : ℕ) (hz : Float) → is_pitch hz ≡ true → may_press s key ≡ true
+    → ((pressed (released s key) key (nearest_note hz) (detuning_of hz (nearest_note hz))).0 ≡ rejected) ↔ Rejects s key hz
+unfolding repeated
+rejects_iff_pressed s key hz p may = (there, press_made s key hz)
   where
-    there : (pressed s key (nearest_note hz) (detuning_of hz (nearest_note hz))).0 ≡ rejected → Rejects s key hz
-    there e = register_pressed s key hz p new ∙ ap value (rejected_keeps_state s key (nearest_note hz) (detuning_of hz (nearest_note hz)) e)
+    there : (pressed (released s key) key (nearest_note hz) (detuning_of hz (nearest_note hz))).0 ≡ rejected → Rejects s key hz
+    there e =
+        register_pressed s key hz p may
+        ∙ ap (λ (r : Press × State). value (record { released = found s key; press = r.0 }, r.1))
+        (rejected_keeps_state (released s key) key (nearest_note hz) (detuning_of hz (nearest_note hz)) e)
 
-    back : Rejects s key hz → (pressed s key (nearest_note hz) (detuning_of hz (nearest_note hz))).0 ≡ rejected
-    back e =
-        let f = sym (register_pressed s key hz p new) ∙ e in
-        let same : pressed s key (nearest_note hz) (detuning_of hz (nearest_note hz)) ≡ (rejected, s) = cc in
-        ap (λ x. x.0) same
+module _ (channels : List ℕ) (group : PoolGroupBy) (retrigger : Retrigger) (calls : List Call) (key : ℕ) (hz : Float) (pitch : is_pitch hz ≡ true) where
+  module _ (mode : PoolingMode) where
+    abbrev after_release : State
+    after_release = released (reached channels group mode retrigger calls) key
 
-module _ (channels : List ℕ) (group : PoolGroupBy) (calls : List Call) (key : ℕ) (hz : Float) (pitch : is_pitch hz ≡ true) where
-  -- Block rejects exactly the presses that find no free channel in their pool.
-  pub block_rejects_exactly : let s = reached channels group Block calls in
-      found s key ≡ none → Rejects s key hz ↔ ((pool s (nearest_note hz)).free ≡ [])
-  block_rejects_exactly new =
-      let s = reached channels group Block calls in
-      let so = rejects_iff_pressed s key hz pitch new in
-      let ex = block_rejects_iff (length (present (list_rule channels))) s (reached_ok channels group Block calls) key (nearest_note hz)
-      (detuning_of hz (nearest_note hz)) (mode_kept channels group Block calls) in
+    released_sound : Ok (length (present (list_rule channels))) after_release
+    released_sound =
+        released_ok (length (present (list_rule channels))) (reached channels group mode retrigger calls) (reached_ok channels group mode retrigger calls) key
+
+    released_mode : after_release.mode ≡ mode
+    released_mode = (released_same (reached channels group mode retrigger calls) key).mode ∙ mode_kept channels group mode retrigger calls
+
+  -- Block rejects exactly the presses that find no free channel in their pool, after a retriggered key's release.
+  pub block_rejects_exactly : let s = reached channels group Block retrigger calls in
+      may_press s key ≡ true → Rejects s key hz ↔ ((pool (released s key) (nearest_note hz)).free ≡ [])
+  block_rejects_exactly may =
+      let s = reached channels group Block retrigger calls in
+      let so = rejects_iff_pressed s key hz pitch may in
+      let ex = block_rejects_iff (length (present (list_rule channels))) (released s key) (released_sound Block) key (nearest_note hz)
+      (detuning_of hz (nearest_note hz)) (released_mode Block) in
       (λ e. ex.0 (so.1 e), λ e. so.0 (ex.1 e))
 
   -- Stop and Ignore reject exactly where there are no channels.
-  without_channels : (mode : PoolingMode) → let s = reached channels group mode calls in
-      ((pressed s key (nearest_note hz) (detuning_of hz (nearest_note hz))).0 ≡ rejected) ↔ (length (present (list_rule channels)) ≡ 0)
-      → found s key ≡ none → Rejects s key hz ↔ (length s.channels ≡ 0)
-  without_channels mode ex new =
-      let s = reached channels group mode calls in
-      let ok = reached_ok channels group mode calls in
-      let so = rejects_iff_pressed s key hz pitch new in
+  without_channels : (mode : PoolingMode) → let s = reached channels group mode retrigger calls in
+      ((pressed (released s key) key (nearest_note hz) (detuning_of hz (nearest_note hz))).0 ≡ rejected) ↔ (length (present (list_rule channels)) ≡ 0)
+      → may_press s key ≡ true → Rejects s key hz ↔ (length s.channels ≡ 0)
+  without_channels mode ex may =
+      let s = reached channels group mode retrigger calls in
+      let ok = reached_ok channels group mode retrigger calls in
+      let so = rejects_iff_pressed s key hz pitch may in
       (λ e. ok.channels ∙ ex.0 (so.1 e), λ e. so.0 (ex.1 (sym ok.channels ∙ e)))
 
-  pub stop_rejects_exactly : let s = reached channels group Stop calls in
-      found s key ≡ none → Rejects s key hz ↔ (length s.channels ≡ 0)
+  pub stop_rejects_exactly : let s = reached channels group Stop retrigger calls in
+      may_press s key ≡ true → Rejects s key hz ↔ (length s.channels ≡ 0)
   stop_rejects_exactly =
-      without_channels Stop (stop_rejects_iff _ (reached channels group Stop calls) (reached_ok channels group Stop calls) key (nearest_note hz)
-      (detuning_of hz (nearest_note hz)) (mode_kept channels group Stop calls))
+      without_channels Stop (stop_rejects_iff _ (after_release Stop) (released_sound Stop) key (nearest_note hz)
+      (detuning_of hz (nearest_note hz)) (released_mode Stop))
 
-  pub ignore_rejects_exactly : let s = reached channels group Ignore calls in
-      found s key ≡ none → Rejects s key hz ↔ (length s.channels ≡ 0)
+  pub ignore_rejects_exactly : let s = reached channels group Ignore retrigger calls in
+      may_press s key ≡ true → Rejects s key hz ↔ (length s.channels ≡ 0)
   ignore_rejects_exactly =
-      without_channels Ignore (ignore_rejects_iff _ (reached channels group Ignore calls) (reached_ok channels group Ignore calls) key (nearest_note hz)
-      (detuning_of hz (nearest_note hz)) (mode_kept channels group Ignore calls))
+      without_channels Ignore (ignore_rejects_iff _ (after_release Ignore) (released_sound Ignore) key (nearest_note hz)
+      (detuning_of hz (nearest_note hz)) (released_mode Ignore))
 
 -- ---- an accepted press gets one of the model's channels
 
@@ -262,16 +273,15 @@ pressed_channel n s ok key new note d c st z e = go (first (pool (reclaim s note
         subst (λ (k : ℕ). k < n) same (free_low n (reclaim s note).state (reclaim_ok n s ok key new note).sound note x h)
     go none h f = accepted_not_rejected (sym f)
 
-pub accepted_channel : (channels : List ℕ) (group : PoolGroupBy) (mode : PoolingMode) (calls : List Call) (key : ℕ) (hz : Float)
-    → let s = reached channels group mode calls in
-    is_pitch hz ≡ true → found s key ≡ none → (c : ℕ) (st : Option ℤ) (z : ℤ) (d : Float) (t : State)
-    → register_rule s key hz ≡ value (accepted c st z d, t) → c < length s.channels
-accepted_channel channels group mode calls key hz pitch new c st z d t e =
-    let s = reached channels group mode calls in
-    let ok = reached_ok channels group mode calls in
-    let r : Press × State = pressed s key (nearest_note hz) (detuning_of hz (nearest_note hz)) in
-    let f : value r ≡ value (accepted c st z d, t) = sym (register_pressed s key hz pitch new) ∙ e in
-    let same : r ≡ (accepted c st z d, t) = cc in
-    let low = pressed_channel (length (present (list_rule channels))) s ok key new (nearest_note hz) (detuning_of hz (nearest_note hz)) c st z d
-    (ap (λ (x : Press × State). x.0) same) in
+pub accepted_channel :
+    (channels : List ℕ) (group : PoolGroupBy) (mode : PoolingMode) (retrigger : Retrigger) (calls : List Call) (key : ℕ) (hz : Float)
+    {r : Pressing × State} {c : ℕ} {st : Option ℤ} {z : ℤ} {d : Float} → register_rule (reached channels group mode retrigger calls) key hz ≡ value r
+    → r.0.press ≡ accepted c st z d → c < length (reached channels group mode retrigger calls).channels
+accepted_channel channels group mode retrigger calls key hz {c = c} {st = st} {z = z} {d = d} e a =
+    let s = reached channels group mode retrigger calls in
+    let n = length (present (list_rule channels)) in
+    let ok = reached_ok channels group mode retrigger calls in
+    let note = nearest_note hz in
+    let low = pressed_channel n (released s key) (released_ok n s ok key) key (released_gone s key) note (detuning_of hz note) c st z d
+    (press_made s key hz e ∙ a) in
     omega (arith, ok.channels)

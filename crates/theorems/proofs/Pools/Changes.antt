@@ -160,6 +160,18 @@ released_ok n s ok key = go (found s key) refl
     go (some q) e = rw (released_found s key q e) (without_key_ok n s ok key q e)
     go none e = rw (released_none s key e) ok
 
+without_key_gone : (s : State) (key : ℕ) (p : Place) → found (without_key (freed s key p) key) key ≡ none
+unfolding found without_key freed with_key with_pool
+without_key_gone s key p = set_none s.keys key
+
+-- A released key is not found.
+pub released_gone : (s : State) (key : ℕ) → found (released s key) key ≡ none
+released_gone s key = go (found s key) refl
+  where
+    go : (p : Option Place) → found s key ≡ p → found (released s key) key ≡ none
+    go (some p) e = rw (released_found s key p e) (without_key_gone s key p)
+    go none e = rw (released_none s key e) e
+
 -- ---- room for a press
 
 -- What a press of a key that is not held finds: a state with nothing lost, in which the key is still not held.

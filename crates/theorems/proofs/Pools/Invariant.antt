@@ -8,6 +8,7 @@ use native.Mathlib.Omega.{arith}
 use lib.ListN.{length, get_or, length-replicate, get_or-replicate}
 use Rattle.pools.specs.declared.settings.PoolGroupBy.{PoolGroupBy}
 use Rattle.pools.specs.declared.settings.PoolingMode.{PoolingMode}
+use Rattle.pools.specs.declared.settings.Retrigger.{Retrigger}
 use Rattle.channels.specs.Lists.{upward}
 use Rattle.channels.specs.ChannelList.{list_rule, present}
 use Rattle.channels.specs.Places.{Place}
@@ -31,32 +32,35 @@ run_ok n = run_kept (Ok n) (λ t ok key small e note d. pressed_ok n t ok key e 
 
 -- ---- a fresh model
 
-fresh_none : (channels : List ℕ) (group : PoolGroupBy) (mode : PoolingMode) (k : ℕ) → found (fresh channels group mode) k ≡ none
+fresh_none : (channels : List ℕ) (group : PoolGroupBy) (mode : PoolingMode) (retrigger : Retrigger) (k : ℕ)
+    → found (fresh channels group mode retrigger) k ≡ none
 unfolding fresh found
-fresh_none channels group mode k = replicated_at none key_count k
+fresh_none channels group mode retrigger k = replicated_at none key_count k
 
-pub fresh_ok : (channels : List ℕ) → length channels ≤ 16 → (group : PoolGroupBy) (mode : PoolingMode) → Ok (length channels) (fresh channels group mode)
+pub fresh_ok : (channels : List ℕ) → length channels ≤ 16 → (group : PoolGroupBy) (mode : PoolingMode) (retrigger : Retrigger)
+    → Ok (length channels) (fresh channels group mode retrigger)
 unfolding fresh occurrences
-fresh_ok channels few group mode =
+fresh_ok channels few group mode retrigger =
     record {
       few = few;
       channels = refl;
       pools = length-replicate (pool_count group) unused;
       keys = length-replicate {A = Option Place} key_count none;
       low = λ k p f. absurd (nothing k p f);
-      each = λ i h. subst (PoolOk (length channels) (fresh channels group mode) i) (sym (get_or-replicate (pool_count group) i unused empty_pool h)) all_free;
+      each = λ i h.
+          subst (PoolOk (length channels) (fresh channels group mode retrigger) i) (sym (get_or-replicate (pool_count group) i unused empty_pool h)) all_free;
     }
   where
-    nothing : (k : ℕ) (p : Place) → found (fresh channels group mode) k ≡ some p → ⊥
-    nothing k p f = let g = fresh_none channels group mode k in let z : ◌≡◌ {A = ℕ} 0 1 = cc in omega arith
+    nothing : (k : ℕ) (p : Place) → found (fresh channels group mode retrigger) k ≡ some p → ⊥
+    nothing k p f = let g = fresh_none channels group mode retrigger k in let z : ◌≡◌ {A = ℕ} 0 1 = cc in omega arith
 
     unused : Pool
     unused = record { free = upward 0 (length channels); order = [] }
 
-    all_free : {i : ℕ} → PoolOk (length channels) (fresh channels group mode) i (record { free = upward 0 (length channels); order = [] })
+    all_free : {i : ℕ} → PoolOk (length channels) (fresh channels group mode retrigger) i (record { free = upward 0 (length channels); order = [] })
     all_free =
         record {
-          once = λ c. omega (arith, keys_none (fresh channels group mode) c);
+          once = λ c. omega (arith, keys_none (fresh channels group mode retrigger) c);
           total = omega (arith, length_range 0 (length channels));
           holds = λ k m. absurd (omega (arith, times_none k));
           distinct = λ k. omega (arith, times_none k);
@@ -67,31 +71,31 @@ present_few cs = (channels_different cs).0
 
 -- ---- the theorem
 
-pub reached_ok : (channels : List ℕ) (group : PoolGroupBy) (mode : PoolingMode) (calls : List Call)
-    → Ok (length (present (list_rule channels))) (reached channels group mode calls)
+pub reached_ok : (channels : List ℕ) (group : PoolGroupBy) (mode : PoolingMode) (retrigger : Retrigger) (calls : List Call)
+    → Ok (length (present (list_rule channels))) (reached channels group mode retrigger calls)
 unfolding open_rule
-reached_ok channels group mode calls =
+reached_ok channels group mode retrigger calls =
     let cs = present (list_rule channels) in
-    run_ok (length cs) (fresh cs group mode) (fresh_ok cs (present_few channels) group mode) calls
+    run_ok (length cs) (fresh cs group mode retrigger) (fresh_ok cs (present_few channels) group mode retrigger) calls
 
 -- Each channel of each pool stands exactly once, free or with one key that has not lost it; a number that is no channel stands nowhere.
-module _ (channels : List ℕ) (group : PoolGroupBy) (mode : PoolingMode) (calls : List Call) where
-  pub channels_once : let s = reached channels group mode calls in
+module _ (channels : List ℕ) (group : PoolGroupBy) (mode : PoolingMode) (retrigger : Retrigger) (calls : List Call) where
+  pub channels_once : let s = reached channels group mode retrigger calls in
       (i : ℕ) → i < pool_count s.group → (c : ℕ) → c < length s.channels → occurrences s (get_or s.pools i empty_pool) c ≡ 1
   channels_once i h c k =
-      let ok = reached_ok channels group mode calls in
+      let ok = reached_ok channels group mode retrigger calls in
       (ok.each i h).once c ∙ times_range c 0 (length (present (list_rule channels))) (omega arith) (omega (arith, ok.channels))
 
-  pub no_others : let s = reached channels group mode calls in
+  pub no_others : let s = reached channels group mode retrigger calls in
       (i : ℕ) → i < pool_count s.group → (c : ℕ) → length s.channels ≤ c → occurrences s (get_or s.pools i empty_pool) c ≡ 0
   no_others i h c k =
-      let ok = reached_ok channels group mode calls in
+      let ok = reached_ok channels group mode retrigger calls in
       (ok.each i h).once c ∙ times_past c 0 (length (present (list_rule channels))) (omega (arith, ok.channels))
 
   -- A found key, whether or not it has lost its channel, sounds on one of the model's channels: the channel list has an entry for it.
-  pub found_channel : let s = reached channels group mode calls in
+  pub found_channel : let s = reached channels group mode retrigger calls in
       (key : ℕ) (p : Place) → found s key ≡ some p → p.channel < length s.channels
   found_channel key p e =
-      let ok = reached_ok channels group mode calls in
+      let ok = reached_ok channels group mode retrigger calls in
       let low = ok.low key p e in
       omega (arith, ok.channels)

@@ -1,4 +1,4 @@
--- A model keeps the channel list, the kind of group and the pooling mode that it was opened with, whatever is called.
+-- A model keeps the channel list, the kind of group, the pooling mode and the retrigger setting that it was opened with, whatever is called.
 use Prim.Native.Nat.{ℕ}
 use mathlib.Core.Path.{◌≡◌, refl, ◌∙◌}
 use mathlib.Core.List.{List}
@@ -7,6 +7,7 @@ use lib.IntN.{ℤ}
 use lib.Ieee.{Float}
 use Rattle.pools.specs.declared.settings.PoolGroupBy.{PoolGroupBy}
 use Rattle.pools.specs.declared.settings.PoolingMode.{PoolingMode}
+use Rattle.pools.specs.declared.settings.Retrigger.{Retrigger}
 use Rattle.pools.specs.declared.settings.PoolingMode.TheVariants.{Block, Stop, Ignore}
 use Rattle.channels.specs.Lists.{first}
 use Rattle.channels.specs.ChannelList.{list_rule, present}
@@ -19,20 +20,27 @@ pub record SettingsKept (s t : State) : Type 0 where
   pub channels : t.channels ≡ s.channels
   pub group : t.group ≡ s.group
   pub mode : t.mode ≡ s.mode
+  pub retrigger : t.retrigger ≡ s.retrigger
 
 settings_same : (s : State) → SettingsKept s s
-settings_same s = record { channels = refl; group = refl; mode = refl }
+settings_same s = record { channels = refl; group = refl; mode = refl; retrigger = refl }
 
 settings_trans : (s t u : State) → SettingsKept s t → SettingsKept t u → SettingsKept s u
-settings_trans s t u a b = record { channels = b.channels ∙ a.channels; group = b.group ∙ a.group; mode = b.mode ∙ a.mode }
+settings_trans s t u a b =
+    record {
+      channels = b.channels ∙ a.channels;
+      group = b.group ∙ a.group;
+      mode = b.mode ∙ a.mode;
+      retrigger = b.retrigger ∙ a.retrigger;
+    }
 
 freed_same : (s : State) (key : ℕ) (q : Place) → SettingsKept s (freed s key q)
 unfolding freed with_pool
-freed_same s key q = record { channels = refl; group = refl; mode = refl }
+freed_same s key q = record { channels = refl; group = refl; mode = refl; retrigger = refl }
 
 released_by : (p : Option Place) (s : State) (key : ℕ) → SettingsKept s (released_from p s key)
 unfolding released_from freed without_key with_pool with_key
-released_by (some p) s key = record { channels = refl; group = refl; mode = refl }
+released_by (some p) s key = record { channels = refl; group = refl; mode = refl; retrigger = refl }
 released_by none s key = settings_same s
 
 pub released_same : (s : State) (key : ℕ) → SettingsKept s (released s key)
@@ -54,7 +62,7 @@ reclaim_unless_free_same none s note = reclaim_by_mode_same s.mode s (oldest s n
 
 taken_same : (s : State) (key : ℕ) (note : ℤ) (c : ℕ) → SettingsKept s (taken s key note c)
 unfolding taken with_pool with_key
-taken_same s key note c = record { channels = refl; group = refl; mode = refl }
+taken_same s key note c = record { channels = refl; group = refl; mode = refl; retrigger = refl }
 
 pressed_by : (c : Option ℕ) (r : Reclaimed) (s : State) (key : ℕ) (note : ℤ) (d : Float) → SettingsKept s r.state
     → SettingsKept s (pressed_on c r s key note d).1
@@ -75,15 +83,19 @@ run_same s cs =
 
 -- ---- a model that any calls have led to
 
-module _ (channels : List ℕ) (group : PoolGroupBy) (mode : PoolingMode) (calls : List Call) where
-  pub channels_kept : (reached channels group mode calls).channels ≡ present (list_rule channels)
+module _ (channels : List ℕ) (group : PoolGroupBy) (mode : PoolingMode) (retrigger : Retrigger) (calls : List Call) where
+  pub channels_kept : (reached channels group mode retrigger calls).channels ≡ present (list_rule channels)
   unfolding open_rule fresh
-  channels_kept = (run_same (open_rule channels group mode).1 calls).channels
+  channels_kept = (run_same (open_rule channels group mode retrigger).1 calls).channels
 
-  pub group_kept : (reached channels group mode calls).group ≡ group
+  pub group_kept : (reached channels group mode retrigger calls).group ≡ group
   unfolding open_rule fresh
-  group_kept = (run_same (open_rule channels group mode).1 calls).group
+  group_kept = (run_same (open_rule channels group mode retrigger).1 calls).group
 
-  pub mode_kept : (reached channels group mode calls).mode ≡ mode
+  pub mode_kept : (reached channels group mode retrigger calls).mode ≡ mode
   unfolding open_rule fresh
-  mode_kept = (run_same (open_rule channels group mode).1 calls).mode
+  mode_kept = (run_same (open_rule channels group mode retrigger).1 calls).mode
+
+  pub retrigger_kept : (reached channels group mode retrigger calls).retrigger ≡ retrigger
+  unfolding open_rule fresh
+  retrigger_kept = (run_same (open_rule channels group mode retrigger).1 calls).retrigger

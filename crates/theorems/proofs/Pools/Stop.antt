@@ -9,25 +9,14 @@ use Rattle.std.proofs.Math.Option.{none-ne-some}
 use lib.ListN.{length, get_or}
 use Rattle.pools.specs.declared.settings.PoolGroupBy.{PoolGroupBy}
 use Rattle.pools.specs.declared.settings.PoolingMode.{PoolingMode}
+use Rattle.pools.specs.declared.settings.Retrigger.{Retrigger}
 use Rattle.channels.specs.Places.{Place}
-use Rattle.pools.specs.Pool.{Pool, State, Held, empty_pool, pool_count, found, with_pool, with_key, freed, without_key, released, released_all, held_from, held_keys, stopped}
+use Rattle.pools.specs.Pool.{Pool, State, Held, empty_pool, pool_count, found, released, released_all, held_from, held_keys, stopped}
 use Rattle.theorems.specs.PoolCalls.{Call, reached, times, keys_on, occurrences, stop, step}
 use Rattle.theorems.proofs.Pools.Occurrences.{times_cons, times_same, times_range, either}
-use Rattle.pools.proofs.Pools.Releases.{released_found, released_none, released_other}
-use Rattle.theorems.proofs.Pools.Changes.{set_none}
+use Rattle.pools.proofs.Pools.Releases.{released_other}
+use Rattle.theorems.proofs.Pools.Changes.{released_gone}
 use Rattle.theorems.proofs.Pools.Invariant.{step_ok, reached_ok}
-
--- A released key is not found.
-without_key_none : (s : State) (key : ℕ) (p : Place) → found (without_key (freed s key p) key) key ≡ none
-unfolding found without_key freed with_key with_pool
-without_key_none s key p = set_none s.keys key
-
-released_none_found : (s : State) (key : ℕ) → found (released s key) key ≡ none
-released_none_found s key = go (found s key) refl
-  where
-    go : (p : Option Place) → found s key ≡ p → found (released s key) key ≡ none
-    go (some p) e = rw (released_found s key p e) (without_key_none s key p)
-    go none e = rw (released_none s key e) e
 
 -- A key that is not found stays so.
 none_stays_none : (s : State) (hs : List Held) (k : ℕ) → found s k ≡ none → found (released_all s hs) k ≡ none
@@ -35,14 +24,14 @@ unfolding released_all
 none_stays_none s [] k e = e
 none_stays_none s (h ∷ hs) k e =
     none_stays_none (released s h.key) hs k
-    (either h.key k (λ same. rw same (released_none_found s h.key)) (λ ne. released_other s h.key k ne ∙ e))
+    (either h.key k (λ same. rw same (released_gone s h.key)) (λ ne. released_other s h.key k ne ∙ e))
 
 -- Every key that is in the table from number i on is released.
 released_all_none : (l : List (Option Place)) (i j : ℕ) (s : State) (p : Place) → get_or l j none ≡ some p
     → found (released_all s (held_from i l)) (i + j) ≡ none
 unfolding held_from released_all
 released_all_none [] i j s p e = absurd (none-ne-some p e)
-released_all_none (some q ∷ l) i zero s p e = rw add-zero (none_stays_none (released s i) (held_from (suc i) l) i (released_none_found s i))
+released_all_none (some q ∷ l) i zero s p e = rw add-zero (none_stays_none (released s i) (held_from (suc i) l) i (released_gone s i))
 released_all_none (none ∷ l) i zero s p e = absurd (none-ne-some p e)
 released_all_none (some q ∷ l) i (suc j) s p e =
     let k : suc i + j ≡ i + suc j = omega arith in
@@ -61,15 +50,15 @@ stop_empties s k = go (get_or s.keys k none) refl
     go none e = none_stays_none s (held_from 0 s.keys) k e
 
 -- Each channel of every pool is free then, exactly once, and no key has one, however the model was opened and played.
-pub stop_frees : (channels : List ℕ) (group : PoolGroupBy) (mode : PoolingMode) (calls : List Call)
-    → let s = stopped (reached channels group mode calls) in
+pub stop_frees : (channels : List ℕ) (group : PoolGroupBy) (mode : PoolingMode) (retrigger : Retrigger) (calls : List Call)
+    → let s = stopped (reached channels group mode retrigger calls) in
     (i : ℕ) → i < pool_count s.group
     → let p = get_or s.pools i empty_pool in
     (p.order ≡ []) × ((c : ℕ) → c < length s.channels → times c p.free ≡ 1) × (length p.free ≡ length s.channels)
 unfolding step occurrences keys_on
-stop_frees channels group mode calls i h =
-    let m = reached channels group mode calls in
-    let ok = step_ok _ m (reached_ok channels group mode calls) stop in
+stop_frees channels group mode retrigger calls i h =
+    let m = reached channels group mode retrigger calls in
+    let ok = step_ok _ m (reached_ok channels group mode retrigger calls) stop in
     let p = ok.each i h in
     let none_held = no_order (get_or (stopped m).pools i empty_pool).order (λ k in_order.
     let held = p.holds k in_order in

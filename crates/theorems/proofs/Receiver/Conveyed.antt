@@ -3,7 +3,7 @@ use Rattle.std.specs.Prelude.{flat_map}
 use mathlib.Core.Path.{◌≡◌, refl, ap, ◌∙◌}
 use mathlib.Core.Bool.{Bool, true, false, cond}
 use mathlib.Core.Option.{Option, some, none}
-use mathlib.Core.List.{List, [], ◌∷◌}
+use mathlib.Core.List.{List, [], ◌∷◌, ◌++◌}
 use Prim.Native.Nat.{ℕ, suc, ◌<◌}
 use native.Mathlib.Omega.{arith}
 use lib.IntN.{ℤ}
@@ -43,6 +43,15 @@ module _ (other : Other) where
   pub conveys_none : Conveys [] (λ r. r)
   conveys_none = record { plain = record { valid = tt; read_as_is = refl }; received = λ r. refl }
 
+  -- One after the other.
+  pub conveys_append :
+      {ms ns : List Message} {one next : Receiver → Receiver} → Conveys ms one → Conveys ns next → Conveys (ms ++ ns) (λ r. next (one r))
+  conveys_append {ms} {ns} {one} {next} a b =
+      record {
+        plain = plain_append a.plain b.plain;
+        received = λ r. receive_append other ms ns r ∙ ap (receive_all other ns) (a.received r) ∙ b.received (one r);
+      }
+
   -- On channel i of a list.
   pub conveys_listed :
       (o : Option ℕ) (messages : ℕ → List Message) (change : Channel → Channel) → ((c : ℕ) → o ≡ some c → Conveys (messages c) (on c change))
@@ -55,16 +64,7 @@ module _ (other : Other) where
       {A : Type 0} (messages : A → List Message) (change : A → Receiver → Receiver) (xs : List A) → ((x : A) → Conveys (messages x) (change x))
       → Conveys (flat_map messages xs) (in_turn change xs)
   conveys_each messages change [] h = record { plain = record { valid = tt; read_as_is = refl }; received = λ r. refl }
-  conveys_each messages change (x ∷ xs) h =
-      let rest = conveys_each messages change xs h in
-      record {
-        plain = plain_append (h x).plain rest.plain;
-        received =
-            λ r.
-            receive_append other (messages x) (flat_map messages xs) r
-            ∙ ap (receive_all other (flat_map messages xs)) ((h x).received r)
-            ∙ rest.received (change x r);
-      }
+  conveys_each messages change (x ∷ xs) h = conveys_append (h x) (conveys_each messages change xs h)
 
   -- So it is with what a call that counts its bytes wrote.
   pub sent_conveyed :

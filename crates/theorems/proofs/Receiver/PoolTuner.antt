@@ -3,7 +3,7 @@
 use mathlib.Core.Path.{◌≡◌, refl, sym, ap, subst, ◌∙◌}
 use mathlib.Core.Bool.{Bool, true, false, cond}
 use mathlib.Core.Option.{Option, some, none}
-use mathlib.Core.List.{List, [], ◌∷◌}
+use mathlib.Core.List.{List, [], ◌∷◌, ◌++◌, append-nil}
 use Prim.Native.Nat.{ℕ, zero, suc, ◌<◌}
 use native.Mathlib.Omega.{arith}
 use lib.Dec.{ltb, eqb}
@@ -17,7 +17,7 @@ use Rattle.arithmetic.specs.Nearest.{nearest_note}
 use Rattle.arithmetic.specs.Pitch.{detuning_of}
 use Rattle.channels.specs.Outcome.{Outcome, value}
 use Rattle.channels.specs.Places.{Place}
-use Rattle.pools.specs.Pool.{State as Pools, Held, accepted, found, register_rule, repitch_rule, held_from, held_keys}
+use Rattle.pools.specs.Pool.{State as Pools, Held, accepted, rejected, found, register_rule, repitch_rule, held_from, held_keys}
 use Rattle.channels.specs.TuningValue.{sent_as}
 use Rattle.channels.specs.declared.tuning_value.TuningKind.{TuningKind}
 use Rattle.theorems.specs.Bounds.{value_of, StepBound}
@@ -27,34 +27,35 @@ use Rattle.channels.proofs.Values.{sent_in_steps}
 use Rattle.senders.specs.Buffer.{Effect, sent, CallMeets, WriteMeets, overwrite}
 use Rattle.senders.specs.Message.{Message}
 use Rattle.senders.specs.Midi.{bytes_of}
+use Rattle.senders.specs.Event.{count}
 use Rattle.senders.specs.Tuner.{key_messages, on_channel, press_messages}
-use Rattle.senders.specs.Jit.{Tuner, view, with_pool, PressResult, press_sent, note_on_rule, note_off_rule, note_pitch_rule, repitch_messages, release_messages, stop_rule}
+use Rattle.senders.specs.Jit.{Tuner, view, with_pool, PressResult, press_sent, press_rejected, pressing, press_bytes, note_on_rule, note_off_rule, note_pitch_rule, repitch_messages, release_messages, stop_rule}
 use Rattle.theorems.specs.Reader.{State, read}
 use Rattle.theorems.specs.Receiver.{Channel, Receiver, Other, with_note, receive_all, receive_bytes}
 use Rattle.theorems.specs.ExpectedEffect.{tuned, noted, pressed, on_listed, key_expected, in_turn, value_in}
 use Rattle.senders.specs.declared.tuner.NoteMessage.TheVariants.{Off}
 use Rattle.senders.specs.declared.jit.JitTuner.{JitTuner}
 use Rattle.theorems.proofs.Bytes.Read.{read_plain, sent_read_plain}
-use Rattle.senders.proofs.Tuners.Calls.{note_on_accepted, note_off_accepted}
-use Rattle.theorems.proofs.Receiver.Conveyed.{Conveys, conveys_none, conveys_each, sent_conveyed, conveys_key, conveys_tuning, conveys_press}
+use Rattle.senders.proofs.Tuners.Calls.{note_on_accepted, note_on_rejected, note_off_accepted}
+use Rattle.theorems.proofs.Receiver.Conveyed.{Conveys, conveys_none, conveys_append, conveys_each, sent_conveyed, conveys_key, conveys_tuning, conveys_press}
 use Rattle.theorems.proofs.Bytes.Accepted.{accepted as done}
-use Rattle.senders.proofs.Bytes.Messages.{test_held}
+use Rattle.senders.proofs.Bytes.Messages.{test_held, bytes_append}
 use Rattle.theorems.proofs.Receiver.Received.{pressed_value}
 
--- What a press says it wrote stands at the buffer's start.
+-- What a press says it wrote, rejected or not, stands at the buffer's start.
 pub press_starts :
-    {T : Type 0} {view : T → Tuner} {rule : Outcome (Effect PressResult Tuner)} {s back : T} {next : Tuner} {bs old new : List ℕ} {n : ℕ}
-    → rule ≡ value (record { result = press_sent (length bs); bytes = bs; next = next }) → CallMeets view rule s old (value (press_sent n)) back new
-    → take n new ≡ bs
-press_starts {bs = bs} {old = old} {new = new} {n = n} e p =
+    {T : Type 0} {view : T → Tuner} {rule : Outcome (Effect PressResult Tuner)} {s back : T} {next : Tuner} {bs old new : List ℕ} {answer result : PressResult}
+    → count result ≡ length bs → rule ≡ value (record { result = result; bytes = bs; next = next }) → CallMeets view rule s old (value answer) back new
+    → take (count answer) new ≡ bs
+press_starts {bs = bs} {old = old} {new = new} {answer = answer} {result = result} counts e p =
     let a = done p in
     let f = sym e ∙ a.rule_is in
     let is : bs ≡ a.effect.bytes = cc in
-    let says : press_sent n ≡ press_sent (length bs) = cc in
-    let k : n ≡ length bs = cc in
-    ap (λ (l : List ℕ). take n l) a.new_is
-    ∙ ap (λ (l : List ℕ). take n (overwrite l old)) (sym is)
-    ∙ take_at bs (drop (length bs) old) n (sym k)
+    let says : answer ≡ result = cc in
+    let k : count answer ≡ length bs = ap count says ∙ counts in
+    ap (λ (l : List ℕ). take (count answer) l) a.new_is
+    ∙ ap (λ (l : List ℕ). take (count answer) (overwrite l old)) (sym is)
+    ∙ take_at bs (drop (length bs) old) (count answer) (sym k)
 
 module _ (other : Other) (st : State) (r : Receiver) (self : JitTuner) where
   abbrev channels : List ℕ
@@ -64,29 +65,41 @@ module _ (other : Other) (st : State) (r : Receiver) (self : JitTuner) where
   tuning_kind = (view self).tuning_kind
 
   module _ {back : JitTuner} {old new : List ℕ} {n : ℕ} where
-    -- An accepted press: a reader finds its messages; the stopped note is off, the channel tuned, and the new note on.
+    -- An accepted press: a reader finds the note-off of the key that was released first, and its own messages; the released key's note is off, then the
+    -- stopped note, the channel tuned, and the new note on.
     module _
-        (key : ℕ) (hz : Float) (v : ℕ) {i : ℕ} {stopped : Option ℤ} {note : ℤ} {d : Float} {u : Pools}
-        (e : register_rule (view self).pool key hz ≡ value (accepted i stopped note d, u))
+        (key : ℕ) (hz : Float) (v : ℕ) {q : Option Place} {i : ℕ} {stopped : Option ℤ} {note : ℤ} {d : Float} {u : Pools}
+        (e : register_rule (view self).pool key hz ≡ value (pressing q (accepted i stopped note d), u))
         (p : CallMeets view (note_on_rule (view self) key hz v) self old (value (press_sent n)) back new) where
+      abbrev press_sent_messages : List Message
+      press_sent_messages = on_channel channels i (λ ch. press_messages ch stopped (sent_as tuning_kind d) note v)
+
       abbrev sent_messages : List Message
-      sent_messages = on_channel channels i (λ ch. press_messages ch stopped (sent_as tuning_kind d) note v)
+      sent_messages = key_messages Off channels 0 q ++ press_sent_messages
 
       low : v < 128
       low = ltb-true v 128 (test_held 8 (ltb v 128) _ (done p).rule_is).0
 
-      press_conveyed : Conveys other sent_messages (on_listed (get_elem? channels i) (pressed stopped (sent_as tuning_kind d) note v))
+      press_conveyed :
+          Conveys other sent_messages
+          (λ (x : Receiver). on_listed (get_elem? channels i) (pressed stopped (sent_as tuning_kind d) note v) (key_expected Off channels 0 q x))
       unfolding pool_view state_with
-      press_conveyed = conveys_press other self.model.channels i stopped (sent_as tuning_kind d) note v (sent_in_steps tuning_kind d) low
+      press_conveyed =
+          conveys_append other (conveys_key other self.model.channels Off 0 q (omega arith))
+          (conveys_press other self.model.channels i stopped (sent_as tuning_kind d) note v (sent_in_steps tuning_kind d) low)
 
       pub press_read :
-          read st (take n new) ≡ on_channel channels i (λ ch. press_messages ch stopped (sent_as tuning_kind d) note v)
+          read st (take n new)
+          ≡ key_messages Off channels 0 q ++ on_channel channels i (λ ch. press_messages ch stopped (sent_as tuning_kind d) note v)
       press_read =
-          let starts : take n new ≡ bytes_of sent_messages =
-          press_starts {next = with_pool (view self) u} {bs = bytes_of sent_messages} (note_on_accepted (view self) key hz v low e) p in
-          ap (read st) starts ∙ read_plain st sent_messages press_conveyed.plain
+          let starts : take n new ≡ press_bytes (view self) v (pressing q (accepted i stopped note d)) =
+          press_starts {next = with_pool (view self) u} {bs = press_bytes (view self) v (pressing q (accepted i stopped note d))} {answer = press_sent n} refl
+          (note_on_accepted (view self) key hz v low e) p in
+          ap (read st) (starts ∙ sym (bytes_append (key_messages Off channels 0 q) press_sent_messages)) ∙ read_plain st sent_messages press_conveyed.plain
 
-      pub press_received : receive_bytes other st (take n new) r ≡ on_listed (get_elem? channels i) (pressed stopped (sent_as tuning_kind d) note v) r
+      pub press_received :
+          receive_bytes other st (take n new) r
+          ≡ on_listed (get_elem? channels i) (pressed stopped (sent_as tuning_kind d) note v) (key_expected Off channels 0 q r)
       press_received = ap (λ (l : List Message). receive_all other l r) press_read ∙ press_conveyed.received r
 
       -- An accepted press is received at its pitch: its note is the nearest one, and the channel has the value of the pitch's detuning from that note,
@@ -96,11 +109,31 @@ module _ (other : Other) (st : State) (r : Receiver) (self : JitTuner) where
           → (note ≡ nearest_note hz) × (d ≡ detuning_of hz note)
           × StepBound tuning_kind (value_in tuning_kind (receive_bytes other st (take n new) r ch)) d
       press_near ch f =
-          let made = press_pitch (view self).pool key hz e in
+          let made = press_pitch (view self).pool key hz e refl in
           let value_is : value_in tuning_kind (receive_bytes other st (take n new) r ch) ≡ value_of (sent_as tuning_kind d) =
-          ap (λ (q : Receiver). value_in tuning_kind (q ch)) press_received
-          ∙ rw (f, eq-eqb ch ch refl) (pressed_value tuning_kind d stopped note v (r ch)) in
-          (made.1, made.2, subst (λ (k : ℤ). StepBound tuning_kind k d) (sym value_is) (press_law (view self).pool key hz e tuning_kind))
+          ap (λ (x : Receiver). value_in tuning_kind (x ch)) press_received
+          ∙ rw (f, eq-eqb ch ch refl) (pressed_value tuning_kind d stopped note v (key_expected Off channels 0 q r ch)) in
+          (made.1, made.2, subst (λ (k : ℤ). StepBound tuning_kind k d) (sym value_is) (press_law (view self).pool key hz e refl tuning_kind))
+
+    -- A rejected press: a reader finds the note-off of the key that was released first, whose note is off.
+    module _
+        (key : ℕ) (hz : Float) (v : ℕ) {q : Option Place} {u : Pools} (e : register_rule (view self).pool key hz ≡ value (pressing q rejected, u))
+        (p : CallMeets view (note_on_rule (view self) key hz v) self old (value (press_rejected n)) back new) where
+      rejected_conveyed : Conveys other (key_messages Off channels 0 q) (key_expected Off channels 0 q)
+      unfolding pool_view state_with
+      rejected_conveyed = conveys_key other self.model.channels Off 0 q (omega arith)
+
+      pub rejected_read : read st (take n new) ≡ key_messages Off channels 0 q
+      rejected_read =
+          let small : v < 128 = ltb-true v 128 (test_held 8 (ltb v 128) _ (done p).rule_is).0 in
+          let starts : take n new ≡ press_bytes (view self) v (pressing q rejected) =
+          press_starts {next = with_pool (view self) u} {bs = press_bytes (view self) v (pressing q rejected)} {answer = press_rejected n} refl
+          (note_on_rejected (view self) key hz v small e) p in
+          ap (read st) (starts ∙ append-nil (bytes_of (key_messages Off channels 0 q)))
+          ∙ read_plain st (key_messages Off channels 0 q) rejected_conveyed.plain
+
+      pub rejected_received : receive_bytes other st (take n new) r ≡ key_expected Off channels 0 q r
+      rejected_received = ap (λ (l : List Message). receive_all other l r) rejected_read ∙ rejected_conveyed.received r
 
     -- A release: a reader finds its message; the key's note is off.
     module _ (key v : ℕ) (p : CallMeets view (note_off_rule (view self) key v) self old (value n) back new) where

@@ -16,6 +16,8 @@ use Rattle.plans.specs.PlanLists.{note_lists, pitch_lists}
 use Rattle.plans.specs.Plan as M
 use Rattle.plans.specs.Plan.{Model, planned, open_rule}
 use Rattle.pools.specs.Pool as Pools
+use Rattle.pools.specs.declared.settings.Retrigger.{Retrigger}
+use Rattle.pools.specs.declared.settings.Retrigger.TheVariants.{Off as RetriggerOff, On as RetriggerOn}
 use Rattle.pools.specs.Pool.{found}
 use Rattle.theorems.proofs.ChannelLists.{channel_list_numbers}
 use lib.Ieee.Bits.{is_true}
@@ -24,7 +26,7 @@ use Rattle.channels.proofs.Lists.Pigeonhole.{member_self}
 use Rattle.theorems.proofs.Plans.Refusals.{note_lists_numbers, pitch_lists_numbers, refused_unchanged}
 use Rattle.senders.specs.Buffer.{check_room}
 use Rattle.plan_tuner.specs.Aot as Plan
-use Rattle.theorems.specs.Entries.{Entry, raw_message, channel_tuning, pool_start, pool_note_on, pool_note_off, pool_note_pitch, pool_note_attr, pool_global_attr, pool_stop, plan_start, plan_set_tuning, plan_set_tuning_of_pitches, plan_note_on, plan_note_off, plan_note_attr, plan_global_attr, plan_stop, allowed, Ends, Among}
+use Rattle.theorems.specs.Entries.{Entry, raw_message, channel_tuning, pool_start, pool_note_on, pool_note_off, pool_note_pitch, pool_note_attr, pool_global_attr, pool_stop, plan_start, plan_set_tuning, plan_set_tuning_of_pitches, plan_note_on, plan_note_off, plan_note_attr, plan_global_attr, plan_stop, press_allowed, allowed, Ends, Among}
 use Rattle.senders.specs.declared.tuner.NoteMessage.TheVariants.{Off, On, Pressure}
 use Rattle.theorems.proofs.Tuners.Refusals.{among_check_room, message_numbers, tuning_numbers, press_numbers, release_numbers, key_numbers, repitch_numbers, global_numbers, stop_numbers}
 
@@ -63,7 +65,7 @@ pub demand_1 : (c : Entry) (room : ℕ) → Ends (λ A o. Among {A = A} (allowed
 unfolding open_rule Pools.open_rule
 demand_1 (raw_message ch m) room = message_numbers ch m room
 demand_1 (channel_tuning kind ch d) room = tuning_numbers kind ch d room
-demand_1 (pool_start cs kind mode) room = channel_list_among cs
+demand_1 (pool_start cs kind mode retrigger) room = channel_list_among cs
 demand_1 (pool_note_on t key hz v) room = press_numbers t key hz v room
 demand_1 (pool_note_off t key v) room = release_numbers t key v room
 demand_1 (pool_note_pitch t key hz) room = repitch_numbers t key hz room
@@ -79,12 +81,16 @@ demand_1 (plan_note_attr t key p) room = key_numbers Pressure t.plan.channels p 
 demand_1 (plan_global_attr t m) room = global_numbers t.tuning_kind t.plan.channels m room
 demand_1 (plan_stop t) room = rw (le-leb 0 room (omega arith)) tt
 
+press_known : (r : Retrigger) → Each (λ (n : ℕ). leb 1 n && leb n 13 ≡ true) (press_allowed r)
+press_known RetriggerOff = (refl, (refl, (refl, (refl, tt))))
+press_known RetriggerOn = (refl, (refl, (refl, tt)))
+
 -- The numbers are those of refusals, from 1 to 13.
 pub numbers_known : (c : Entry) → Each (λ (n : ℕ). leb 1 n && leb n 13 ≡ true) (allowed c)
 numbers_known (raw_message ch m) = (refl, (refl, (refl, (refl, tt))))
 numbers_known (channel_tuning kind ch d) = (refl, (refl, (refl, tt)))
-numbers_known (pool_start cs kind mode) = (refl, (refl, tt))
-numbers_known (pool_note_on t key hz v) = (refl, (refl, (refl, (refl, tt))))
+numbers_known (pool_start cs kind mode retrigger) = (refl, (refl, tt))
+numbers_known (pool_note_on t key hz v) = press_known t.pool.retrigger
 numbers_known (pool_note_off t key v) = (refl, (refl, tt))
 numbers_known (pool_note_pitch t key hz) = (refl, (refl, tt))
 numbers_known (pool_note_attr t key p) = (refl, (refl, tt))

@@ -13,15 +13,16 @@ use lib.ListN.{length, get_elem?}
 use Rattle.channels.specs.Outcome.{Outcome, value, refused}
 use Rattle.channels.specs.ChannelList.{list_rule, present}
 use Rattle.channels.specs.Places.{Place}
-use Rattle.pools.specs.Pool.{key_count, State, Press, accepted, found, register_rule, outcome_and_state}
+use Rattle.pools.specs.Pool.{key_count, State, Pressing, accepted, found, register_rule, outcome_and_state}
 use Rattle.theorems.specs.PoolCalls as PoolCalls
 use Rattle.channels.specs.declared.tuning_value.TuningKind.{TuningKind}
 use Rattle.pools.specs.declared.settings.PoolingMode.{PoolingMode}
+use Rattle.pools.specs.declared.settings.Retrigger.{Retrigger}
 use Rattle.pools.specs.declared.settings.PoolGroupBy.TheVariants.{Channel}
 use Rattle.theorems.specs.PoolInvariant.{Ok}
 use Rattle.theorems.proofs.Pools.Invariant.{reached_ok as pool_reached_ok}
-use Rattle.theorems.proofs.Pools.Presses.{press_channel}
-use Rattle.theorems.proofs.Pools.Settings.{channels_kept}
+use Rattle.theorems.proofs.Pools.Answers.{accepted_channel}
+use Rattle.theorems.proofs.Pools.Settings.{channels_kept, retrigger_kept}
 use Rattle.senders.specs.Buffer.{Effect, WriteOutcome, check_room, state_after}
 use Rattle.senders.specs.Jit.{Tuner, press_effect, note_on_rule, note_off_rule, note_pitch_rule, stop_rule, start_rule}
 use Rattle.senders.specs.Event.{as_press, with_same_tuner, call_rule, play_rule}
@@ -54,10 +55,11 @@ tested_moves t n true o m = m
 tested_moves t n false o m = stays refl
 
 press_moves :
-    (t : Tuner) (v key : ℕ) (small : key < key_count) (hz : Float) (o : Outcome (Press × State)) → register_rule t.pool key hz ≡ o
+    (t : Tuner) (v key : ℕ) (small : key < key_count) (hz : Float) (o : Outcome (Pressing × State)) → register_rule t.pool key hz ≡ o
     → Moves t.pool (state_after t (press_effect t v o)).pool
 unfolding PoolCalls.step outcome_and_state
-press_moves t v key small hz (value r) e = moves (PoolCalls.press key small hz) (sym (ap (λ (o : Outcome (Press × State)). (outcome_and_state t.pool o).1) e))
+press_moves t v key small hz (value r) e =
+    moves (PoolCalls.press key small hz) (sym (ap (λ (o : Outcome (Pressing × State)). (outcome_and_state t.pool o).1) e))
 press_moves t v key small hz (refused n) e = stays refl
 
 note_on_moves : (t : Tuner) (key : ℕ) → key < key_count → (hz : Float) (v : ℕ) → Moves t.pool (state_after t (note_on_rule t key hz v)).pool
@@ -108,21 +110,25 @@ entry_of_length [] i h = absurd (omega arith)
 entry_of_length (x ∷ l) zero h = (x, refl)
 entry_of_length (x ∷ l) (suc i) h = entry_of_length l i (omega arith)
 
-module _ (channels : List ℕ) (kind : TuningKind) (mode : PoolingMode) (calls : List Call) where
+module _ (channels : List ℕ) (kind : TuningKind) (mode : PoolingMode) (retrigger : Retrigger) (calls : List Call) where
   abbrev pool : State
-  pool = (reached channels kind mode calls).pool
+  pool = (reached channels kind mode retrigger calls).pool
 
   -- The tuner's model is one that calls of a pool model have led to.
-  pub reached_pool : (ps : List PoolCalls.Call) × (pool ≡ PoolCalls.reached channels Channel mode ps)
-  reached_pool = run_pool (start_rule channels kind mode).1 calls
+  pub reached_pool : (ps : List PoolCalls.Call) × (pool ≡ PoolCalls.reached channels Channel mode retrigger ps)
+  reached_pool = run_pool (start_rule channels kind mode retrigger).1 calls
 
   -- The invariant of pools holds.
   pub reached_ok : Ok (length (present (list_rule channels))) pool
-  reached_ok = let p = reached_pool in subst (Ok (length (present (list_rule channels)))) (sym p.1) (pool_reached_ok channels Channel mode p.0)
+  reached_ok = let p = reached_pool in subst (Ok (length (present (list_rule channels)))) (sym p.1) (pool_reached_ok channels Channel mode retrigger p.0)
 
   -- The channels are those of the list that it was started with.
   pub reached_channels : pool.channels ≡ present (list_rule channels)
-  reached_channels = let p = reached_pool in ap (λ (s : State). s.channels) p.1 ∙ channels_kept channels Channel mode p.0
+  reached_channels = let p = reached_pool in ap (λ (s : State). s.channels) p.1 ∙ channels_kept channels Channel mode retrigger p.0
+
+  -- And so is the retrigger setting.
+  pub reached_retrigger : pool.retrigger ≡ retrigger
+  reached_retrigger = let p = reached_pool in ap (λ (s : State). s.retrigger) p.1 ∙ retrigger_kept channels Channel mode retrigger p.0
 
   -- A found key's channel is an entry of the list: no release, pressure, repitch or stop meets a channel past it.
   pub found_entry : (key : ℕ) (p : Place) → found pool key ≡ some p → (ch : ℕ) × (get_elem? pool.channels p.channel ≡ some ch)
@@ -132,10 +138,10 @@ module _ (channels : List ℕ) (kind : TuningKind) (mode : PoolingMode) (calls :
 
   -- Nor does a press.
   pub pressed_entry :
-      (key : ℕ) (hz : Float) {i : ℕ} {stopped : Option ℤ} {note : ℤ} {d : Float} {u : State}
-      → register_rule pool key hz ≡ value (accepted i stopped note d, u) → (ch : ℕ) × (get_elem? pool.channels i ≡ some ch)
-  pressed_entry key hz {i} {stopped} {note} {d} {u} e =
+      (key : ℕ) (hz : Float) {r : Pressing × State} {i : ℕ} {stopped : Option ℤ} {note : ℤ} {d : Float}
+      → register_rule pool key hz ≡ value r → r.0.press ≡ accepted i stopped note d → (ch : ℕ) × (get_elem? pool.channels i ≡ some ch)
+  pressed_entry key hz {r} {i} e a =
       let p = reached_pool in
-      let f = subst (λ (s : State). register_rule s key hz ≡ value (accepted i stopped note d, u)) p.1 e in
-      let small = press_channel channels Channel mode p.0 key hz f in
+      let f = subst (λ (s : State). register_rule s key hz ≡ value r) p.1 e in
+      let small = accepted_channel channels Channel mode retrigger p.0 key hz f a in
       entry_of_length pool.channels i (subst (λ (s : State). i < length s.channels) (sym p.1) small)

@@ -17,20 +17,23 @@ use Rattle.channels.specs.Refusal.{channel_over15, buffer_too_short}
 use Rattle.plans.specs.Plan.{Model, untuned, planned}
 use Rattle.channels.specs.Lists.{member}
 use Rattle.channels.specs.Places.{Place}
-use Rattle.pools.specs.Pool.{State, Press, rejected, fresh, found, register_rule, repitch_rule}
+use Rattle.pools.specs.Pool.{State, Pressing, rejected, fresh, found, register_rule, repitch_rule}
 use Rattle.channels.specs.TuningValue.{sent_as, tuning_rule}
 use Rattle.channels.specs.declared.tuning_value.Tuning.{Tuning}
 use Rattle.channels.specs.declared.tuning_value.TuningKind.{TuningKind}
 use Rattle.pools.specs.declared.settings.PoolingMode.{PoolingMode}
+use Rattle.pools.specs.declared.settings.Retrigger.{Retrigger}
+use Rattle.pools.specs.declared.settings.Retrigger.TheVariants.{Off, On}
 use Rattle.pools.specs.declared.settings.PoolGroupBy.TheVariants.{Channel as PoolGroup}
 use Rattle.theorems.proofs.Pools.Presses.{repitch_unknown}
+use Rattle.theorems.proofs.Pools.Retrigger.{not_may_off}
 use Rattle.theorems.proofs.Pools.Refusals.{open_offence, register_refuses, repitch_refuses}
 use Rattle.senders.specs.Buffer.{Effect, WriteOutcome, sent, check_room, result_of, StateAfter, buffer_after, CallMeets}
 use Rattle.senders.specs.Mts.{tuning_sent, channel_tuning_rule}
 use Rattle.senders.specs.Tuner.{key_rule, to_all_rule}
-use Rattle.senders.specs.Jit.{Tuner, with_pool, press_rejected, press_effect, start_rule, note_on_rule, note_off_rule, repitch_effect, note_pitch_rule, stop_rule}
+use Rattle.senders.specs.Jit.{Tuner, with_pool, press_rejected, pressing, press_effect, start_rule, note_on_rule, note_off_rule, repitch_effect, note_pitch_rule, stop_rule}
 use Rattle.plan_tuner.specs.Aot as Plan
-use Rattle.theorems.specs.Entries.{Among, MessageRefused, event_allowed}
+use Rattle.theorems.specs.Entries.{Among, MessageRefused, press_allowed, event_allowed}
 use Rattle.senders.specs.Message.{Valid, is_channel, is_data, is_bend}
 use Rattle.senders.specs.Midi.{bytes, to_message, check_data, message_rule}
 use Rattle.senders.specs.Event.{as_press, with_same_tuner, call_rule, play_rule}
@@ -106,27 +109,36 @@ tuning_numbers kind ch v room =
 
 -- A start is refused 6 or 7, and the tuner then has no channels.
 pub start_numbers :
-    (channels : List ℕ) (kind : TuningKind) (mode : PoolingMode) (n : ℕ) → (start_rule channels kind mode).0 ≡ refused n
-    → ((n ≡ 6) ⊎ (n ≡ 7)) × ((start_rule channels kind mode).1.pool ≡ fresh [] PoolGroup mode)
-start_numbers channels kind mode n e = let o = open_offence channels PoolGroup mode n e in (o.0, o.2)
+    (channels : List ℕ) (kind : TuningKind) (mode : PoolingMode) (retrigger : Retrigger) (n : ℕ)
+    → (start_rule channels kind mode retrigger).0 ≡ refused n
+    → ((n ≡ 6) ⊎ (n ≡ 7)) × ((start_rule channels kind mode retrigger).1.pool ≡ fresh [] PoolGroup mode retrigger)
+start_numbers channels kind mode retrigger n e = let o = open_offence channels PoolGroup mode retrigger n e in (o.0, o.2)
 
--- A press is refused 8, 1, 11 or 10.
-pub among_press : (ns : List ℕ) (t : Tuner) (key : ℕ) (hz : Float) (v : ℕ) → member 8 ns ≡ true → member 1 ns ≡ true → member 11 ns ≡ true
+-- A press is refused 8, 1, 11 or 10, and 11 without retrigger alone.
+pub among_press :
+    (ns : List ℕ) (t : Tuner) (key : ℕ) (hz : Float) (v : ℕ) → member 8 ns ≡ true → member 1 ns ≡ true → (t.pool.retrigger ≡ Off → member 11 ns ≡ true)
     → Among ns (note_on_rule t key hz v)
 among_press ns t key hz v eight one eleven =
     among_test ns 8 (ltb v 128) (press_effect t v (register_rule t.pool key hz)) eight (by (register_rule t.pool key hz) refl)
   where
-    by : (o : Outcome (Press × State)) → register_rule t.pool key hz ≡ o → Among ns (press_effect t v o)
+    by : (o : Outcome (Pressing × State)) → register_rule t.pool key hz ≡ o → Among ns (press_effect t v o)
     by (value r) e = tt
     by (refused n) e =
         elim ((register_refuses t.pool key hz n).0 e) [
           | inl h ↦ ap (λ (k : ℕ). member k ns) h.1 ∙ one
-          | inr h ↦ ap (λ (k : ℕ). member k ns) h.1.1 ∙ eleven
+          | inr h ↦ ap (λ (k : ℕ). member k ns) h.1.1 ∙ eleven (not_may_off t.pool key h.1.0)
         ]
 
-pub press_numbers : (t : Tuner) (key : ℕ) (hz : Float) (v room : ℕ) → Among (8 ∷ 1 ∷ 11 ∷ 10 ∷ []) (check_room room (note_on_rule t key hz v))
+pub press_numbers : (t : Tuner) (key : ℕ) (hz : Float) (v room : ℕ) → Among (press_allowed t.pool.retrigger) (check_room room (note_on_rule t key hz v))
 press_numbers t key hz v room =
-    among_check_room (8 ∷ 1 ∷ 11 ∷ 10 ∷ []) room (note_on_rule t key hz v) refl (among_press (8 ∷ 1 ∷ 11 ∷ 10 ∷ []) t key hz v refl refl refl)
+    let ns = press_allowed t.pool.retrigger in
+    let has = all t.pool.retrigger in
+    among_check_room ns room (note_on_rule t key hz v) has.2
+    (among_press ns t key hz v has.0 has.1 (λ off. ap (λ (r : Retrigger). member 11 (press_allowed r)) off))
+  where
+    all : (r : Retrigger) → (member 8 (press_allowed r) ≡ true) × (member 1 (press_allowed r) ≡ true) × (member 10 (press_allowed r) ≡ true)
+    all Off = (refl, refl, refl)
+    all On = (refl, refl, refl)
 
 -- A release is refused 8 or 10.
 pub release_numbers : (t : Tuner) (key v room : ℕ) → Among (8 ∷ 10 ∷ []) (check_room room (note_off_rule t key v))
@@ -168,17 +180,21 @@ among_keeping : (ns : List ℕ) (t : Tuner) (o : WriteOutcome) → Among ns o �
 among_keeping ns t (value e) h = tt
 among_keeping ns t (refused n) h = h
 
-among_call : (ns : List ℕ) (k : EventKind) (t : Tuner) (key : ℕ) (hz : Float) (v : ℕ) → member 8 ns ≡ true → member 1 ns ≡ true → member 11 ns ≡ true
+among_call :
+    (ns : List ℕ) (k : EventKind) (t : Tuner) (key : ℕ) (hz : Float) (v : ℕ) → member 8 ns ≡ true → member 1 ns ≡ true
+    → (t.pool.retrigger ≡ Off → member 11 ns ≡ true)
     → Among ns (call_rule k t key hz v)
 among_call ns PressKind t key hz v eight one eleven = among_press ns t key hz v eight one eleven
 among_call ns Release t key hz v eight one eleven = among_sounding ns (note_off_rule t key v) (among_test ns 8 (ltb v 128) _ eight tt)
 among_call ns Repitch t key hz v eight one eleven = among_keeping ns t (note_pitch_rule t key hz) (among_repitch ns t key hz one)
 
-pub among_play : (ns : List ℕ) (t : Tuner) (e : Event) → member 8 ns ≡ true → member 1 ns ≡ true → member 11 ns ≡ true → Among ns (play_rule t e)
+pub among_play :
+    (ns : List ℕ) (t : Tuner) (e : Event) → member 8 ns ≡ true → member 1 ns ≡ true → (t.pool.retrigger ≡ Off → member 11 ns ≡ true)
+    → Among ns (play_rule t e)
 among_play ns t e eight one eleven = among_call ns e.kind t e.key e.pitch.hz e.velocity eight one eleven
 
 call_numbers :
-    (k : EventKind) (t : Tuner) (key : ℕ) (hz : Float) (v room : ℕ) → Among (event_allowed k) (check_room room (call_rule k t key hz v))
+    (k : EventKind) (t : Tuner) (key : ℕ) (hz : Float) (v room : ℕ) → Among (event_allowed t.pool.retrigger k) (check_room room (call_rule k t key hz v))
 call_numbers PressKind t key hz v room = press_numbers t key hz v room
 call_numbers Release t key hz v room =
     let rule = note_off_rule t key v in
@@ -187,7 +203,7 @@ call_numbers Repitch t key hz v room =
     let rule = note_pitch_rule t key hz in
     among_check_room (1 ∷ 10 ∷ []) room (with_same_tuner t rule) refl (among_keeping (1 ∷ 10 ∷ []) t rule (among_repitch (1 ∷ 10 ∷ []) t key hz refl))
 
-pub play_numbers : (t : Tuner) (e : Event) (room : ℕ) → Among (event_allowed e.kind) (check_room room (play_rule t e))
+pub play_numbers : (t : Tuner) (e : Event) (room : ℕ) → Among (event_allowed t.pool.retrigger e.kind) (check_room room (play_rule t e))
 play_numbers t e room = call_numbers e.kind t e.key e.pitch.hz e.velocity room
 
 -- A message to all: 8, 9, 10, also where nothing is sent.
@@ -219,16 +235,16 @@ room_refuses room e {n} h = by (leb (length e.bytes) room) refl h
     by true l h = let z : ◌≡◌ {A = ℕ} 0 1 = cc in absurd (omega arith)
     by false l h = (leb-false (length e.bytes) room l, (cc))
 
--- A press: 8 before all else, then what the model refuses, 1 and then 11 by `register_refuses`, then 10.
+-- A press: 8 before all else, then what the model refuses, 1 and then 11 by `register_refuses`, then 10 for the bytes of its release and its own together.
 pub press_order :
     (t : Tuner) (key : ℕ) (hz : Float) (v room : ℕ)
     → check_room room (note_on_rule t key hz v) ≡ (refuse 8 unless is_data v then check_room room (press_effect t v (register_rule t.pool key hz)))
 press_order t key hz v room = test_first room 8 (ltb v 128) (press_effect t v (register_rule t.pool key hz))
 
--- A rejected press never meets 10.
+-- A rejected press that released nothing never meets 10.
 pub rejected_fits :
     (t : Tuner) (v room : ℕ) (u : State)
-    → check_room room (press_effect t v (value (rejected, u))) ≡ value (record { result = press_rejected; bytes = []; next = with_pool t u })
+    → check_room room (press_effect t v (value (pressing none rejected, u))) ≡ value (record { result = press_rejected 0; bytes = []; next = with_pool t u })
 rejected_fits t v room u = rw (le-leb 0 room (omega arith))
 
 -- A plan: what its lists are refused with comes before the room.

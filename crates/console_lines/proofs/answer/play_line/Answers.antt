@@ -1,9 +1,9 @@
 -- `answer::play_line`: the tuner plays the line's event.
-use Rattle.std.proofs.Common.{refl, ap, ◌∙◌}
+use Rattle.std.proofs.Common.{refl, ap}
 use Rattle.channels.specs.Outcome.{value}
 use Rattle.arithmetic.proofs.Rules.Outcomes.{hands_on}
 use Rattle.senders.specs.Jit.{view}
-use Rattle.console_lines.proofs.Steps.Playing.{bytes_counted_sent, event_meets, malformed_meets}
+use Rattle.console_lines.proofs.Steps.Playing.{event_meets, malformed_meets}
 use Rattle.console_lines.proofs.answer.play_line.Goals as goal
 
 pub returns-in_err-parsed : goal.returns-in_err-parsed
@@ -17,4 +17,4 @@ returns-in_err-play c =
 pub returns : goal.returns
 returns c =
     event_meets (view c.args.tuner.now) c.in_ok-parsed.parsed c.in_ok-parsed.ensures c.pitch_of.result c.pitch_of.ensures c.in_ok-play.ensures
-    (ap value c.unwrap_or.ensures ∙ bytes_counted_sent c.in_ok-play.field-0)
+    (ap value c.len.ensures)
