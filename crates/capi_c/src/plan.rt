@@ -162,8 +162,11 @@ pub extern "C" fn tarvoued_plan_model_open(plan: &mut Plan, channels: &[u8], gro
     let listed = ChannelList::of(channels);
     let answer = Answer::from(listed);
     if let Ok(list) = listed {
-        let model = AotTuningModel::new(list, GroupBy::from(u16::from(group_by)));
-        *plan = AotTuner::of(model, TuningKind::FineTuning);
+        plan.reset(
+            list,
+            GroupBy::from(u16::from(group_by)),
+            TuningKind::FineTuning,
+        );
     }
     answer
 }

@@ -13,12 +13,12 @@ use arithmetic::refusal::Refusal;
 const MOST_ENTRIES: usize = CHANNELS as usize;
 
 // Entries, the first `count` places. Every content is some list: a count over sixteen is read as sixteen, a channel by its remainder by 16. It lies in the
-// memory of programs in C, among numbers of two bytes, so its count has two.
+// memory of programs in C, among numbers of two bytes, so its count has two. Its fields are public, for whoever has it in numbers.
 #[repr(C)]
 #[derive(Clone, Copy)]
 pub struct ChannelList {
-    channels: [u8; MOST_ENTRIES],
-    count: u16,
+    pub channels: [u8; MOST_ENTRIES],
+    pub count: u16,
 }
 
 impl ChannelList {
@@ -74,8 +74,8 @@ impl ChannelList {
     }
 
     // Whether a channel is an entry.
-    fn is_member(self, channel: Channel) -> bool
-        ensures { result ≡ member channel.number (entries self) }
+    fn is_member(&self, channel: Channel) -> bool
+        ensures { result ≡ member channel.number (entries self.now) }
     {
         let entries = &self.channels[..self.len() as usize];
         let number = channel.number();

@@ -32,7 +32,7 @@ impl Part {
 
 // Of the piece one part is still to be answered, of the output one is still to be written. The two buffers are the caller's and come with each call: `run` and
 // `turn` promise what these hold at exit, so that a struct with the borrows would have to give them back first, and would be no plainer.
-#[derive(Drop)]
+#[derive(Clone, Copy)]
 pub struct Stream {
     console: Console,
     unanswered: Part,

@@ -5,6 +5,7 @@ use Rattle.senders.specs.Buffer.{Effect, sends, overwrite}
 use Rattle.senders.specs.Jit.{Tuner, view as tuner_view}
 use Rattle.console_lines.specs.Split.{feed}
 use Rattle.console_lines.specs.Console.{opened, answer, answers, next, nonempty}
+use Rattle.console_lines.specs.declared.step.BegunLine.{BegunLine}
 use Rattle.console_lines.specs.declared.step.Console.{Console}
 use Rattle.console_lines.specs.declared.step.Step.{Step}
 
@@ -13,8 +14,12 @@ pub record ConsoleState : Type 0 where
   pub tuner : Tuner
   pub begun : List ℕ
 
+-- The bytes of the line that has begun.
+unfoldable pub begun_of : BegunLine → List ℕ
+begun_of l = take l.count l.bytes
+
 abbrev pub view : Console → ConsoleState
-view c = record { tuner = tuner_view c.tuner; begun = c.begun.items }
+view c = record { tuner = tuner_view c.tuner; begun = begun_of c.begun }
 
 -- The state before the input.
 abbrev pub start : ConsoleState

@@ -1,13 +1,12 @@
 // Lines of the input answered as they come, whatever pieces they come in (SPEC 10.6).
 
-ghost use Rattle.std.specs.Prelude.{◌≡◌, ◌≤◌, length};
+ghost use Rattle.std.specs.Prelude.{◌≡◌, ◌≤◌, [], ◌++◌, length};
 ghost use Rattle.arithmetic.specs.Answers.{outcome};
 ghost use Rattle.senders.specs.Buffer.{CallMeets};
-ghost use Rattle.console_lines.specs.ConsoleState.{view, start, finish_rule, StepMeets};
+ghost use Rattle.console_lines.specs.ConsoleState.{view, begun_of, clip, start, finish_rule, StepMeets};
 ghost use Rattle.console_lines.specs.Internal.{longer_by, line_end_rule};
 
 use crate::answer::{answer, opened};
-use arrayvec::ArrayVec;
 use channels::Refusal;
 use memchr::memchr;
 use senders::jit::JitTuner;
@@ -15,11 +14,50 @@ use senders::jit::JitTuner;
 // One byte more than the longest line, which says that a line is longer.
 const MOST_HELD: usize = 65;
 
-// The tuner, and the line that has begun: as much of it as decides what it means.
-#[derive(Drop)]
+// The line that has begun: as much of it as decides what it means. A count over 65 is read as 65. (An `ArrayVec` would hold the same, but is not `Copy`, as the
+// console is.)
+#[derive(Clone, Copy)]
+struct BegunLine {
+    bytes: [u8; MOST_HELD],
+    count: usize,
+}
+
+impl BegunLine {
+    // No line has begun.
+    #[tactic(auto, unfolding(crate::specs::ConsoleState::begun_of))]
+    fn none() -> BegunLine
+        ensures { begun_of result ≡ [] }
+    {
+        BegunLine {
+            bytes: [0; MOST_HELD],
+            count: 0,
+        }
+    }
+
+    // Its bytes.
+    #[tactic(auto, unfolding(crate::specs::ConsoleState::begun_of))]
+    fn as_slice(&self) -> &[u8]
+        ensures { result.now ≡ begun_of self.now }
+    {
+        &self.bytes[..self.count.min(MOST_HELD)]
+    }
+
+    // More bytes of it, as many as are kept.
+    fn extend(&mut self, more: &[u8])
+        ensures { begun_of self.new ≡ clip (begun_of self.old ++ more.now) }
+    {
+        let count = self.count.min(MOST_HELD);
+        let kept = (MOST_HELD - count).min(more.len());
+        self.bytes[count..count + kept].copy_from_slice(&more[..kept]);
+        self.count = count + kept;
+    }
+}
+
+// The tuner, and the line that has begun.
+#[derive(Clone, Copy)]
 pub struct Console {
     tuner: JitTuner,
-    begun: ArrayVec<u8, MOST_HELD>,
+    begun: BegunLine,
 }
 
 // How many bytes of a piece were used, and how many were written.
@@ -36,7 +74,7 @@ impl Console {
     {
         Console {
             tuner: opened(),
-            begun: ArrayVec::new(),
+            begun: BegunLine::none(),
         }
     }
 
@@ -69,7 +107,7 @@ impl Console {
     pub fn finish(&mut self, out: &mut [u8]) -> Result<usize, Refusal>
         ensures { CallMeets view (finish_rule (view self.old)) self.old out.old (outcome result) self.new out.new }
     {
-        if self.begun.is_empty() {
+        if self.begun.as_slice().is_empty() {
             return Ok(0);
         }
         self.end_line(out)
@@ -80,8 +118,7 @@ impl Console {
         ensures longer { view self.new ≡ longer_by (view self.old) more.now }
         ensures small { length (view self.old).begun ≤ 65 }
     {
-        let kept = self.begun.remaining_capacity().min(more.len());
-        self.begun.try_extend_from_slice(&more[..kept]).unwrap();
+        self.begun.extend(more);
     }
 
     // Answers the line that has begun, which ends here. Refuses 10.
@@ -89,7 +126,7 @@ impl Console {
         ensures { CallMeets view (line_end_rule (view self.old)) self.old out.old (outcome result) self.new out.new }
     {
         let written = answer(&mut self.tuner, self.begun.as_slice(), out)?;
-        self.begun.clear();
+        self.begun = BegunLine::none();
         Ok(written)
     }
 }

@@ -6,7 +6,7 @@ ghost use Rattle.std.specs.Float.Ieee.Positive.{positive};
 ghost use Rattle.arithmetic.specs.Answers.{optional, outcome, outcome_by};
 ghost use Rattle.channels.specs.ChannelList.{entries};
 ghost use Rattle.channels.specs.TuningValue.{tuning_kind_of};
-ghost use Rattle.plans.specs.Plan.{access_answer, view as plan_view, Measurable};
+ghost use Rattle.plans.specs.Plan.{access_answer, empty, view as plan_view, Measurable};
 ghost use Rattle.senders.specs.Buffer.{WriteMeets, CallMeets, sent};
 ghost use Rattle.senders.specs.Midi.{bytes_of};
 ghost use Rattle.senders.specs.Tuner.{key_rule};
@@ -69,6 +69,14 @@ impl AotTuner {
         (AotTuner::of(model, tuning_kind), answer)
     }
 
+    // The tuner becomes one of the channels listed, without a plan.
+    pub fn reset(&mut self, channels: ChannelList, group_by: GroupBy, tuning_kind: TuningKind)
+        ensures { view self.new ≡ record { plan = empty (entries channels) group_by; tuning_kind = tuning_kind } }
+    {
+        self.model.reset(channels, group_by);
+        self.tuning_kind = u64::from(u16::from(tuning_kind));
+    }
+
     // The tuner becomes one of the channels of a list, without a plan. Refuses 6 or 7 as the channel list does; the tuner stays then (SPEC 9.1a).
     #[tactic(auto, unfolding(plans::specs::Plan::open_rule))]
     pub fn restart(
@@ -80,7 +88,7 @@ impl AotTuner {
         ensures started { let rule = start_rule channels.now tuning_kind in StartMeets rule.0 rule.1 self.old self.new }
     {
         let list = ChannelList::of(channels)?;
-        *self = AotTuner::of(AotTuningModel::new(list, GroupBy::Channel), tuning_kind);
+        self.reset(list, GroupBy::Channel, tuning_kind);
         Ok(list)
     }
 

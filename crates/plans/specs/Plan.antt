@@ -18,7 +18,7 @@ use Rattle.plans.specs.declared.aot.Planned.{Planned}
 use Rattle.plans.specs.declared.aot.Planned.TheVariants.{Tuned, Untuned}
 use Rattle.channels.specs.ChannelList.{list_rule, present, entries}
 use Rattle.channels.specs.Places.{note_of, channel_of}
-use Rattle.plans.specs.PlanNumbers.{detuning_of, group_by_of}
+use Rattle.plans.specs.PlanNumbers.{detuning_of, floats, group_by_of}
 use Rattle.plans.specs.PlanLine.{PlanLine, group, same}
 use Rattle.plans.specs.Walk.{count, assignment, entry}
 use Rattle.plans.specs.Placing.{Demand3}
@@ -169,7 +169,7 @@ abbrev pub model_with : List ℕ → GroupBy → Bool → ℕ → List KeyRecord
 model_with cs by planned n rs = record { channels = cs; group_by = by; tuned = planned; num_channels = n; keys = key_in rs; detunings = detuning_in by n rs }
 
 unfoldable pub view : AotTuningModel → Model
-view m = model_with (entries m.channels) (group_by_of m.group_by) (eqb m.tuned 1) m.num_channels (records_in m.records m.detunings)
+view m = model_with (entries m.channels) (group_by_of m.group_by) (eqb m.tuned 1) m.num_channels (records_in m.records (floats m.detunings))
 
 -- ---- calls in place
 

@@ -1,9 +1,10 @@
 // Plans ("ahead of time"): every key gets a channel and a note before anyone plays (SPEC 6).
 
-ghost use Rattle.std.specs.Prelude.{◌≡◌, OnOk};
+ghost use Rattle.std.specs.Prelude.{◌≡◌, OnOk, from_bits};
+ghost use Rattle.std.specs.Float.{binary64};
 ghost use Rattle.arithmetic.specs.Answers.{optional, outcome_by};
 ghost use Rattle.channels.specs.ChannelList.{entries};
-ghost use Rattle.plans.specs.PlanNumbers.{detuning_of, group_by_of};
+ghost use Rattle.plans.specs.PlanNumbers.{detuning_of, floats, group_by_of};
 ghost use Rattle.plans.specs.Plan.{Measurable, PlanOptimal, TuningMeets, access_answer, empty, next_rule, open_rule, plan_answer, view, planned};
 ghost use Rattle.plans.specs.PlanInternal.{IsLeast, group_up_to, groups_from, raised};
 
@@ -13,6 +14,7 @@ use crate::sorted_keys::SortedKeys;
 use arithmetic::refusal::Refusal;
 use channels::keys::{KEYS, Place, place_of};
 use channels::list::ChannelList;
+use std::num::{f64_from_bits_with_nan, f64_to_bits_with_nan};
 
 // What a sound module retunes together: one note, one note letter, or a whole channel (SPEC 1.7).
 #[derive(Clone, Copy, Debug, PartialEq, Eq)]
@@ -45,17 +47,19 @@ pub enum Planned {
     Untuned(u16),
 }
 
-// A model of tunings that are planned. Every content is some model (SPEC 12.1), since it lies in the memory of programs in C.
+// A model of tunings that are planned. Every content is some model (SPEC 12.1), since it lies in the memory of programs in C. Its fields are public, for
+// whoever has it in numbers.
 #[repr(C)]
 #[derive(Clone, Copy)]
 pub struct AotTuningModel {
-    // By key, where it is in the plan, and its detuning. They are two arrays, since they lie so in C's memory, without padding.
-    records: [u16; KEYS],
-    detunings: [f64; KEYS],
-    channels: ChannelList,
-    group_by: u16,
-    num_channels: u16,
-    tuned: u16,
+    // By key, where it is in the plan, and the bits of its detuning: f64s that are NaN are one value to the prover, and a model that a refusal leaves is the
+    // same to the bit. They are two arrays, since they lie so in C's memory, without padding.
+    pub records: [u16; KEYS],
+    pub detunings: [u64; KEYS],
+    pub channels: ChannelList,
+    pub group_by: u16,
+    pub num_channels: u16,
+    pub tuned: u16,
 }
 
 impl AotTuningModel {
@@ -65,12 +69,23 @@ impl AotTuningModel {
     {
         AotTuningModel {
             records: [0; KEYS],
-            detunings: [0.0; KEYS],
+            detunings: [0; KEYS],
             channels,
             group_by: group_by as u16,
             num_channels: channels.len() as u16,
             tuned: 0,
         }
+    }
+
+    // The same in place, where the model lies: it becomes one without a plan. Detunings are left as they lie, since no key is in the plan.
+    pub fn reset(&mut self, channels: ChannelList, group_by: GroupBy)
+        ensures { view self.new ≡ empty (entries channels) group_by }
+    {
+        self.records = [0; KEYS];
+        self.channels = channels;
+        self.group_by = group_by as u16;
+        self.num_channels = channels.len() as u16;
+        self.tuned = 0;
     }
 
     // A model without a plan, for the channels of a list. Refuses, entry by entry, 6 a channel over 15 and 7 one that came before;
@@ -108,11 +123,12 @@ impl AotTuningModel {
         let present = channels.len() as u16;
         let few = present < count;
         if few {
-            *self = AotTuningModel::new(channels, by);
+            self.reset(channels, by);
             return Ok(Planned::Untuned(count));
         }
+        let detunings = all_bits(&keys.detunings);
         self.records = keys.records;
-        self.detunings = keys.detunings;
+        self.detunings = detunings;
         self.num_channels = count;
         self.tuned = 1;
         Ok(Planned::Tuned(count))
@@ -171,9 +187,9 @@ impl AotTuningModel {
         }
         let by = self.group_by();
         let mut largest: Option<f64> = None;
-        for (&raw, &detuning) in self.records.iter().zip(&self.detunings) {
+        for (&raw, &bits) in self.records.iter().zip(&self.detunings) {
             if group_up_to(raw, by, channel) == Some(group) {
-                largest = raised(largest, number_or_zero(detuning));
+                largest = raised(largest, detuning_of(bits));
             }
         }
         largest
@@ -214,11 +230,29 @@ fn group_up_to(raw: u16, by: GroupBy, channel: u16) -> Option<i32>
     Some(group_of(by, place.note))
 }
 
-// A detuning as it is read: programs in C may have put a NaN there (SPEC 12.1).
-#[tactic(auto, unfolding(crate::specs::PlanNumbers::detuning_of))]
-fn number_or_zero(detuning: f64) -> f64
-    ensures { result ≡ detuning_of detuning }
+// The bits of detunings. (A loop by number, since an array's `map` takes ten times as long.)
+fn all_bits(detunings: &[f64; KEYS]) -> [u64; KEYS]
+    ensures { floats result ≡ detunings.now }
 {
+    let mut bits = [0; KEYS];
+    for i in 0..KEYS {
+        bits[i] = bits_of(detunings[i]);
+    }
+    bits
+}
+
+fn bits_of(detuning: f64) -> u64
+    ensures { from_bits binary64 result ≡ detuning }
+{
+    f64_to_bits_with_nan(detuning)
+}
+
+// A detuning of its bits: programs in C may have put those of a NaN there, which are read as zero (SPEC 12.1).
+#[tactic(auto, unfolding(crate::specs::PlanNumbers::detuning_of))]
+fn detuning_of(bits: u64) -> f64
+    ensures { result ≡ detuning_of (from_bits binary64 bits) }
+{
+    let detuning = f64_from_bits_with_nan(bits);
     if detuning.is_nan() { 0.0 } else { detuning }
 }
 

@@ -12,7 +12,8 @@ ghost use Rattle.pools.specs.View.{view, StateMeets, register_note_rule};
 
 mod allocation;
 
-use crate::pool::Pool;
+pub use crate::pool::Pool;
+pub use crate::queue::Queue;
 pub use crate::settings::{PoolGroupBy, PoolingMode, Retrigger};
 use arithmetic::note::Note;
 use arithmetic::pitch::Pitch;
@@ -44,17 +45,18 @@ pub struct Repitched {
     pub detuning: f64,
 }
 
-// A model of channels that are handed out. Every content is some model (SPEC 12.1), since it lies in the memory of programs in C.
+// A model of channels that are handed out. Every content is some model (SPEC 12.1), since it lies in the memory of programs in C. Its fields are public, for
+// whoever has it in numbers.
 #[repr(C)]
 #[derive(Clone, Copy)]
 pub struct JitTuningModel {
     // By key, where it is found.
-    records: [u16; KEYS],
-    pools: [Pool; 12],
-    channels: ChannelList,
-    group_by: u16,
-    pooling_mode: u16,
-    retrigger: u16,
+    pub records: [u16; KEYS],
+    pub pools: [Pool; 12],
+    pub channels: ChannelList,
+    pub group_by: u16,
+    pub pooling_mode: u16,
+    pub retrigger: u16,
 }
 
 impl JitTuningModel {
@@ -304,7 +306,6 @@ impl JitTuningModel {
 #[cfg(test)]
 mod tests {
     use super::*;
-    use crate::queue::Queue;
 
     // A model of no sense, as the memory of a program in C may hold one, is some model.
     #[test]

@@ -11,7 +11,7 @@ use channels::channel::Channel;
 
 #[repr(C)]
 #[derive(Clone, Copy)]
-pub(crate) struct Pool {
+pub struct Pool {
     pub free: Queue,
     pub order: Queue,
 }

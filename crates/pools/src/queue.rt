@@ -13,7 +13,7 @@ const MOST_ITEMS: usize = 16;
 // How many items there are, then the items, the front first: so it lies in the memory of programs in C.
 #[repr(C)]
 #[derive(Clone, Copy)]
-pub(crate) struct Queue {
+pub struct Queue {
     pub count: u16,
     pub items: [u16; MOST_ITEMS],
 }

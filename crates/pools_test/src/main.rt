@@ -8,7 +8,11 @@ use arithmetic::note::Note;
 use arithmetic::pitch::Pitch;
 use arithmetic::refusal::Refusal;
 use channels::channel::Channel;
-use pools::jit::{JitTuningModel, PoolGroupBy, PoolingMode, Pressing, Registered, Retrigger};
+use channels::keys::KEYS;
+use channels::list::ChannelList;
+use pools::jit::{
+    JitTuningModel, Pool, PoolGroupBy, PoolingMode, Pressing, Queue, Registered, Retrigger,
+};
 use printing::answers::{Answer, At, ByValue, Held, Listed, Or, Pressed, Refused, Retuned};
 use printing::decimal::Form::WithBits;
 use std::io;
@@ -321,6 +325,38 @@ fn in_place(out: &mut impl Write) -> io::Result<()> {
     look(out, &model, 3)
 }
 
+// A model in numbers that no call has made.
+fn no_sense(out: &mut impl Write) -> io::Result<()> {
+    writeln!(
+        out,
+        "-- SPEC 12.1: every content is some model, here one in which each number is the highest there is"
+    )?;
+    let queue = Queue {
+        count: u16::MAX,
+        items: [u16::MAX; 16],
+    };
+    let pool = Pool {
+        free: queue,
+        order: queue,
+    };
+    let mut model = JitTuningModel {
+        records: [u16::MAX; KEYS],
+        pools: [pool; 12],
+        channels: ChannelList {
+            channels: [u8::MAX; 16],
+            count: u16::MAX,
+        },
+        group_by: u16::MAX,
+        pooling_mode: u16::MAX,
+        retrigger: u16::MAX,
+    };
+    look(out, &model, 255)?;
+    press(out, &mut model, 255, 440.0)?;
+    model.stop();
+    writeln!(out, "  stop")?;
+    look(out, &model, 255)
+}
+
 fn retrigger(out: &mut impl Write) -> io::Result<()> {
     writeln!(
         out,
@@ -393,6 +429,7 @@ fn main(rt: HostRuntime) -> io::Result<()> {
     no_channels(&mut out)?;
     refusals(&mut out)?;
     in_place(&mut out)?;
+    no_sense(&mut out)?;
     retrigger(&mut out)?;
     retrigger_without_channel(&mut out)?;
     retrigger_letters(&mut out)?;

@@ -21,7 +21,7 @@ use channels::list::ChannelList;
 use channels::tuning_value::TuningKind;
 
 // A message on each of the sixteen channels.
-const LONGEST_TO_ALL: usize = 16 * RECORD_LEN;
+const MOST_MESSAGES: usize = 16;
 
 // The three messages of a note. An enum, since the rules name the kind too: functions that are passed would be no plainer.
 #[derive(Clone, Copy, PartialEq, Eq, Debug)]
@@ -104,14 +104,14 @@ pub fn send_checked_to_all(
     if is_suppressed(tuning_kind, message) {
         return Ok(0);
     }
-    let mut bytes = ArrayVec::<u8, LONGEST_TO_ALL>::new();
+    let mut messages = ArrayVec::<[u8; RECORD_LEN], MOST_MESSAGES>::new();
     // By number, as a list tells its channels (`entry`): an iterator of its own would be no plainer.
     for i in 0..channels.len() {
         if let Some(channel) = channels.entry(i) {
-            bytes.try_extend_from_slice(&record.on(channel)).unwrap();
+            messages.push(record.on(channel));
         }
     }
-    send(bytes.as_slice(), out)
+    send(messages.as_slice().as_flattened(), out)
 }
 
 // Whether a tuner does not pass a message on: it tunes by bends, and the message is one (SPEC 9.4).

@@ -7,6 +7,11 @@ use Rattle.console_io.proofs.Turns.{idle_from, unread_kept}
 use Rattle.console_io.proofs.Bytes.{over_rests, over_writes, over_answers, over_reads, output_failed, input_failed}
 use Rattle.console_io.proofs.turn.Goals as goal
 
+pub returns-then-not-is_empty-clause-bytes : goal.returns-then-not-is_empty-clause-bytes
+returns-then-not-is_empty-clause-bytes g c =
+    over_writes c.write-put.result c.ok.ensures.value (rw (c.unwritten-unwritten.ensures c.args.piece.now) at c.write-put.ensures.bytes)
+    (c.wrote.ensures c.args.piece.now)
+
 pub returns-in_err-map_err-clause-bytes : goal.returns-in_err-map_err-clause-bytes
 returns-in_err-map_err-clause-bytes g c =
     over_writes c.write-put.result c.ok.ensures.value (rw (c.unwritten-unwritten.ensures c.args.piece.now) at c.write-put.ensures.bytes)
@@ -18,11 +23,6 @@ returns-in_err-map_err-clause-failed g c =
     output_failed c.from_residual.result c.from_residual.ensures.1 c.write-put.result c.goes_on.ensures.err c.ok.ensures.value
     (view c.args.stream.now c.args.piece.now c.args.out.now) (search (rules, of_calls))
     (c.wrote.ensures c.args.piece.now) (grind (arith, nat_tests))
-
-pub returns-then-not-is_empty-clause-bytes : goal.returns-then-not-is_empty-clause-bytes
-returns-then-not-is_empty-clause-bytes g c =
-    over_writes c.write-put.result c.ok.ensures.value (rw (c.unwritten-unwritten.ensures c.args.piece.now) at c.write-put.ensures.bytes)
-    (c.wrote.ensures c.args.piece.now)
 
 pub returns-then-not-is_empty-2-clause-bytes : goal.returns-then-not-is_empty-2-clause-bytes
 returns-then-not-is_empty-2-clause-bytes g c =

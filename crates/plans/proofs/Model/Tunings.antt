@@ -1,5 +1,5 @@
 -- What a tuning leaves, by its cases: refused, untuned and tuned. Each follows the rule, and meets demand 3.
-use Rattle.std.proofs.Common.{◌≡◌, ℕ, ◌<◌, ◌≤◌, List, Float, length, Result, Ok, Err, refl, sym, ap, ◌∙◌, subst, arith}
+use Rattle.std.proofs.Common.{◌≡◌, ℕ, ◌<◌, ◌≤◌, List, length, Result, Ok, Err, refl, sym, ap, ◌∙◌, subst, arith}
 use Rattle.std.specs.Result.{IsErrAnd}
 use Rattle.arithmetic.specs.Outcome.{Outcome, value}
 use Rattle.arithmetic.specs.declared.refusal.Refusal.{Refusal}
@@ -9,6 +9,7 @@ use Rattle.plans.specs.declared.aot.Planned.{Planned}
 use Rattle.plans.specs.declared.sorted_keys.SortedKeys.{SortedKeys}
 use Rattle.plans.specs.PlanLine.{PlanLine}
 use Rattle.plans.specs.Walk.{count}
+use Rattle.plans.specs.PlanNumbers.{floats}
 use Rattle.plans.specs.Plan.{KeyRecord, Model, PlanAnswer, tuned, untuned, Measurable, PlanOptimal, TuningMeets, empty, plan_answer, view, planned, records_in}
 use Rattle.plans.specs.PlanInternal.{Checked, Assignments, lines_of}
 use Rattle.plans.proofs.Model.Models.{planned_untuned}
@@ -38,15 +39,15 @@ module _ (a : AotTuningModel) (o : Outcome (List PlanLine)) (s : SortedKeys) (c 
       )
 
   -- the plan is left
-  pub tuned_tunes : (records : List ℕ) (ds : List Float) (n : ℕ) → Assignments by (lines_of s) (records_in records ds) n → n ≤ length cs → length cs ≤ 16
+  pub tuned_tunes : (records bits : List ℕ) (n : ℕ) → Assignments by (lines_of s) (records_in records (floats bits)) n → n ≤ length cs → length cs ≤ 16
       → TuningMeets (planned (view a) o) a
-      (record { records = records; detunings = ds; channels = a.channels; group_by = a.group_by; num_channels = n; tuned = 1 }) (tuned n)
+      (record { records = records; detunings = bits; channels = a.channels; group_by = a.group_by; num_channels = n; tuned = 1 }) (tuned n)
   unfolding view
-  tuned_tunes records ds n assignments fit few =
+  tuned_tunes records bits n assignments fit few =
       let m = view a in
       let p = planned_lines o s m c in
-      let assigned = subst (λ (g : GroupBy). Assignments g (lines_of s) (records_in records ds) n) own assignments in
-      (view_of_plan m (lines_of s) p.0 (records_in records ds) n assigned (omega (arith, assigned.count_is, ap length same)) (omega arith) ∙ p.1, tt)
+      let assigned = subst (λ (g : GroupBy). Assignments g (lines_of s) (records_in records (floats bits)) n) own assignments in
+      (view_of_plan m (lines_of s) p.0 (records_in records (floats bits)) n assigned (omega (arith, assigned.count_is, ap length same)) (omega arith) ∙ p.1, tt)
 
 -- what follows the rule meets demand 3
 pub optimal_of : (a : AotTuningModel) (o : Outcome (List PlanLine)) (r : Result SortedKeys Refusal) → Checked o r

@@ -7,20 +7,22 @@ use Prim.Native.Nat.{ℕ, ◌<◌, ◌≤◌}
 use lib.Dec.{T, ltb}
 use lib.Ieee.{Float, nan, inf, fin, is_nan, of_bits}
 use lib.Ieee.Positive.{positive}
-use lib.ListN.{length, get_or, length-map}
+use lib.ListN.{length, get_or, replicate, length-map}
 use Rattle.std.specs.Float.{NotNan}
 use Rattle.std.proofs.lemmas.List.{get_or-map}
 use Rattle.channels.specs.Lists.{Each}
+use Rattle.channels.specs.ChannelList.{entries}
+use Rattle.channels.specs.declared.list.ChannelList.{ChannelList}
 use Rattle.channels.proofs.Lists.Laws.{Each-zip}
 use Rattle.arithmetic.specs.Outcome.{value}
 use Rattle.plans.specs.declared.aot.GroupBy.{GroupBy}
 use Rattle.plans.specs.PlanLine.{PlanLine}
-use Rattle.plans.specs.PlanNumbers.{detuning_of}
-use Rattle.plans.specs.Plan.{KeyRecord, Model, no_key, key_record, tuned, detuning_in, model_with, key_records, records_in, empty, planned_model, planned}
+use Rattle.plans.specs.PlanNumbers.{detuning_of, floats, group_by_of}
+use Rattle.plans.specs.Plan.{KeyRecord, Model, no_key, key_record, tuned, detuning_in, model_with, key_records, records_in, empty, planned_model, planned, view}
 use Rattle.plans.specs.Walk.{count}
 use Rattle.plans.specs.PlanInternal.{Accepted, Assignments}
 use Rattle.plans.proofs.Model.Records.{key_records_at, length_key_records}
-use Rattle.plans.proofs.Model.Models.{same_model, AllOut, no_keys, no_detunings, planned_tuned}
+use Rattle.plans.proofs.Model.Models.{same_model, AllOut, no_keys, no_detunings, replicated_out, planned_tuned}
 use Rattle.plans.proofs.Model.Lookups.{key_in_is_assignment, detuning_entry}
 
 -- ---- detunings as they are read
@@ -78,6 +80,13 @@ module _ (cs : List ℕ) (by : GroupBy) (n : ℕ) (rs : List KeyRecord) (e : n �
       no_detuning : (b : Bool) {o : Option Float} → o ≡ none → cond b o none ≡ none
       no_detuning true e = e
       no_detuning false e = refl
+
+-- of a model in which no key has a record
+pub view_of_empty : (list : ChannelList) (by : GroupBy) (number n : ℕ) (bits : List ℕ) → group_by_of number ≡ by → n ≡ length (entries list)
+    → view (record { records = replicate 256 0; detunings = bits; channels = list; group_by = number; num_channels = n; tuned = 0 }) ≡ empty (entries list) by
+unfolding view records_in
+view_of_empty list by number n bits e h =
+    rw e (view_of_none (entries list) by n (records_in (replicate 256 0) (floats bits)) h (replicated_out 256 (map detuning_of (floats bits))))
 
 -- ---- a plan
 module _ (m : Model) (lines : List PlanLine) (ok : Accepted lines) (rs : List KeyRecord) (n : ℕ) (s : Assignments m.group_by lines rs n)

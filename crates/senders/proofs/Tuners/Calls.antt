@@ -1,7 +1,7 @@
 -- What the calls of a pool tuner come to: a press by the model's answer, and a release.
 use mathlib.Core.Path.{◌≡◌, sym, ap}
 use mathlib.Core.Option.{Option}
-use mathlib.Core.List.{List, []}
+use mathlib.Core.List.{List}
 use Prim.Native.Nat.{ℕ, ◌<◌}
 use lib.IntN.{ℤ}
 use lib.Ieee.{Float}

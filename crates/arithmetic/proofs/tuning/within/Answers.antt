@@ -22,14 +22,14 @@ table-passes = tt
 counted : (y : ℕ) → y < 2 ^ 32 → sum_by (come_to y) BOUNDARIES ≡ within y
 counted y h = all_counted BOUNDARIES refl table-passes y h
 
-pub sum-requires-clause-fits : goal.sum-requires-clause-fits
-sum-requires-clause-fits c =
-    fits_by_from_yields_list (come_to c.args.first) BOUNDARIES c.map.result _
-    (YieldsList-from_map _ (come_to c.args.first) (YieldsList-from_slice BOUNDARIES (cc)) c.map.ensures.closure (λ x r q k. search (rules, tests)))
-    (omega (arith, counted c.args.first c.requires, within_small c.args.first))
-
 pub returns : goal.returns
 returns c =
     sum_by_from_yields_List (come_to c.args.first) BOUNDARIES c.map.result _ c.sum.ensures.ran
     (YieldsList-from_map _ (come_to c.args.first) (YieldsList-from_slice BOUNDARIES (cc)) c.map.ensures.closure (λ x r q k. search (rules, tests)))
     ∙ counted c.args.first c.requires
+
+pub sum-requires-clause-fits : goal.sum-requires-clause-fits
+sum-requires-clause-fits c =
+    fits_by_from_yields_list (come_to c.args.first) BOUNDARIES c.map.result _
+    (YieldsList-from_map _ (come_to c.args.first) (YieldsList-from_slice BOUNDARIES (cc)) c.map.ensures.closure (λ x r q k. search (rules, tests)))
+    (omega (arith, counted c.args.first c.requires, within_small c.args.first))

@@ -1,7 +1,9 @@
 -- `send_checked_to_all` meets its contract.
-use Rattle.std.proofs.Common.{◌≡◌, ◌++◌, sym, ap, ◌∙◌, arith, length, length-append}
+use Rattle.std.specs.Prelude.{flat_map}
+use Rattle.std.proofs.Common.{◌≡◌, [], ◌∷◌, ◌++◌, sym, ap, ◌∙◌, arith, length, length-append}
 use Rattle.std.proofs.Math.Seq.{take_all}
-use Rattle.std.proofs.lemmas.Grind.{common_steps}
+use Rattle.std.proofs.lemmas.Grind.{common_steps, flat_map-append}
+use Rattle.std.proofs.lemmas.List.{append-nil}
 use Rattle.channels.specs.ChannelList.{entries}
 use Rattle.senders.specs.Buffer.{sent}
 use Rattle.senders.specs.Midi.{bytes_of}
@@ -25,10 +27,12 @@ loop-i-preserved c =
       | in-Some w ↦
           let more = to_all_one_more a.message (entries a.channels) c.loop-i.i (sym w.in-Some.ensures) in
           let one = w.on.ensures ∙ checked_bytes a.message c.in_ok-record.ensures w.in-Some.channel.number in
-          let all : c.match-entry.bytes.items ≡ c.loop-i.bytes.items ++ w.on.result = grind (arith, common_steps) in
+          let all : c.match-entry.messages.items ≡ c.loop-i.messages.items ++ (w.on.result ∷ []) = grind (arith, common_steps) in
+          let flat = ap (flat_map (λ m. m)) all ∙ flat_map-append (λ m. m) c.loop-i.messages.items (w.on.result ∷ [])
+          ∙ ap (λ t. flat_map (λ m. m) c.loop-i.messages.items ++ t) (append-nil w.on.result) in
           record {
-            put = rw (all, one, c.loop-i.invariant.put, more);
-            size = omega (arith, ap length all, ap length w.on.ensures, length-append c.loop-i.bytes.items w.on.result);
+            put = rw (flat, one, c.loop-i.invariant.put, more);
+            size = omega (arith, ap length all, length-append c.loop-i.messages.items (w.on.result ∷ []));
           }
       | in_default w ↦ has_entry (entries a.channels) c.loop-i.i (omega arith) (sym w.in_default.ensures)
     ]
@@ -39,4 +43,4 @@ returns c =
     let o = sent (bytes_of (to_all a.tuning_kind (entries a.channels) a.message)) in
     let ended = take_all c.loop-i.i (entries a.channels) (omega arith) in
     rw (checked_passes a.message c.in_ok-record.ensures o, sym c.if-is_suppressed.ensures)
-    (rw (c.as_slice.ensures.value, c.loop-i.invariant.put, ended) at c.send.ensures)
+    (rw (c.as_flattened.ensures.value, c.as_slice.ensures.value, c.loop-i.invariant.put, ended) at c.send.ensures)

@@ -12,5 +12,5 @@ returns c =
       to_z-of_z w32 _ (record { sfits = c.rem_euclid.type_inv }),
       c.rem_euclid.ensures.value,
       to_z-of_z w32 n.number (note_fits n.number n.is_note),
-      rem_euclid_is n.number 12,
+      rem_euclid_is n.number _,
     )

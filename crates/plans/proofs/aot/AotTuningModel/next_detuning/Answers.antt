@@ -4,14 +4,14 @@ use mir.Syntax.{w32}
 use mir.Val.{SFits}
 use mir.Facts.{to_z-of_z}
 use borrow.Author.Rules.{rules}
-use lib.Ieee.{Float}
+use lib.Ieee.{Float, binary64, of_bits}
 use lib.IntN.{ℤ}
 use Rattle.std.proofs.Math.Option.{Option, some}
 use lib.ListN.{length-map}
 use Rattle.arithmetic.specs.Answers.{optional}
 use Rattle.plans.specs.declared.aot.AotTuningModel.{AotTuningModel}
 use Rattle.plans.specs.declared.aot.GroupBy.{GroupBy}
-use Rattle.plans.specs.PlanNumbers.{detuning_of, group_by_of}
+use Rattle.plans.specs.PlanNumbers.{detuning_of, floats, group_by_of}
 use Rattle.plans.specs.Plan.{detuning_in, next_rule, view, records_in}
 use Rattle.plans.specs.PlanInternal.{IsLeast, groups_from}
 use Rattle.plans.proofs.Model.NextEntry.{no_group, entry_found, entry_lost}
@@ -19,7 +19,7 @@ use Rattle.plans.proofs.aot.AotTuningModel.next_detuning.Goals as goal
 use Rattle.plans.proofs.aot.AotTuningModel.next_detuning.Goals.{After-least_group, In_ok-group}
 
 abbrev entries_of : GroupBy → AotTuningModel → ℕ → ℤ → Option Float
-entries_of by m c g = detuning_in by m.num_channels (records_in m.records m.detunings) c g
+entries_of by m c g = detuning_in by m.num_channels (records_in m.records (floats m.detunings)) c g
 
 module _ (c : After-least_group) where
   abbrev by : GroupBy
@@ -29,7 +29,7 @@ module _ (c : After-least_group) where
   records = c.args.self.now.records
 
   abbrev ds : List Float
-  ds = map detuning_of c.args.self.now.detunings
+  ds = map detuning_of (floats c.args.self.now.detunings)
 
   abbrev in_plan : Bool
   in_plan = ltb c.args.channel c.args.self.now.num_channels
@@ -38,7 +38,7 @@ module _ (c : After-least_group) where
   long =
       let a : length records ≡ 256 = omega arith in
       let b : length c.args.self.now.detunings ≡ 256 = omega arith in
-      a ∙ sym (length-map c.args.self.now.detunings detuning_of ∙ b)
+      a ∙ sym (length-map (floats c.args.self.now.detunings) detuning_of ∙ length-map c.args.self.now.detunings (of_bits binary64) ∙ b)
 
   abbrev listed : List ℤ
   listed = groups_from by c.args.channel c.args.from records

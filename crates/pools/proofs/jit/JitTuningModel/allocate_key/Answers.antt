@@ -1,5 +1,5 @@
 -- `JitTuningModel::allocate_key` meets its contract: the press is that of the nearest note.
-use Rattle.std.proofs.Common.{◌≡◌, ℤ, Float, Some, None, MatchOption, Bool, true, false, refl, sym, ap, ◌∙◌, rules}
+use Rattle.std.proofs.Common.{◌≡◌, ℤ, Float, Some, None, MatchOption, false, refl, sym, ap, ◌∙◌, rules}
 use Rattle.std.specs.Prelude.{Option as Optional, IsSomeAnd}
 use Rattle.arithmetic.specs.Outcome.{value}
 use Rattle.pools.specs.PoolAnswers.{registered_view}
@@ -9,7 +9,7 @@ use Rattle.pools.specs.declared.jit.Registered.{Registered}
 use Rattle.std.proofs.Math.Option.{Option, some, none}
 use Rattle.channels.specs.Places.{Place, place, is_held}
 use Rattle.pools.proofs.Models.Views.{key_here}
-use Rattle.pools.specs.Pool.{State, Press, found, pressed, outcome_and_state}
+use Rattle.pools.specs.Pool.{State, Press, pressed, outcome_and_state}
 use Rattle.pools.specs.View.{view}
 use Rattle.pools.proofs.Pools.Presses.{register_found, unless_held_new}
 use Rattle.pools.proofs.jit.JitTuningModel.allocate_key.Goals as goal

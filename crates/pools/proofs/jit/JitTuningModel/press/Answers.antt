@@ -1,12 +1,11 @@
 -- `JitTuningModel::press` meets its contract: a press is the release that it begins with and then the press of a key that is not held.
-use Rattle.std.proofs.Common.{◌≡◌, ℕ, refl, sym, ap, ◌∙◌}
-use Rattle.std.proofs.Math.Option.{Option}
+use Rattle.std.proofs.Common.{◌≡◌, refl, sym, ap, ◌∙◌}
 use Rattle.std.proofs.lemmas.Result.{err_from_is_err_and}
-use Rattle.arithmetic.specs.Outcome.{Outcome, value, refused}
-use Rattle.channels.specs.Places.{Place, place}
-use Rattle.pools.specs.Pool.{State, Press, Pressing, outcome_and_state, unless_held, pressed}
+use Rattle.arithmetic.specs.Outcome.{value}
+use Rattle.channels.specs.Places.{place}
+use Rattle.pools.specs.Pool.{State, Press, outcome_and_state}
 use Rattle.pools.specs.PoolInternal.{release_rule}
-use Rattle.pools.specs.View.{view, StateMeets}
+use Rattle.pools.specs.View.{view}
 use Rattle.pools.proofs.Pools.Presses.{unless_held_refused, unless_held_value, reply_value, reply_refused}
 use Rattle.pools.proofs.Models.Views.{moves_state}
 use Rattle.pools.proofs.jit.JitTuningModel.press.Goals as goal

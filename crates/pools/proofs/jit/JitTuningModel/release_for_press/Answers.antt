@@ -3,8 +3,8 @@ use Rattle.std.proofs.Common.{◌≡◌, ℕ, refl, sym, ap, ◌∙◌}
 use Rattle.std.proofs.Math.Option.{some}
 use Rattle.arithmetic.specs.Outcome.{value}
 use Rattle.channels.specs.Places.{Place, place}
-use Rattle.pools.specs.Pool.{State, found, freed, without_key, outcome_and_state}
-use Rattle.pools.specs.PoolInternal.{held_place, held_by, release_rule}
+use Rattle.pools.specs.Pool.{found, freed, without_key, outcome_and_state}
+use Rattle.pools.specs.PoolInternal.{held_place, held_by}
 use Rattle.pools.specs.View.{view, state_with}
 use Rattle.pools.proofs.Pools.Releases.{held_at_is, held_at_none}
 use Rattle.pools.proofs.Pools.Presses.{release_rule_new, release_rule_off, release_rule_on}

@@ -1,6 +1,6 @@
 -- `JitTuner::note_on` meets its contract: by the model's answer it is refused, rejected, or ends as the writing of its messages does, and only where they were
 -- written the model changes.
-use Rattle.std.proofs.Common.{◌≡◌, ℕ, ◌<◌, refl, sym, ap, subst, ◌∙◌, rules, to_z, of_z, w32, true, Some, None}
+use Rattle.std.proofs.Common.{◌≡◌, ◌<◌, refl, sym, ap, subst, ◌∙◌, rules, to_z, of_z, w32, true, Some, None}
 use Rattle.std.specs.Prelude.{Option as Optional, IfSome}
 use Rattle.std.specs.Float.Ieee.Positive.{positive}
 use Rattle.std.proofs.lemmas.Result.{err_from_is_err_and}
