@@ -20,7 +20,7 @@ use capi::message::Message;
 use channels::list::ChannelList;
 use channels::tuning_value::TuningKind;
 use plan_tuner::aot::AotTuner;
-use plans::aot::{AotTuningModel, GroupBy};
+use plans::aot::GroupBy;
 use plans::lists::{NoteLists, PitchLists};
 use senders::midi::ChannelMessageType;
 

@@ -230,7 +230,7 @@ fn group_up_to(raw: u16, by: GroupBy, channel: u16) -> Option<i32>
     Some(group_of(by, place.note))
 }
 
-// The bits of detunings. (A loop by number, since an array's `map` takes ten times as long.)
+// The bits of detunings. (A loop by number: with an array's `map` a plan of one key took twice as long.)
 fn all_bits(detunings: &[f64; KEYS]) -> [u64; KEYS]
     ensures { floats result ≡ detunings.now }
 {
