@@ -126,9 +126,8 @@ impl AotTuningModel {
             self.reset(channels, by);
             return Ok(Planned::Untuned(count));
         }
-        let detunings = all_bits(&keys.detunings);
         self.records = keys.records;
-        self.detunings = detunings;
+        put_bits(&keys.detunings, &mut self.detunings);
         self.num_channels = count;
         self.tuned = 1;
         Ok(Planned::Tuned(count))
@@ -230,15 +229,13 @@ fn group_up_to(raw: u16, by: GroupBy, channel: u16) -> Option<i32>
     Some(group_of(by, place.note))
 }
 
-// The bits of detunings. (A loop by number: with an array's `map` a plan of one key took twice as long.)
-fn all_bits(detunings: &[f64; KEYS]) -> [u64; KEYS]
-    ensures { floats result ≡ detunings.now }
+// The bits of detunings are put where they lie. (A loop by number: with an array's `map` a plan of one key took twice as long.)
+fn put_bits(detunings: &[f64; KEYS], bits: &mut [u64; KEYS])
+    ensures { floats bits.new ≡ detunings.now }
 {
-    let mut bits = [0; KEYS];
     for i in 0..KEYS {
         bits[i] = bits_of(detunings[i]);
     }
-    bits
 }
 
 fn bits_of(detuning: f64) -> u64

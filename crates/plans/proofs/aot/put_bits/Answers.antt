@@ -1,10 +1,10 @@
--- `all_bits` meets its contract: a turn adds the bits of one more detuning.
+-- `put_bits` meets its contract: a turn adds the bits of one more detuning.
 use Rattle.std.proofs.Common.{◌≡◌, ◌+◌, [], ◌∷◌, ◌++◌, get_or, take, set, ap, sym, ◌∙◌, add-one, arith}
 use Rattle.std.proofs.Math.Seq.{take-suc-set}
 use Rattle.std.proofs.lemmas.List.{map-append, take_more, take_all, length-set}
 use lib.Ieee.{nan, binary64, of_bits}
 use Rattle.plans.specs.PlanNumbers.{floats}
-use Rattle.plans.proofs.aot.all_bits.Goals as goal
+use Rattle.plans.proofs.aot.put_bits.Goals as goal
 
 pub loop-i-preserved : goal.loop-i-preserved
 loop-i-preserved c =

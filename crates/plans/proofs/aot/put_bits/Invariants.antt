@@ -1,7 +1,7 @@
--- `all_bits` meets its contract: the bits so far are those of the detunings so far.
+-- `put_bits` meets its contract: the bits so far are those of the detunings so far.
 use Rattle.std.proofs.Common.{◌≡◌, length, take}
 use Rattle.plans.specs.PlanNumbers.{floats}
-use Rattle.plans.proofs.aot.all_bits.Given as goal
+use Rattle.plans.proofs.aot.put_bits.Given as goal
 
 abbrev pub invariant-loop-i : goal.invariant-loop-i
 invariant-loop-i l = record {
